@@ -1,0 +1,40 @@
+-- What files in memory hold, and which of their calls fail.
+use Rattle.std.specs.Prelude.{ℕ, Bool, List, [], ◌∷◌, ◌++◌, String, Vec, string_bytes, nat_eq, find, reverse, map, option_map, Contains, ◌≡◌}
+use Rattle.std.specs.Global.{Global}
+use Rattle.std.specs.Cmp.Lexicographic.{pointwise}
+use Rattle.htt_base.specs.Outside.{Held}
+use Rattle.htt_base.specs.declared.mem_files.MemFiles.{MemFiles}
+
+-- a name with its bytes
+abbrev pub Entry : Type 0
+Entry = String Global × Vec ℕ Global
+
+abbrev pub is_named : List ℕ → Entry → Bool
+is_named name entry = pointwise nat_eq (string_bytes entry.0) name
+
+-- what the entries hold: of several with one name the last counts
+abbrev pub held_in : List Entry → Held
+held_in entries name = option_map (λ entry. entry.1.items) (find (is_named name) (reverse entries))
+
+abbrev pub held_by : MemFiles → Held
+held_by f = held_in f.entries.items
+
+-- the names that were read, in the order of the reads
+abbrev pub names_read : MemFiles → List (List ℕ)
+names_read f = map string_bytes f.reads.items
+
+-- the number of the next call, counted from 0 over all calls
+abbrev pub next_call : MemFiles → ℕ
+next_call f = f.calls
+
+-- the numbers of the calls that fail
+abbrev pub failing_calls : MemFiles → List ℕ
+failing_calls f = f.failing.items
+
+-- the next call is one of those that fail
+abbrev pub FailsNext : MemFiles → Type 0
+FailsNext f = Contains (failing_calls f) (next_call f)
+
+-- one entry more, with this name and these bytes
+abbrev pub Appends : List Entry → List Entry → List ℕ → List ℕ → Type 0
+Appends old new name bytes = (entry : Entry) × (new ≡ old ++ entry ∷ []) × (string_bytes entry.0 ≡ name) × (entry.1.items ≡ bytes)

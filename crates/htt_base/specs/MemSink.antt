@@ -1,0 +1,18 @@
+-- What a sink in memory has taken, and which of its calls fail.
+use Rattle.std.specs.Prelude.{ℕ, List, Contains}
+use Rattle.htt_base.specs.declared.mem_sink.MemSink.{MemSink}
+
+abbrev pub bytes_put : MemSink → List ℕ
+bytes_put s = s.bytes.items
+
+-- the number of the next call, counted from 0
+abbrev pub next_put : MemSink → ℕ
+next_put s = s.calls
+
+-- the numbers of the calls that fail
+abbrev pub failing_puts : MemSink → List ℕ
+failing_puts s = s.failing.items
+
+-- the next call is one of those that fail
+abbrev pub FailsNext : MemSink → Type 0
+FailsNext s = Contains (failing_puts s) (next_put s)

@@ -1,0 +1,70 @@
+//! A sink in memory, for tests: its calls fail by their numbers.
+
+ghost use Rattle.std.specs.Prelude.{◌≡◌, ◌+◌, ◌↔◌, [], Some, IsErrOf, IsTrue, OnErr, Contains, length};
+ghost use Rattle.htt_base.specs.Outside.{PutGives, CountsPut, one_more, put_faults_after};
+ghost use Rattle.htt_base.specs.MemSink.{bytes_put, next_put, failing_puts, FailsNext};
+
+use crate::outside::{PutStop, Sink};
+use std::alloc::Global;
+
+/// A sink that keeps all that is put into it. The call with number k, counted from 0, fails where
+/// k is one of the failing numbers. The count of calls stays at 2^64-1, so that all calls from
+/// there on have this number.
+#[derive(Drop)]
+pub struct MemSink {
+    bytes: Vec<u8>,
+    failing: Vec<u64>,
+    calls: u64,
+    faults: u64,
+}
+
+impl MemSink {
+    /// An empty sink whose calls with these numbers fail.
+    pub fn new(alloc: Global, failing: Vec<u64>) -> MemSink
+        ensures written { ⟦<MemSink as Sink>⟧.written result ≡ Some [] }
+        ensures faults { ⟦<MemSink as Sink>⟧.faults result ≡ 0 }
+        ensures failing { failing_puts result ≡ failing.items }
+        ensures next { next_put result ≡ 0 }
+    {
+        MemSink {
+            bytes: Vec::new(alloc),
+            failing,
+            calls: 0,
+            faults: 0,
+        }
+    }
+
+    /// All bytes that were put.
+    pub fn bytes(&self) -> &[u8]
+        ensures { Some result.now ≡ ⟦<MemSink as Sink>⟧.written self.now }
+    {
+        &self.bytes
+    }
+}
+
+impl Sink for MemSink {
+    ghost written = { λ s. Some (bytes_put s) };
+
+    ghost faults = { λ s. s.faults };
+
+    fn put(&mut self, _alloc: Global, bytes: &[u8]) -> Result<(), PutStop>
+        ensures gives { PutGives (Some (bytes_put self.old)) (Some (bytes_put self.new)) bytes.now result }
+        ensures failed { IsErrOf result PutStop.Failed ↔ FailsNext self.old }
+        ensures unchanged { OnErr result (bytes_put self.new ≡ bytes_put self.old) }
+        ensures counts { CountsPut (⟦<MemSink as Sink>⟧.faults self.old) (⟦<MemSink as Sink>⟧.faults self.new) result }
+        ensures faults { ⟦<MemSink as Sink>⟧.faults self.new ≡ put_faults_after (⟦<MemSink as Sink>⟧.faults self.old) result }
+        ensures next { next_put self.new ≡ one_more (next_put self.old) }
+        ensures failing { failing_puts self.new ≡ failing_puts self.old }
+    {
+        let call = self.calls;
+        self.calls = call.saturating_add(1);
+        if self.failing.contains(&call) {
+            self.faults = self.faults.saturating_add(1);
+            return Err(PutStop::Failed);
+        }
+        match self.bytes.extend_from_slice(bytes) {
+            Ok(()) => Ok(()),
+            Err(_) => Err(PutStop::NoMemory),
+        }
+    }
+}

@@ -1,0 +1,62 @@
+//! Standard output of the runtime, as a sink that tells nothing of its content.
+
+ghost use Rattle.std.specs.Prelude.{◌≡◌, None};
+ghost use Rattle.htt_base.specs.Outside.{PutGives, CountsPut, put_faults_after};
+
+use crate::outside::{PutStop, Sink};
+use std::alloc::Global;
+use std::io;
+use std::io::Write;
+use std::rt::Runtime;
+
+/// Standard output, with the count of its failures.
+#[derive(Drop)]
+pub struct RealSink<R: Runtime> {
+    rt: R,
+    faults: u64,
+}
+
+impl<R: Runtime> RealSink<R> {
+    /// Standard output of this runtime, with no failure so far.
+    pub fn new(rt: R) -> RealSink<R>
+        ensures written { ⟦<RealSink<R> as Sink>⟧.written result ≡ None }
+        ensures faults { ⟦<RealSink<R> as Sink>⟧.faults result ≡ 0 }
+    {
+        RealSink { rt, faults: 0 }
+    }
+}
+
+/// Whether the writer took all the bytes. One that takes nothing of a non-empty piece fails.
+pub(crate) fn write_whole<W: Write>(writer: &mut W, bytes: &[u8]) -> bool {
+    let mut at = 0;
+    for _ in 0..bytes.len() {
+        if at >= bytes.len() {
+            return true;
+        }
+        match writer.write(&bytes[at..]) {
+            Ok(0) => return false,
+            Ok(count) => at += count,
+            Err(_) => return false,
+        }
+    }
+    at >= bytes.len()
+}
+
+impl<R: Runtime> Sink for RealSink<R> {
+    ghost written = { λ _. None };
+
+    ghost faults = { λ s. s.faults };
+
+    fn put(&mut self, _alloc: Global, bytes: &[u8]) -> Result<(), PutStop>
+        ensures gives { PutGives (⟦<RealSink<R> as Sink>⟧.written self.old) (⟦<RealSink<R> as Sink>⟧.written self.new) bytes.now result }
+        ensures counts { CountsPut (⟦<RealSink<R> as Sink>⟧.faults self.old) (⟦<RealSink<R> as Sink>⟧.faults self.new) result }
+        ensures faults { ⟦<RealSink<R> as Sink>⟧.faults self.new ≡ put_faults_after (⟦<RealSink<R> as Sink>⟧.faults self.old) result }
+    {
+        let mut writer = io::writer(&self.rt);
+        if write_whole(&mut writer, bytes) {
+            return Ok(());
+        }
+        self.faults = self.faults.saturating_add(1);
+        Err(PutStop::Failed)
+    }
+}
