@@ -182,3 +182,43 @@ impl Files for MemFiles {
         }
     }
 }
+
+#[cfg(test)]
+mod tests {
+    use super::*;
+    use std::test::Fail;
+
+    fn two_entries(alloc: Global) -> Result<Vec<(String, Vec<u8>)>, AllocError> {
+        let mut entries = Vec::new(alloc);
+        entries.push(entry_of(alloc, "a", b"old")?)?;
+        entries.push(entry_of(alloc, "a", b"newer")?)?;
+        Ok(entries)
+    }
+
+    #[test]
+    fn what_was_written_last_is_read(rt: HostRuntime) -> Result<(), Fail> {
+        let alloc = rt.alloc();
+        let mut files = MemFiles::new(alloc, two_entries(alloc)?, Vec::new(alloc));
+        assert_eq!(rt; files.read(alloc, "a", 5)?.as_slice(), b"newer".as_slice());
+        assert_eq!(rt; files.read(alloc, "a", 4).err(), Some(ReadStop::TooLong));
+        assert_eq!(rt; files.read(alloc, "b", 4).err(), Some(ReadStop::Failed));
+        files.write(alloc, "b", b"x")?;
+        assert_eq!(rt; files.read(alloc, "b", 4)?.as_slice(), b"x".as_slice());
+        assert_eq!(rt; files.file("c"), None);
+        Ok(())
+    }
+
+    #[test]
+    fn reads_and_writes_are_counted_together(rt: HostRuntime) -> Result<(), Fail> {
+        let alloc = rt.alloc();
+        let mut files = MemFiles::new(alloc, two_entries(alloc)?, vec![in alloc; 1, 2]?);
+        assert_eq!(rt; files.read(alloc, "a", 5)?.len(), 5);
+        assert_eq!(rt;
+            files.write(alloc, "a", b"x").err(),
+            Some(WriteStop::Failed)
+        );
+        assert_eq!(rt; files.read(alloc, "a", 5).err(), Some(ReadStop::Failed));
+        assert_eq!(rt; files.file("a"), Some(b"newer".as_slice()));
+        Ok(())
+    }
+}

@@ -68,3 +68,20 @@ impl Sink for MemSink {
         }
     }
 }
+
+#[cfg(test)]
+mod tests {
+    use super::*;
+    use std::test::Fail;
+
+    #[test]
+    fn puts_are_appended_but_for_the_failing_one(rt: HostRuntime) -> Result<(), Fail> {
+        let alloc = rt.alloc();
+        let mut sink = MemSink::new(alloc, vec![in alloc; 1]?);
+        assert_eq!(rt; sink.put(alloc, b"one"), Ok(()));
+        assert_eq!(rt; sink.put(alloc, b"two"), Err(PutStop::Failed));
+        assert_eq!(rt; sink.put(alloc, b"three"), Ok(()));
+        assert_eq!(rt; sink.bytes(), b"onethree".as_slice());
+        Ok(())
+    }
+}

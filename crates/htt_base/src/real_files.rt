@@ -77,7 +77,12 @@ impl<R: Runtime> Files for RealFiles<R> {
 
     ghost write_faults = { λ f. f.write_faults };
 
-    fn read(&mut self, alloc: Global, name: &str, max: u64) -> Result<Vec<u8>, ReadStop> {
+    fn read(&mut self, alloc: Global, name: &str, max: u64) -> Result<Vec<u8>, ReadStop>
+        ensures within { IfOk result (λ v. length v.items ≤ max) }
+        ensures counts { CountsRead (⟦<RealFiles<R> as Files>⟧.read_faults self.old) (⟦<RealFiles<R> as Files>⟧.read_faults self.new) result }
+        ensures read_faults { ⟦<RealFiles<R> as Files>⟧.read_faults self.new ≡ read_faults_after (⟦<RealFiles<R> as Files>⟧.read_faults self.old) result }
+        ensures write_faults { ⟦<RealFiles<R> as Files>⟧.write_faults self.new ≡ ⟦<RealFiles<R> as Files>⟧.write_faults self.old }
+    {
         let result = match fs::open(&self.rt, name) {
             Ok(mut file) => read_up_to(&mut file, alloc, max),
             Err(_) => Err(ReadStop::Failed),
@@ -88,7 +93,11 @@ impl<R: Runtime> Files for RealFiles<R> {
         result
     }
 
-    fn write(&mut self, _alloc: Global, name: &str, bytes: &[u8]) -> Result<(), WriteStop> {
+    fn write(&mut self, _alloc: Global, name: &str, bytes: &[u8]) -> Result<(), WriteStop>
+        ensures counts { CountsWrite (⟦<RealFiles<R> as Files>⟧.write_faults self.old) (⟦<RealFiles<R> as Files>⟧.write_faults self.new) result }
+        ensures write_faults { ⟦<RealFiles<R> as Files>⟧.write_faults self.new ≡ write_faults_after (⟦<RealFiles<R> as Files>⟧.write_faults self.old) result }
+        ensures read_faults { ⟦<RealFiles<R> as Files>⟧.read_faults self.new ≡ ⟦<RealFiles<R> as Files>⟧.read_faults self.old }
+    {
         let done = match fs::create(&self.rt, name) {
             Ok(mut file) => write_whole(&mut file, bytes),
             Err(_) => false,
@@ -98,5 +107,35 @@ impl<R: Runtime> Files for RealFiles<R> {
         }
         self.write_faults = self.write_faults.saturating_add(1);
         Err(WriteStop::Failed)
+    }
+}
+
+#[cfg(test)]
+mod tests {
+    use super::*;
+    use std::test::Fail;
+
+    #[test]
+    fn a_written_file_is_read_back(rt: HostRuntime) -> Result<(), Fail> {
+        let alloc = rt.alloc();
+        let mut files = RealFiles::new(rt.clone()?);
+        files.write(alloc, "written.txt", b"one two")?;
+        let bytes = files.read(alloc, "written.txt", 7)?;
+        assert_eq!(rt; bytes.as_slice(), b"one two".as_slice());
+        assert_eq!(rt;
+            files.read(alloc, "written.txt", 6).err(),
+            Some(ReadStop::TooLong)
+        );
+        assert_eq!(rt; files.read_faults, 0);
+        assert_eq!(rt;
+            files.read(alloc, "missing.txt", 7).err(),
+            Some(ReadStop::Failed)
+        );
+        assert_eq!(rt; files.read_faults, 1);
+        let no_folder = files.write(alloc, "missing/file.txt", b"one");
+        assert_eq!(rt; no_folder.err(), Some(WriteStop::Failed));
+        assert_eq!(rt; files.write_faults, 1);
+        fs::remove_file(&rt, "written.txt")?;
+        Ok(())
     }
 }

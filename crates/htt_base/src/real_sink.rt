@@ -60,3 +60,17 @@ impl<R: Runtime> Sink for RealSink<R> {
         Err(PutStop::Failed)
     }
 }
+
+#[cfg(test)]
+mod tests {
+    use super::*;
+    use std::test::Fail;
+
+    #[test]
+    fn a_put_is_written(rt: HostRuntime) -> Result<(), Fail> {
+        let mut sink = RealSink::new(rt.clone()?);
+        assert_eq!(rt; sink.put(rt.alloc(), b"put\n"), Ok(()));
+        assert_eq!(rt; sink.faults, 0);
+        Ok(())
+    }
+}
