@@ -1,6 +1,7 @@
 //! The trees of the language, and the words in which its refusals are told.
 #![tactic(auto)]
 
+pub mod build;
 mod mono;
 mod proof;
 mod sequent;
