@@ -1,6 +1,15 @@
 //! The trees of the language, and the words in which its refusals are told.
 #![tactic(auto)]
 
+pub mod build;
+mod mono;
+mod proof;
+mod sequent;
+mod tree;
 mod words;
 
+pub use mono::{Mono, Op};
+pub use proof::{Arg, Proof, Stmt};
+pub use sequent::{Entry, Env, RecPred, Sequent};
+pub use tree::{Comp, Fix, Formula, Step, Term, Triple, Ty};
 pub use words::{Bound, Kind, Rule, SyntaxKind, Which, Why};

@@ -1,0 +1,5 @@
+pub mod Trees
+pub mod Views
+pub mod ProofViews
+pub mod Levels
+pub mod ProofLevels
