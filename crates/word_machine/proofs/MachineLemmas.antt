@@ -7,7 +7,7 @@ use Rattle.word_machine.specs.declared.code.Function.{Function}
 use Rattle.word_machine.specs.declared.code.Instr.{Instr}
 use Rattle.word_machine.specs.declared.code.Instr.TheVariants.{Const}
 use Rattle.word_machine.specs.Code.{IsReturn, EndsInReturn, HasNoParams}
-use Rattle.word_machine.specs.Machine.{AtHalt, effect, fetched, next_state, run_of, entered, machine_after}
+use Rattle.word_machine.specs.Machine.{AtHalt, effect, fetched, next_state, run_of, run_of_first, machine_after}
 use Rattle.word_machine.specs.Laws.{HaltIsFinal}
 
 -- one step more
@@ -21,12 +21,12 @@ unfolding run_of
 run_of-more f n zero words h = rw add-zero h
 run_of-more f n (suc more) words h = rw (add-suc, run_of-more f n more words h) refl
 
-entered-more : (main : Option Function) (n more : ℕ) (words : List ℕ) → entered main n ≡ AtHalt words → entered main (n + more) ≡ AtHalt words
-entered-more None n more words h = cc
-entered-more (Some main) n more words h = run_of-more main n more words h
+run_of_first-more : (main : Option Function) (n more : ℕ) (words : List ℕ) → run_of_first main n ≡ AtHalt words → run_of_first main (n + more) ≡ AtHalt words
+run_of_first-more None n more words h = cc
+run_of_first-more (Some main) n more words h = run_of-more main n more words h
 
 pub halt_is_final_lem : HaltIsFinal
-halt_is_final_lem code n more words h = entered-more (slice_get code.functions 0) n more words h
+halt_is_final_lem code n more words h = run_of_first-more (slice_get code.functions 0) n more words h
 
 -- where main has halted, the machine has, also with more steps
 pub machine_after-halt : (code : Code) (main : Function) (n steps : ℕ) (words : List ℕ) → slice_get code.functions 0 ≡ Some main → run_of main n ≡ AtHalt words → n ≤ steps → machine_after code steps ≡ AtHalt words

@@ -1,13 +1,12 @@
 -- The states of the machine, its step, and where it stands after a number of steps. Its one frame
 -- is that of the first function, since no instruction makes another.
-use Rattle.std.specs.Prelude.{ℕ, zero, suc, ◌≡◌, ◌+◌, ◌<◌, List, [], length, replicate, Option, Some, None, slice_get, slice_set, slice_range}
+use Rattle.std.specs.Prelude.{ℕ, zero, suc, ◌+◌, List, [], replicate, Option, Some, None, slice_get, slice_set, slice_range}
 use Rattle.htt_syntax.specs.declared.words.Bound.TheVariants.{Step}
 use Rattle.word_machine.specs.declared.code.Code.{Code}
 use Rattle.word_machine.specs.declared.code.Function.{Function}
 use Rattle.word_machine.specs.declared.code.Instr.{Instr}
 use Rattle.word_machine.specs.declared.code.Instr.TheVariants.{Const, Ret}
 use Rattle.word_machine.specs.declared.machine.End.{End}
-use Rattle.word_machine.specs.declared.machine.Frame.{Frame}
 use Rattle.word_machine.specs.declared.machine.End.TheVariants.{Halted, Stopped}
 
 -- before the instruction at this place, with these locals; or halted with these words
@@ -35,25 +34,16 @@ unfoldable pub run_of : Function → ℕ → State
 run_of f zero = Going 0 (replicate f.locals 0)
 run_of f (suc n) = next_state f (run_of f n)
 
-abbrev pub entered : Option Function → ℕ → State
-entered None n = Going 0 []
-entered (Some main) n = run_of main n
+-- that of the first function, if there is one
+abbrev pub run_of_first : Option Function → ℕ → State
+run_of_first None n = Going 0 []
+run_of_first (Some main) n = run_of main n
 
 -- the machine after n steps
 abbrev pub machine_after : Code → ℕ → State
-machine_after code n = entered (slice_get code.functions 0) n
+machine_after code n = run_of_first (slice_get code.functions 0) n
 
 -- how a run of at most this many steps ends
 abbrev pub end_of : ℕ → State → End
 end_of steps (Going at locals) = Stopped Step steps
 end_of steps (AtHalt words) = Halted words
-
--- the state that a frame stands for, or the words with which it halted
-abbrev pub shown : Frame → Option (List ℕ) → State
-shown frame None = Going frame.at frame.locals.items
-shown frame (Some words) = AtHalt words
-
--- the frame stands before an instruction of this function, with all its locals
-pub record StandsIn (f : Function) (frame : Frame) : Type 0 where
-  pub place : frame.at < length f.body
-  pub locals : length frame.locals.items ≡ f.locals

@@ -4,7 +4,8 @@
 
 ghost use Rattle.std.specs.Prelude.{◌≡◌, ◌+◌, ◌≤◌, None, IfOk, IfNone, length, replicate, slice_range};
 ghost use Rattle.word_machine.specs.Code.{IsValid, IsValidFunction};
-ghost use Rattle.word_machine.specs.Machine.{shown, next_state, run_of, machine_after, end_of, StandsIn};
+ghost use Rattle.word_machine.specs.Frame.{shown, StandsIn};
+ghost use Rattle.word_machine.specs.Machine.{next_state, run_of, machine_after, end_of};
 
 use crate::code::{Code, Function, Instr};
 use htt_seq::Seq;
@@ -91,3 +92,6 @@ fn words_at(
 {
     Ok(Seq::of(locals[place..place + count].to_vec(alloc)?))
 }
+
+#[cfg(test)]
+mod tests;

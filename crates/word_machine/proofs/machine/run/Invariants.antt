@@ -1,5 +1,6 @@
 use Rattle.std.proofs.Common.{◌≡◌, None}
-use Rattle.word_machine.specs.Machine.{shown, run_of, StandsIn}
+use Rattle.word_machine.specs.Frame.{shown, StandsIn}
+use Rattle.word_machine.specs.Machine.{run_of}
 use Rattle.word_machine.proofs.machine.run.Given as goal
 
 abbrev pub invariant-loop : goal.invariant-loop
