@@ -1,0 +1,4 @@
+pub mod Code
+pub mod Frame
+pub mod Laws
+pub mod Machine
