@@ -50,6 +50,11 @@ pub record IsText (bytes : List ℕ) (form : Form) : Type 0 where
   pub front : map (λ token. token.kind) before ≡ before_second form
   pub back : map (λ token. token.kind) after ≡ ending
 
+-- a text is refused as one that has no tokens only where it has none
+abbrev pub HasNoTokens : List ℕ → FormStop → Type 0
+HasNoTokens bytes (NotForm at kind) = (tokens : List Token) → Reads 0 bytes tokens → ⊥
+HasNoTokens bytes NoMemory = Unit {0}
+
 -- a text is refused as one that hasn't the form only where it hasn't
 abbrev pub Refuses : List ℕ → FormStop → Type 0
 Refuses bytes (NotForm at kind) = (form : Form) → IsText bytes form → ⊥

@@ -69,19 +69,24 @@ pub record IsLongest (goes_on : ℕ → Bool) (run rest : List ℕ) : Type 0 whe
   pub passes : list_all goes_on run ≡ true
   pub stops : Stops goes_on rest
 
--- what separates tokens, before this rest
+-- the bytes of what separates tokens: a blank, or a comment with its end before this rest
 pub data IsGap : List ℕ → List ℕ → Type 0 where
-  blank : (b : ℕ) (rest : List ℕ) → is_blank b ≡ true → IsGap (b ∷ []) rest
-  comment : (run rest : List ℕ) → IsLongest is_comment run rest → IsGap (45 ∷ 45 ∷ run) rest
+  blank : {b : ℕ} {rest : List ℕ} → is_blank b ≡ true → IsGap (b ∷ []) rest
+  comment : {run rest : List ℕ} → IsLongest is_comment run rest → IsGap (byte "-" ∷ byte "-" ∷ run) rest
 
--- the bytes of a token, before this rest
+-- the bytes of a token of this kind, with its end before this rest
 pub data IsToken : List ℕ → List ℕ → Kind → Type 0 where
-  name : (b : ℕ) (run rest : List ℕ) → is_letter b ≡ true → IsLongest is_name run rest → IsToken (b ∷ run) rest (kinds.Name (name_of (b ∷ run)))
-  number : (b : ℕ) (run rest : List ℕ) → is_ascii_digit b ≡ true → IsLongest is_ascii_digit run rest → digits_value 10 (b ∷ run) < 2 ^ 64 → IsToken (b ∷ run) rest (kinds.Number (digits_value 10 (b ∷ run)))
-  sign : (b : ℕ) (s : Sign) (rest : List ℕ) → sign_of b ≡ Some s → IsToken (b ∷ []) rest (kinds.Sign s)
+  name : {b : ℕ} {run rest : List ℕ} → is_letter b ≡ true → IsLongest is_name run rest →
+    IsToken (b ∷ run) rest (kinds.Name (name_of (b ∷ run)))
+  number : {b : ℕ} {run rest : List ℕ} → is_ascii_digit b ≡ true → IsLongest is_ascii_digit run rest →
+    digits_value 10 (b ∷ run) < 2 ^ 64 → IsToken (b ∷ run) rest (kinds.Number (digits_value 10 (b ∷ run)))
+  sign : {b : ℕ} {s : Sign} {rest : List ℕ} → sign_of b ≡ Some s → IsToken (b ∷ []) rest (kinds.Sign s)
 
 -- the tokens of a text whose first byte stands at a place
 pub data Reads : ℕ → List ℕ → List Token → Type 0 where
-  ends : (at : ℕ) → Reads at [] []
-  gap : (at : ℕ) (text piece rest : List ℕ) (tokens : List Token) → text ≡ piece ++ rest → IsGap piece rest → Reads (at + length piece) rest tokens → Reads at text tokens
-  token : (at : ℕ) (text piece rest : List ℕ) (kind : Kind) (tokens : List Token) → text ≡ piece ++ rest → IsToken piece rest kind → Reads (at + length piece) rest tokens → Reads at text (record { kind = kind; place = at } ∷ tokens)
+  ends : {at : ℕ} → Reads at [] []
+  gap : {at : ℕ} {piece rest : List ℕ} {tokens : List Token} →
+    IsGap piece rest → Reads (at + length piece) rest tokens → Reads at (piece ++ rest) tokens
+  token : {at : ℕ} {piece rest : List ℕ} {kind : Kind} {tokens : List Token} →
+    IsToken piece rest kind → Reads (at + length piece) rest tokens →
+    Reads at (piece ++ rest) (record { kind = kind; place = at } ∷ tokens)
