@@ -52,10 +52,10 @@ longest_run : (p : ℕ → Bool) (text : List ℕ) → IsLongest p (take (prefix
 longest_run p [] = record { passes = refl; stops = tt }
 longest_run p (b ∷ text) =
     by_cond (λ n. IsLongest p (take n (b ∷ text)) (drop n (b ∷ text))) (p b) (1 + prefix_len p text) 0
-      (λ passes. let rest = longest_run p text in
-        let e : suc (prefix_len p text) ≡ 1 + prefix_len p text = omega arith in
-        subst (λ n. IsLongest p (take n (b ∷ text)) (drop n (b ∷ text))) e (record { passes = rw passes rest.passes; stops = rest.stops }))
-      (λ stops. record { passes = refl; stops = stops })
+    (λ passes. let rest = longest_run p text in
+    let e : suc (prefix_len p text) ≡ 1 + prefix_len p text = omega arith in
+    subst (λ n. IsLongest p (take n (b ∷ text)) (drop n (b ∷ text))) e (record { passes = rw passes rest.passes; stops = rest.stops }))
+    (λ stops. record { passes = refl; stops = stops })
 
 -- ---- numbers
 
@@ -191,13 +191,13 @@ number_cut : (b : ℕ) (bytes : List ℕ) → is_ascii_digit b ≡ true → Cuts
 number_cut b bytes h =
     let n : suc (prefix_len is_ascii_digit bytes) ≡ prefix_len is_ascii_digit (b ∷ bytes) = rw h (omega arith) in
     subst (λ m. Cuts (b ∷ bytes) (piece_of_number (number_of (take m (b ∷ bytes))) m)) n
-      (by_cond (λ o. Cuts (b ∷ bytes) (piece_of_number o (suc (prefix_len is_ascii_digit bytes)))) (nat_lt (digits_value 10 (b ∷ take (prefix_len is_ascii_digit bytes) bytes)) (2 ^ 64)) _ _
-        (λ fits. record {
-          some = omega arith;
-          within = omega (arith, prefix_len-le-length is_ascii_digit bytes);
-          is = number h (longest_run is_ascii_digit bytes) (below _ fits);
-        })
-        (λ _. tt))
+    (by_cond (λ o. Cuts (b ∷ bytes) (piece_of_number o (suc (prefix_len is_ascii_digit bytes)))) (nat_lt (digits_value 10 (b ∷ take (prefix_len is_ascii_digit bytes) bytes)) (2 ^ 64)) _ _
+    (λ fits. record {
+      some = omega arith;
+      within = omega (arith, prefix_len-le-length is_ascii_digit bytes);
+      is = number h (longest_run is_ascii_digit bytes) (below _ fits);
+    })
+    (λ _. tt))
 
 sign_cut : (b : ℕ) (bytes : List ℕ) (o : Option Sign) → sign_of b ≡ o → Cuts (b ∷ bytes) (sign_piece o)
 sign_cut b bytes None h = tt

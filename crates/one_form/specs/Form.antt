@@ -41,14 +41,20 @@ abbrev pub before_second : Form → List Kind
 before_second form =
     opening ++ Number form.claimed ∷ [] ++ body ++ Number form.left ∷ [] ++ addend form.right ++ proof
 
+-- the tokens are those of the form, which says this
+pub record IsForm (tokens : List Token) (form : Form) : Type 0 where
+  pub before : List Token
+  pub after : List Token
+  pub whole : tokens ≡ before ++ record { kind = Name names.Second; place = form.place } ∷ after
+  pub front : map (λ token. token.kind) before ≡ before_second form
+  pub back : map (λ token. token.kind) after ≡ ending
+
 -- the bytes are a text of the form, which says this
 pub record IsText (bytes : List ℕ) (form : Form) : Type 0 where
   pub utf8 : IsUtf8 bytes
-  pub before : List Token
-  pub after : List Token
-  pub reads : Reads 0 bytes (before ++ record { kind = Name names.Second; place = form.place } ∷ after)
-  pub front : map (λ token. token.kind) before ≡ before_second form
-  pub back : map (λ token. token.kind) after ≡ ending
+  pub tokens : List Token
+  pub reads : Reads 0 bytes tokens
+  pub is : IsForm tokens form
 
 -- a text is refused as one that has no tokens only where it has none
 abbrev pub HasNoTokens : List ℕ → FormStop → Type 0
@@ -59,3 +65,7 @@ HasNoTokens bytes NoMemory = Unit {0}
 abbrev pub Refuses : List ℕ → FormStop → Type 0
 Refuses bytes (NotForm at kind) = (form : Form) → IsText bytes form → ⊥
 Refuses bytes NoMemory = Unit {0}
+
+-- a text says one thing at most
+abbrev pub OneForm : Type 0
+OneForm = (bytes : List ℕ) (form other : Form) → IsText bytes form → IsText bytes other → form ≡ other

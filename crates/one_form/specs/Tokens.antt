@@ -77,16 +77,20 @@ pub data IsGap : List ℕ → List ℕ → Type 0 where
 -- the bytes of a token of this kind, with its end before this rest
 pub data IsToken : List ℕ → List ℕ → Kind → Type 0 where
   name : {b : ℕ} {run rest : List ℕ} → is_letter b ≡ true → IsLongest is_name run rest →
-    IsToken (b ∷ run) rest (kinds.Name (name_of (b ∷ run)))
+      IsToken (b ∷ run) rest (kinds.Name (name_of (b ∷ run)))
   number : {b : ℕ} {run rest : List ℕ} → is_ascii_digit b ≡ true → IsLongest is_ascii_digit run rest →
-    digits_value 10 (b ∷ run) < 2 ^ 64 → IsToken (b ∷ run) rest (kinds.Number (digits_value 10 (b ∷ run)))
+      digits_value 10 (b ∷ run) < 2 ^ 64 → IsToken (b ∷ run) rest (kinds.Number (digits_value 10 (b ∷ run)))
   sign : {b : ℕ} {s : Sign} {rest : List ℕ} → sign_of b ≡ Some s → IsToken (b ∷ []) rest (kinds.Sign s)
 
 -- the tokens of a text whose first byte stands at a place
 pub data Reads : ℕ → List ℕ → List Token → Type 0 where
   ends : {at : ℕ} → Reads at [] []
   gap : {at : ℕ} {piece rest : List ℕ} {tokens : List Token} →
-    IsGap piece rest → Reads (at + length piece) rest tokens → Reads at (piece ++ rest) tokens
+      IsGap piece rest → Reads (at + length piece) rest tokens → Reads at (piece ++ rest) tokens
   token : {at : ℕ} {piece rest : List ℕ} {kind : Kind} {tokens : List Token} →
-    IsToken piece rest kind → Reads (at + length piece) rest tokens →
-    Reads at (piece ++ rest) (record { kind = kind; place = at } ∷ tokens)
+      IsToken piece rest kind → Reads (at + length piece) rest tokens →
+      Reads at (piece ++ rest) (record { kind = kind; place = at } ∷ tokens)
+
+-- a text has one list of tokens at most
+abbrev pub OneReading : Type 0
+OneReading = (text : List ℕ) (tokens others : List Token) → Reads 0 text tokens → Reads 0 text others → tokens ≡ others

@@ -104,9 +104,7 @@ fn with_digit(number: u64, digit: u8) -> Option<u64>
     requires { is_ascii_digit digit ≡ true }
     ensures { result ≡ word_of (number * 10 + digit_value digit) }
 {
-    number
-        .checked_mul(10)?
-        .checked_add(u64::from(digit - b'0'))
+    number.checked_mul(10)?.checked_add(u64::from(digit - b'0'))
 }
 
 /// The number that digits write, if it is below 2^64.
@@ -168,7 +166,10 @@ pub fn tokens_of(alloc: Global, text: &[u8]) -> Result<Vec<Token>, FormStop>
                 tokens.push(Token { kind, place })?;
                 at += length;
             }
-            Piece::Stray(kind) => return Err(FormStop::NotForm { at: at as u64, kind }),
+            Piece::Stray(kind) => return Err(FormStop::NotForm {
+                at: at as u64,
+                kind,
+            }),
         }
     }
 }

@@ -6,8 +6,10 @@
 //! most, stands in `specs/Tokens.antt` and `specs/Form.antt`.
 #![tactic(auto)]
 
+mod laws;
 mod lexer;
 mod parser;
 mod tokens;
 
+pub use laws::{one_meaning, one_reading};
 pub use parser::{Form, FormStop, read_form};

@@ -34,7 +34,7 @@ pub loop-tokens-preserved : goal.loop-tokens-preserved
 loop-tokens-preserved c =
     let pushed = chosen _ _ _ _ c.push.ensures.items (ap is_ok c.in_ok-push-in-Token.was) in
     subst (λ out. Cutting c.args.text.now (c.loop-tokens.at + c.in-Token.length) out) (sym pushed)
-      (cutting_token _ _ _ _ _ c.loop-tokens.invariant (piece_at c.args.text.now c.loop-tokens.at _ _ c.piece_of.ensures c.in-Token.is))
+    (cutting_token _ _ _ _ _ c.loop-tokens.invariant (piece_at c.args.text.now c.loop-tokens.at _ _ c.piece_of.ensures c.in-Token.is))
 
 pub returns-in-Stray-clause-refused : goal.returns-in-Stray-clause-refused
 returns-in-Stray-clause-refused c = cutting_stray _ _ _ _ c.loop-tokens.invariant (piece_at c.args.text.now c.loop-tokens.at _ _ c.piece_of.ensures c.in-Stray.is)
