@@ -94,3 +94,11 @@ pub data Reads : ℕ → List ℕ → List Token → Type 0 where
 -- a text has one list of tokens at most
 abbrev pub OneReading : Type 0
 OneReading = (text : List ℕ) (tokens others : List Token) → Reads 0 text tokens → Reads 0 text others → tokens ≡ others
+
+-- a worked example: a number ends with its last digit, and a comment runs to the end of the text
+abbrev pub ExampleReading : Type 0
+ExampleReading =
+    Reads 0 (codes "07proof --.") (
+    record { kind = kinds.Number 7; place = 0 } ∷
+    record { kind = kinds.Name names.Proof; place = 2 } ∷ []
+    )

@@ -1,7 +1,7 @@
 //! What holds of every text, whatever the code does.
 
 ghost use Rattle.one_form.specs.Form.{OneForm};
-ghost use Rattle.one_form.specs.Tokens.{OneReading};
+ghost use Rattle.one_form.specs.Tokens.{ExampleReading, OneReading};
 
 /// A text is cut into tokens in one way at most.
 pub fn one_reading()
@@ -11,4 +11,9 @@ pub fn one_reading()
 /// A text says one thing at most.
 pub fn one_meaning()
     ensures { OneForm }
+{}
+
+/// The tokens of a short text, told by the grammar alone.
+pub fn example_reading()
+    ensures { ExampleReading }
 {}

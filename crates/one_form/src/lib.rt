@@ -9,7 +9,9 @@
 mod laws;
 mod lexer;
 mod parser;
+#[cfg(test)]
+mod tests;
 mod tokens;
 
-pub use laws::{one_meaning, one_reading};
+pub use laws::{example_reading, one_meaning, one_reading};
 pub use parser::{Form, FormStop, read_form};
