@@ -1,0 +1,4 @@
+pub mod Tokens
+pub mod Form
+pub mod Pieces
+pub mod Matching
