@@ -3,7 +3,7 @@
 ghost use Rattle.std.specs.Prelude.{◌≡◌};
 ghost use Rattle.htt_base.specs.Status.{code_of};
 
-use htt_syntax::{Bound, Kind, Rule, SyntaxKind, Which, Why};
+use htt_words::{Bound, Kind, Rule, SyntaxKind, Which, Why};
 
 /// How a command ended. `at` is a byte of the file that was read, counted from 0; `line` counts
 /// from 1.

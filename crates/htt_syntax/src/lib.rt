@@ -6,10 +6,9 @@ mod mono;
 mod proof;
 mod sequent;
 mod tree;
-mod words;
 
 pub use mono::{Mono, Op};
 pub use proof::{Arg, Proof, Stmt};
 pub use sequent::{Entry, Env, RecPred, Sequent};
 pub use tree::{Comp, Fix, Formula, Step, Term, Triple, Ty};
-pub use words::{Bound, Kind, Rule, SyntaxKind, Which, Why};
+pub use htt_words::{Bound, Kind, Rule, SyntaxKind, Which, Why};

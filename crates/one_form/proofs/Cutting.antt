@@ -2,7 +2,7 @@
 use Rattle.std.proofs.Common.{◌≡◌, ℕ, ◌+◌, ◌-◌, ◌<◌, ◌≤◌, List, [], ◌∷◌, ◌++◌, length, take, drop, refl, sym, ◌∙◌, ap, subst, arith, append_assoc, append-nil}
 use Rattle.std.proofs.Math.Seq.{drop-append_seam}
 use Rattle.std.proofs.lemmas.List.{take-append-drop, length-take-le, take_all, drop-drop, length-drop}
-use Rattle.htt_syntax.specs.declared.words.SyntaxKind.{SyntaxKind}
+use Rattle.htt_words.specs.declared.words.SyntaxKind.{SyntaxKind}
 use Rattle.one_form.specs.declared.lexer.Piece.{Piece}
 use Rattle.one_form.specs.declared.lexer.Piece.TheVariants.{End, Gap, Token, Stray}
 use Rattle.one_form.specs.declared.tokens.Kind.{Kind}

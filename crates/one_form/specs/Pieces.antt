@@ -4,7 +4,7 @@ use Rattle.std.specs.List.{prefix_len, take_while}
 use Rattle.std.specs.Char.{is_ascii_digit}
 use Rattle.std.specs.Str.{byte}
 use Rattle.std.specs.Str.Parse.{digits_value}
-use Rattle.htt_syntax.specs.declared.words.SyntaxKind.TheVariants as faults
+use Rattle.htt_words.specs.declared.words.SyntaxKind.TheVariants as faults
 use Rattle.one_form.specs.declared.lexer.Piece.{Piece}
 use Rattle.one_form.specs.declared.lexer.Piece.TheVariants.{End, Gap, Token, Stray}
 use Rattle.one_form.specs.declared.tokens.Sign.{Sign}

@@ -11,7 +11,7 @@ ghost use Rattle.one_form.specs.Form.{HasNoTokens};
 
 use crate::parser::FormStop;
 use crate::tokens::{Kind, Name, Sign, Token};
-use htt_syntax::SyntaxKind;
+use htt_words::SyntaxKind;
 use std::alloc::Global;
 
 /// What stands at the front of a text: a gap or a token, each with the number of its bytes, a byte

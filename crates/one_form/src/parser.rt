@@ -9,7 +9,7 @@ ghost use Rattle.one_form.specs.Matching.{Gives, same_kind, after_kind, after_ki
 
 use crate::lexer::tokens_of;
 use crate::tokens::{Kind, Name, Sign, Token};
-use htt_syntax::SyntaxKind;
+use htt_words::SyntaxKind;
 use std::alloc::{AllocError, AllocFailed, Global};
 
 /// What a text of the form says. `right` is missing where the result is one number. `place` is the

@@ -1,7 +1,7 @@
 //! Texts with what they say, worked out by hand.
 
 use crate::{Form, FormStop, read_form};
-use htt_syntax::SyntaxKind;
+use htt_words::SyntaxKind;
 
 fn form(claimed: u64, left: u64, right: Option<u64>, place: u64) -> Result<Form, FormStop> {
     Ok(Form {

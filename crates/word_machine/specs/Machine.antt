@@ -1,7 +1,7 @@
 -- The states of the machine, its step, and where it stands after a number of steps. Its one frame
 -- is that of the first function, since no instruction makes another.
 use Rattle.std.specs.Prelude.{ℕ, zero, suc, ◌+◌, List, [], replicate, Option, Some, None, slice_get, slice_set, slice_range}
-use Rattle.htt_syntax.specs.declared.words.Bound.TheVariants.{Step}
+use Rattle.htt_words.specs.declared.words.Bound.TheVariants.{Step}
 use Rattle.word_machine.specs.declared.code.Code.{Code}
 use Rattle.word_machine.specs.declared.code.Function.{Function}
 use Rattle.word_machine.specs.declared.code.Instr.{Instr}

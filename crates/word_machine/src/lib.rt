@@ -6,6 +6,6 @@ mod laws;
 mod machine;
 
 pub use code::{Code, Function, Instr};
-pub use htt_syntax::{Bound, Kind};
+pub use htt_words::{Bound, Kind};
 pub use laws::halt_is_final;
 pub use machine::{End, run};

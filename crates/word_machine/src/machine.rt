@@ -9,7 +9,7 @@ ghost use Rattle.word_machine.specs.Machine.{next_state, run_of, machine_after, 
 
 use crate::code::{Code, Function, Instr};
 use htt_seq::Seq;
-use htt_syntax::Bound;
+use htt_words::Bound;
 use std::alloc::{AllocError, Global};
 
 /// How a run ended.
