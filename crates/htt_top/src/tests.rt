@@ -82,19 +82,19 @@ fn other_texts_are_refused(rt: HostRuntime) -> Result<(), Fail> {
     Ok(())
 }
 
+/// Whether the words are refused as having no form.
+fn is_usage(alloc: Global, words: &[&str]) -> Result<bool, AllocError> {
+    let (answer, printed) = command(alloc, words, SUM, &[], &[])?;
+    Ok(answer == Status::Usage && printed.as_slice() == b"usage\n".as_slice())
+}
+
 #[test]
 fn other_words_are_usage(rt: HostRuntime) -> Result<(), Fail> {
-    for words in [
-        [].as_slice(),
-        ["go"].as_slice(),
-        ["go", "sum", "more"].as_slice(),
-        ["sum"].as_slice(),
-        ["check", "sum"].as_slice(),
-    ] {
-        let (answer, printed) = command(rt.alloc(), words, SUM, &[], &[])?;
-        assert_eq!(rt; answer, Status::Usage);
-        assert_eq!(rt; printed.as_slice(), b"usage\n".as_slice());
-    }
+    assert!(rt; is_usage(rt.alloc(), &[])?);
+    assert!(rt; is_usage(rt.alloc(), &["go"])?);
+    assert!(rt; is_usage(rt.alloc(), &["sum"])?);
+    assert!(rt; is_usage(rt.alloc(), &["go", "sum", "more"])?);
+    assert!(rt; is_usage(rt.alloc(), &["check", "sum"])?);
     Ok(())
 }
 
