@@ -36,9 +36,8 @@ pub fn run(alloc: Global, code: &Code, steps: u64) -> Result<End, AllocError>
     let main = &code.functions.as_slice()[0];
     let mut frame = entered(alloc, main)?;
     for _ in 0..steps {
-        match step(alloc, main, &mut frame)? {
-            Some(words) => return Ok(End::Halted(words)),
-            None => {}
+        if let Some(words) = step(alloc, main, &mut frame)? {
+            return Ok(End::Halted(words));
         }
     }
     Ok(End::Stopped(Bound::Step, steps))

@@ -15,8 +15,8 @@ returns-in-Some c =
 
 pub loop-preserved : goal.loop-preserved
 loop-preserved c =
-    let next = rw c.in-None.is at c.in_ok-words.ensures.next in
+    let next = rw c.in_default.is at c.in_ok-words.ensures.next in
     record {
       here = rw (run_of-next, ← c.loop.invariant.here) next;
-      stands = rw c.in-None.is at c.in_ok-words.ensures.going;
+      stands = rw c.in_default.is at c.in_ok-words.ensures.going;
     }
