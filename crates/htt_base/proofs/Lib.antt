@@ -1,2 +1,3 @@
 pub mod FailingLemmas
 pub mod HeldLemmas
+pub mod TakenLemmas

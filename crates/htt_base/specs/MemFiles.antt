@@ -13,15 +13,15 @@ abbrev pub is_named : List ℕ → Entry → Bool
 is_named name entry = pointwise nat_eq (string_bytes entry.0) name
 
 -- what the entries hold: of several with one name the last counts
-abbrev pub held_in : List Entry → Held
-held_in entries name = option_map (λ entry. entry.1.items) (find (is_named name) (reverse entries))
+abbrev pub contents_of : List Entry → Held
+contents_of entries name = option_map (λ entry. entry.1.items) (find (is_named name) (reverse entries))
 
-abbrev pub held_by : MemFiles → Held
-held_by f = held_in f.entries.items
+abbrev pub file_contents : MemFiles → Held
+file_contents f = contents_of f.entries.items
 
 -- the names that were read, in the order of the reads
-abbrev pub names_read : MemFiles → List (List ℕ)
-names_read f = map string_bytes f.reads.items
+abbrev pub read_names : MemFiles → List (List ℕ)
+read_names f = map string_bytes f.reads.items
 
 -- the number of the next call, counted from 0 over all calls
 abbrev pub next_call : MemFiles → ℕ

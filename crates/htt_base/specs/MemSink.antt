@@ -2,8 +2,8 @@
 use Rattle.std.specs.Prelude.{ℕ, List, Contains}
 use Rattle.htt_base.specs.declared.mem_sink.MemSink.{MemSink}
 
-abbrev pub bytes_put : MemSink → List ℕ
-bytes_put s = s.bytes.items
+abbrev pub sink_bytes : MemSink → List ℕ
+sink_bytes s = s.bytes.items
 
 -- the number of the next call, counted from 0
 abbrev pub next_put : MemSink → ℕ

@@ -3,7 +3,7 @@
 
 ghost use Rattle.std.specs.Prelude.{◌≡◌, ◌≤◌, ◌++◌, ◌∷◌, ◌⊎◌, ◌↔◌, [], Some, None, map, string_bytes, option_copied, IfOk, OnOk, OnErr, IsErrOf, IsTrue, find, reverse, length, Contains};
 ghost use Rattle.htt_base.specs.Outside.{IsRead, WriteGives, one_more, names_after, read_faults_after, write_faults_after, ReadGives, NotesName, CountsRead, CountsWrite};
-ghost use Rattle.htt_base.specs.MemFiles.{held_in, is_named, held_by, names_read, next_call, failing_calls, FailsNext, Appends};
+ghost use Rattle.htt_base.specs.MemFiles.{contents_of, is_named, file_contents, read_names, next_call, failing_calls, FailsNext, Appends};
 
 use crate::outside::{Files, ReadStop, WriteStop};
 use std::alloc::{AllocError, Global};
@@ -25,7 +25,7 @@ impl MemFiles {
     /// Files with these names and bytes, of which nothing was read, and whose calls with these
     /// numbers fail. Of several entries with one name the last counts.
     pub fn new(alloc: Global, files: Vec<(String, Vec<u8>)>, failing: Vec<u64>) -> MemFiles
-        ensures held { ⟦<MemFiles as Files>⟧.held result ≡ Some (held_in files.items) }
+        ensures held { ⟦<MemFiles as Files>⟧.held result ≡ Some (contents_of files.items) }
         ensures reads { ⟦<MemFiles as Files>⟧.reads result ≡ Some [] }
         ensures read_faults { ⟦<MemFiles as Files>⟧.read_faults result ≡ 0 }
         ensures write_faults { ⟦<MemFiles as Files>⟧.write_faults result ≡ 0 }
@@ -44,7 +44,7 @@ impl MemFiles {
 
     /// The bytes that the name holds, if any.
     pub fn file(&self, name: &str) -> Option<&[u8]>
-        ensures { option_copied result ≡ held_by self.now name.now }
+        ensures { option_copied result ≡ file_contents self.now name.now }
     {
         match latest(&self.entries, name) {
             Some(entry) => Some(entry.1.as_slice()),
@@ -104,9 +104,9 @@ fn content(
     name: &str,
     max: u64,
 ) -> Result<Vec<u8>, ReadStop>
-    ensures gives { IsRead (held_in entries.now) name.now max result }
+    ensures gives { IsRead (contents_of entries.now) name.now max result }
     ensures within { IfOk result (λ v. length v.items ≤ max) }
-    ensures failed { IsErrOf result ReadStop.Failed → held_in entries.now name.now ≡ None }
+    ensures failed { IsErrOf result ReadStop.Failed → contents_of entries.now name.now ≡ None }
 {
     match latest(entries, name) {
         Some(entry) => {
@@ -123,24 +123,24 @@ fn content(
 }
 
 impl Files for MemFiles {
-    ghost held = { λ f. Some (held_by f) };
+    ghost held = { λ f. Some (file_contents f) };
 
-    ghost reads = { λ f. Some (names_read f) };
+    ghost reads = { λ f. Some (read_names f) };
 
     ghost read_faults = { λ f. f.read_faults };
 
     ghost write_faults = { λ f. f.write_faults };
 
     fn read(&mut self, alloc: Global, name: &str, max: u64) -> Result<Vec<u8>, ReadStop>
-        ensures gives { IsRead (held_by self.old) name.now max result }
+        ensures gives { IsRead (file_contents self.old) name.now max result }
         ensures within { IfOk result (λ v. length v.items ≤ max) }
         ensures fails { FailsNext self.old → IsErrOf result ReadStop.Failed ⊎ IsErrOf result ReadStop.NoMemory }
-        ensures failed { IsErrOf result ReadStop.Failed → FailsNext self.old ⊎ (held_by self.old name.now ≡ None) }
-        ensures notes { names_read self.new ≡ names_after (names_read self.old) name.now result }
+        ensures failed { IsErrOf result ReadStop.Failed → FailsNext self.old ⊎ (file_contents self.old name.now ≡ None) }
+        ensures notes { read_names self.new ≡ names_after (read_names self.old) name.now result }
         ensures counts { CountsRead (⟦<MemFiles as Files>⟧.read_faults self.old) (⟦<MemFiles as Files>⟧.read_faults self.new) result }
         ensures read_faults { ⟦<MemFiles as Files>⟧.read_faults self.new ≡ read_faults_after (⟦<MemFiles as Files>⟧.read_faults self.old) result }
         ensures write_faults { ⟦<MemFiles as Files>⟧.write_faults self.new ≡ ⟦<MemFiles as Files>⟧.write_faults self.old }
-        ensures held { held_by self.new ≡ held_by self.old }
+        ensures held { file_contents self.new ≡ file_contents self.old }
         ensures next { next_call self.new ≡ one_more (next_call self.old) }
         ensures failing { failing_calls self.new ≡ failing_calls self.old }
     {
@@ -162,13 +162,13 @@ impl Files for MemFiles {
     }
 
     fn write(&mut self, alloc: Global, name: &str, bytes: &[u8]) -> Result<(), WriteStop>
-        ensures gives { WriteGives (Some (held_by self.old)) (Some (held_by self.new)) name.now bytes.now result }
-        ensures unchanged { OnErr result (held_by self.new ≡ held_by self.old) }
+        ensures gives { WriteGives (Some (file_contents self.old)) (Some (file_contents self.new)) name.now bytes.now result }
+        ensures unchanged { OnErr result (file_contents self.new ≡ file_contents self.old) }
         ensures failed { IsErrOf result WriteStop.Failed ↔ FailsNext self.old }
         ensures counts { CountsWrite (⟦<MemFiles as Files>⟧.write_faults self.old) (⟦<MemFiles as Files>⟧.write_faults self.new) result }
         ensures write_faults { ⟦<MemFiles as Files>⟧.write_faults self.new ≡ write_faults_after (⟦<MemFiles as Files>⟧.write_faults self.old) result }
         ensures read_faults { ⟦<MemFiles as Files>⟧.read_faults self.new ≡ ⟦<MemFiles as Files>⟧.read_faults self.old }
-        ensures reads { names_read self.new ≡ names_read self.old }
+        ensures reads { read_names self.new ≡ read_names self.old }
         ensures next { next_call self.new ≡ one_more (next_call self.old) }
         ensures failing { failing_calls self.new ≡ failing_calls self.old }
     {

@@ -1,14 +1,13 @@
 //! Files of the runtime, which tell nothing of their content. A read takes at most one byte more
 //! than is asked for: that byte shows that the file is too long.
 
-ghost use Rattle.std.specs.Prelude.{◌≡◌, ◌≤◌, None, IfOk, length};
+ghost use Rattle.std.specs.Prelude.{◌≡◌, ◌≢◌, ◌<◌, ◌≤◌, None, IfOk, IfSome, IsErrOf, length};
 ghost use Rattle.htt_base.specs.Outside.{ReadGives, NotesName, CountsRead, WriteGives, CountsWrite, read_faults_after, write_faults_after};
 
 use crate::outside::{Files, ReadStop, WriteStop};
-use crate::real_sink::write_whole;
 use std::alloc::Global;
 use std::fs;
-use std::io::Read;
+use std::io::{self, ErrorKind, Read, Write};
 use std::rt::Runtime;
 
 /// The files of a runtime, with the counts of their failures.
@@ -35,37 +34,30 @@ impl<R: Runtime> RealFiles<R> {
     }
 }
 
-const PIECE: usize = 4096;
-
-fn piece_len(read: usize, max: u64) -> usize
-    ensures { result ≤ 4096 }
+/// All that the reader has left, of which it takes at most `max` + 1 bytes.
+fn read_up_to<F: Read + Drop>(file: F, alloc: Global, max: u64) -> Result<Vec<u8>, ReadStop>
+    ensures whole { IfOk result (λ v. IfSome (F.remaining file) (λ bytes. v.items ≡ bytes)) }
+    ensures within { IfOk result (λ v. length v.items ≤ max) }
+    ensures long { IsErrOf result ReadStop.TooLong → IfSome (F.remaining file) (λ bytes. max < length bytes) }
 {
-    let left = max.saturating_sub(read as u64).saturating_add(1);
-    left.min(PIECE as u64) as usize
+    let mut bytes = Vec::new(alloc);
+    match file.take(max.saturating_add(1)).read_to_end(&mut bytes) {
+        Ok(_) => {}
+        Err(error) => return Err(stop_of(&error)),
+    }
+    if bytes.len() as u64 > max {
+        return Err(ReadStop::TooLong);
+    }
+    Ok(bytes)
 }
 
-fn read_up_to<F: Read>(file: &mut F, alloc: Global, max: u64) -> Result<Vec<u8>, ReadStop>
-    ensures { IfOk result (λ v. length v.items ≤ max) }
+fn stop_of(error: &io::Error) -> ReadStop
+    ensures { result ≢ ReadStop.TooLong }
 {
-    let mut out = Vec::new(alloc);
-    let mut piece = [0u8; PIECE];
-    for _ in 0..u64::MAX {
-        let room = piece_len(out.len(), max);
-        let count = match file.read(&mut piece[..room]) {
-            Ok(count) => count,
-            Err(_) => return Err(ReadStop::Failed),
-        };
-        if count == 0 {
-            return Ok(out);
-        }
-        if out.extend_from_slice(&piece[..count]).is_err() {
-            return Err(ReadStop::NoMemory);
-        }
-        if out.len() as u64 > max {
-            return Err(ReadStop::TooLong);
-        }
+    match error.kind() {
+        ErrorKind::OutOfMemory => ReadStop::NoMemory,
+        _ => ReadStop::Failed,
     }
-    Err(ReadStop::Failed)
 }
 
 impl<R: Runtime> Files for RealFiles<R> {
@@ -84,7 +76,7 @@ impl<R: Runtime> Files for RealFiles<R> {
         ensures write_faults { ⟦<RealFiles<R> as Files>⟧.write_faults self.new ≡ ⟦<RealFiles<R> as Files>⟧.write_faults self.old }
     {
         let result = match fs::open(&self.rt, name) {
-            Ok(mut file) => read_up_to(&mut file, alloc, max),
+            Ok(file) => read_up_to(file, alloc, max),
             Err(_) => Err(ReadStop::Failed),
         };
         if let Err(ReadStop::Failed) = &result {
@@ -99,7 +91,7 @@ impl<R: Runtime> Files for RealFiles<R> {
         ensures read_faults { ⟦<RealFiles<R> as Files>⟧.read_faults self.new ≡ ⟦<RealFiles<R> as Files>⟧.read_faults self.old }
     {
         let done = match fs::create(&self.rt, name) {
-            Ok(mut file) => write_whole(&mut file, bytes),
+            Ok(mut file) => file.write_all(bytes).is_ok(),
             Err(_) => false,
         };
         if done {
@@ -114,6 +106,27 @@ impl<R: Runtime> Files for RealFiles<R> {
 mod tests {
     use super::*;
     use std::test::Fail;
+
+    /// Gives a byte, and then fails.
+    #[derive(Drop)]
+    struct Broken(bool);
+
+    impl Read for Broken {
+        fn read(&mut self, buf: &mut [u8]) -> io::Result<usize> {
+            if self.0 || buf.is_empty() {
+                return Err(io::Error::from(ErrorKind::Other));
+            }
+            self.0 = true;
+            buf[0] = b'x';
+            Ok(1)
+        }
+    }
+
+    #[test]
+    fn a_read_that_breaks_off_fails(rt: HostRuntime) {
+        let result = read_up_to(Broken(false), rt.alloc(), 9);
+        assert_eq!(rt; result.err(), Some(ReadStop::Failed));
+    }
 
     #[test]
     fn a_written_file_is_read_back(rt: HostRuntime) -> Result<(), Fail> {

@@ -26,22 +26,6 @@ impl<R: Runtime> RealSink<R> {
     }
 }
 
-/// Whether the writer took all the bytes. One that takes nothing of a non-empty piece fails.
-pub(crate) fn write_whole<W: Write>(writer: &mut W, bytes: &[u8]) -> bool {
-    let mut at = 0;
-    for _ in 0..bytes.len() {
-        if at >= bytes.len() {
-            return true;
-        }
-        match writer.write(&bytes[at..]) {
-            Ok(0) => return false,
-            Ok(count) => at += count,
-            Err(_) => return false,
-        }
-    }
-    at >= bytes.len()
-}
-
 impl<R: Runtime> Sink for RealSink<R> {
     ghost written = { λ _. None };
 
@@ -52,8 +36,7 @@ impl<R: Runtime> Sink for RealSink<R> {
         ensures counts { CountsPut (⟦<RealSink<R> as Sink>⟧.faults self.old) (⟦<RealSink<R> as Sink>⟧.faults self.new) result }
         ensures faults { ⟦<RealSink<R> as Sink>⟧.faults self.new ≡ put_faults_after (⟦<RealSink<R> as Sink>⟧.faults self.old) result }
     {
-        let mut writer = io::writer(&self.rt);
-        if write_whole(&mut writer, bytes) {
+        if io::writer(&self.rt).write_all(bytes).is_ok() {
             return Ok(());
         }
         self.faults = self.faults.saturating_add(1);

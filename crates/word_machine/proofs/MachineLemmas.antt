@@ -7,36 +7,36 @@ use Rattle.word_machine.specs.declared.code.Function.{Function}
 use Rattle.word_machine.specs.declared.code.Instr.{Instr}
 use Rattle.word_machine.specs.declared.code.Instr.TheVariants.{Const}
 use Rattle.word_machine.specs.Code.{IsReturn, EndsInReturn, HasNoParams}
-use Rattle.word_machine.specs.Machine.{AtHalt, effect, fetched, next_state, run_of, run_of_first, machine_after}
+use Rattle.word_machine.specs.Machine.{AtHalt, effect, fetched_effect, next_state, function_after, main_after, machine_after}
 use Rattle.word_machine.specs.Laws.{HaltIsFinal}
 
 -- one step more
-pub run_of-next : (f : Function) (n : ℕ) → run_of f (n + 1) ≡ next_state f (run_of f n)
-unfolding run_of
-run_of-next f n = rw add-one refl
+pub function_after-next : (f : Function) (n : ℕ) → function_after f (n + 1) ≡ next_state f (function_after f n)
+unfolding function_after
+function_after-next f n = rw add-one refl
 
 -- a run that has halted stays so
-pub run_of-more : (f : Function) (n more : ℕ) (words : List ℕ) → run_of f n ≡ AtHalt words → run_of f (n + more) ≡ AtHalt words
-unfolding run_of
-run_of-more f n zero words h = rw add-zero h
-run_of-more f n (suc more) words h = rw (add-suc, run_of-more f n more words h) refl
+pub function_after-more : (f : Function) (n more : ℕ) (words : List ℕ) → function_after f n ≡ AtHalt words → function_after f (n + more) ≡ AtHalt words
+unfolding function_after
+function_after-more f n zero words h = rw add-zero h
+function_after-more f n (suc more) words h = rw (add-suc, function_after-more f n more words h) refl
 
-run_of_first-more : (main : Option Function) (n more : ℕ) (words : List ℕ) → run_of_first main n ≡ AtHalt words → run_of_first main (n + more) ≡ AtHalt words
-run_of_first-more None n more words h = cc
-run_of_first-more (Some main) n more words h = run_of-more main n more words h
+main_after-more : (main : Option Function) (n more : ℕ) (words : List ℕ) → main_after main n ≡ AtHalt words → main_after main (n + more) ≡ AtHalt words
+main_after-more None n more words h = cc
+main_after-more (Some main) n more words h = function_after-more main n more words h
 
 pub halt_is_final_lem : HaltIsFinal
-halt_is_final_lem code n more words h = run_of_first-more (slice_get code.functions 0) n more words h
+halt_is_final_lem code n more words h = main_after-more (slice_get code.functions 0) n more words h
 
 -- where main has halted, the machine has, also with more steps
-pub machine_after-halt : (code : Code) (main : Function) (n steps : ℕ) (words : List ℕ) → slice_get code.functions 0 ≡ Some main → run_of main n ≡ AtHalt words → n ≤ steps → machine_after code steps ≡ AtHalt words
+pub machine_after-halt : (code : Code) (main : Function) (n steps : ℕ) (words : List ℕ) → slice_get code.functions 0 ≡ Some main → function_after main n ≡ AtHalt words → n ≤ steps → machine_after code steps ≡ AtHalt words
 machine_after-halt code main n steps words e h fits =
     let sum : n + (steps - n) ≡ steps = omega arith in
-    rw e (rw sum at (run_of-more main n (steps - n) words h))
+    rw e (rw sum at (function_after-more main n (steps - n) words h))
 
 -- what a step does where this instruction stands
-pub fetched-at : (f : Function) (at : ℕ) (other i : Instr) (locals : List ℕ) → at < length f.body → get_or f.body at other ≡ i → fetched f (slice_get f.body at) at locals ≡ effect f i at locals
-fetched-at f at other i locals within e = rw (slice_get-get_or f.body at other within, e) refl
+pub fetched_effect-at : (f : Function) (at : ℕ) (other i : Instr) (locals : List ℕ) → at < length f.body → get_or f.body at other ≡ i → fetched_effect f (slice_get f.body at) at locals ≡ effect f i at locals
+fetched_effect-at f at other i locals within e = rw (slice_get-get_or f.body at other within, e) refl
 
 -- a const isn't the last instruction
 pub EndsInReturn-const : (body : List Instr) (at : ℕ) (other : Instr) (d v : ℕ) → EndsInReturn body → at < length body → get_or body at other ≡ Const d v → at + 1 < length body

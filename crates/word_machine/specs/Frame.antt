@@ -5,9 +5,9 @@ use Rattle.word_machine.specs.declared.machine.Frame.{Frame}
 use Rattle.word_machine.specs.Machine.{State, Going, AtHalt}
 
 -- the state that a frame is in, or the words with which it halted
-abbrev pub shown : Frame → Option (List ℕ) → State
-shown frame None = Going frame.at frame.locals.items
-shown frame (Some words) = AtHalt words
+abbrev pub frame_state : Frame → Option (List ℕ) → State
+frame_state frame None = Going frame.at frame.locals.items
+frame_state frame (Some words) = AtHalt words
 
 -- the frame stands before an instruction of this function, with all its locals
 pub record StandsIn (f : Function) (frame : Frame) : Type 0 where

@@ -20,28 +20,28 @@ effect f (Const d v) at locals = Going (at + 1) (slice_set locals d v)
 effect f (Ret s) at locals = AtHalt (slice_range locals s (s + f.result))
 
 -- the state after the instruction that stands there; none stands past the end
-abbrev pub fetched : Function → Option Instr → ℕ → List ℕ → State
-fetched f None at locals = Going at locals
-fetched f (Some i) at locals = effect f i at locals
+abbrev pub fetched_effect : Function → Option Instr → ℕ → List ℕ → State
+fetched_effect f None at locals = Going at locals
+fetched_effect f (Some i) at locals = effect f i at locals
 
 -- one step; a machine that has halted stays as it is
 abbrev pub next_state : Function → State → State
-next_state f (Going at locals) = fetched f (slice_get f.body at) at locals
+next_state f (Going at locals) = fetched_effect f (slice_get f.body at) at locals
 next_state f (AtHalt words) = AtHalt words
 
 -- a function after n steps from its first instruction, with locals 0
-unfoldable pub run_of : Function → ℕ → State
-run_of f zero = Going 0 (replicate f.locals 0)
-run_of f (suc n) = next_state f (run_of f n)
+unfoldable pub function_after : Function → ℕ → State
+function_after f zero = Going 0 (replicate f.locals 0)
+function_after f (suc n) = next_state f (function_after f n)
 
 -- that of the first function, if there is one
-abbrev pub run_of_first : Option Function → ℕ → State
-run_of_first None n = Going 0 []
-run_of_first (Some main) n = run_of main n
+abbrev pub main_after : Option Function → ℕ → State
+main_after None n = Going 0 []
+main_after (Some main) n = function_after main n
 
 -- the machine after n steps
 abbrev pub machine_after : Code → ℕ → State
-machine_after code n = run_of_first (slice_get code.functions 0) n
+machine_after code n = main_after (slice_get code.functions 0) n
 
 -- how a run of at most this many steps ends
 abbrev pub end_of : ℕ → State → End

@@ -4,8 +4,8 @@
 
 ghost use Rattle.std.specs.Prelude.{◌≡◌, ◌+◌, ◌≤◌, None, IfOk, IfNone, length, replicate, slice_range};
 ghost use Rattle.word_machine.specs.Code.{IsValid, IsValidFunction};
-ghost use Rattle.word_machine.specs.Frame.{shown, StandsIn};
-ghost use Rattle.word_machine.specs.Machine.{next_state, run_of, machine_after, end_of};
+ghost use Rattle.word_machine.specs.Frame.{frame_state, StandsIn};
+ghost use Rattle.word_machine.specs.Machine.{next_state, function_after, machine_after, end_of};
 
 use crate::code::{Code, Function, Instr};
 use htt_seq::Seq;
@@ -36,9 +36,8 @@ pub fn run(alloc: Global, code: &Code, steps: u64) -> Result<End, AllocError>
     let main = &code.functions.as_slice()[0];
     let mut frame = entered(alloc, main)?;
     for _ in 0..steps {
-        match step(alloc, main, &mut frame)? {
-            Some(words) => return Ok(End::Halted(words)),
-            None => {}
+        if let Some(words) = step(alloc, main, &mut frame)? {
+            return Ok(End::Halted(words));
         }
     }
     Ok(End::Stopped(Bound::Step, steps))
@@ -46,7 +45,7 @@ pub fn run(alloc: Global, code: &Code, steps: u64) -> Result<End, AllocError>
 
 fn entered(alloc: Global, main: &Function) -> Result<Frame, AllocError>
     requires { IsValidFunction main.now }
-    ensures start { IfOk result (λ frame. shown frame None ≡ run_of main.now 0) }
+    ensures start { IfOk result (λ frame. frame_state frame None ≡ function_after main.now 0) }
     ensures stands { IfOk result (StandsIn main.now) }
 {
     Ok(Frame {
@@ -65,7 +64,7 @@ fn zeros(alloc: Global, count: usize) -> Result<Vec<u64>, AllocError>
 fn step(alloc: Global, main: &Function, frame: &mut Frame) -> Result<Option<Seq<u64>>, AllocError>
     requires valid { IsValidFunction main.now }
     requires stands { StandsIn main.now frame.old }
-    ensures next { IfOk result (λ words. shown frame.new words ≡ next_state main.now (shown frame.old None)) }
+    ensures next { IfOk result (λ words. frame_state frame.new words ≡ next_state main.now (frame_state frame.old None)) }
     ensures going { IfOk result (λ words. IfNone words (StandsIn main.now frame.new)) }
 {
     match main.body.as_slice()[frame.at] {
