@@ -1,12 +1,12 @@
 -- What is read from left to right is the form, and the form is read.
-use Rattle.std.proofs.Common.{◌≡◌, ℕ, suc, ◌+◌, ◌<◌, ◌≤◌, List, [], ◌∷◌, ◌++◌, length, get_or, drop, map, refl, sym, ◌∙◌, ap, subst, arith, rules, drop-cons, append_assoc, append-nil}
+use Rattle.std.proofs.Common.{◌≡◌, ℕ, suc, ◌+◌, ◌<◌, ◌≤◌, List, [], ◌∷◌, ◌++◌, length, get_or, drop, map, refl, sym, ◌∙◌, ap, subst, arith, rules, drop-cons, append-nil}
 use Rattle.std.specs.Prelude.{Option, Some, None, Result, Ok, Err, IsErr}
-use Rattle.std.proofs.lemmas.List.{drop_all, map-append}
+use Rattle.std.proofs.lemmas.List.{drop_all}
 use Rattle.one_form.specs.declared.tokens.Kind.{Kind}
 use Rattle.one_form.specs.declared.tokens.Kind.TheVariants.{Name, Number, Sign}
 use Rattle.one_form.specs.declared.tokens.Token.{Token}
 use denote.Enum.Bare.{sameb, same_true}
-use Rattle.std.specs.Prelude.{Bool, true, false, cond, ◌==◌}
+use Rattle.std.specs.Prelude.{true, cond}
 use Rattle.std.proofs.lemmas.Bool.Decides.{Decides-eqb, nat_tests}
 use Rattle.std.proofs.lemmas.Option.{same_Some, some_pair_parts}
 use Rattle.one_form.specs.contracts.tokens.Name as name_enum

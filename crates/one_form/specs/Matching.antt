@@ -1,5 +1,5 @@
 -- The tokens of a text compared with those of the form from left to right: the steps by which a form is read.
-use Rattle.std.specs.Prelude.{◌≡◌, ℕ, List, [], ◌∷◌, Bool, true, false, ◌==◌, Option, Some, None, Result, Ok, Err, if◌then◌else◌}
+use Rattle.std.specs.Prelude.{◌≡◌, ℕ, List, [], ◌∷◌, Bool, false, ◌==◌, Option, Some, None, Result, Ok, Err, if◌then◌else◌}
 use denote.Enum.Bare.{sameb}
 use Rattle.one_form.specs.contracts.tokens.Name as name_enum
 use Rattle.one_form.specs.contracts.tokens.Sign as sign_enum
