@@ -1,12 +1,12 @@
 -- What is read from left to right is the form, and the form is read.
-use Rattle.std.proofs.Common.{◌≡◌, ℕ, suc, ◌+◌, ◌<◌, ◌≤◌, List, [], ◌∷◌, ◌++◌, length, get_or, drop, map, refl, sym, ◌∙◌, ap, subst, arith, rules, drop-cons, append_assoc, append-nil}
+use Rattle.std.proofs.Common.{◌≡◌, ℕ, suc, ◌+◌, ◌<◌, ◌≤◌, List, [], ◌∷◌, ◌++◌, length, get_or, drop, map, refl, sym, ◌∙◌, ap, subst, arith, rules, drop-cons, append-nil}
 use Rattle.std.specs.Prelude.{Option, Some, None, Result, Ok, Err, IsErr}
-use Rattle.std.proofs.lemmas.List.{drop_all, map-append}
+use Rattle.std.proofs.lemmas.List.{drop_all}
 use Rattle.one_form.specs.declared.tokens.Kind.{Kind}
 use Rattle.one_form.specs.declared.tokens.Kind.TheVariants.{Name, Number, Sign}
 use Rattle.one_form.specs.declared.tokens.Token.{Token}
 use denote.Enum.Bare.{sameb, same_true}
-use Rattle.std.specs.Prelude.{Bool, true, false, cond, ◌==◌}
+use Rattle.std.specs.Prelude.{true, cond}
 use Rattle.std.proofs.lemmas.Bool.Decides.{Decides-eqb, nat_tests}
 use Rattle.std.proofs.lemmas.Option.{same_Some, some_pair_parts}
 use Rattle.one_form.specs.contracts.tokens.Name as name_enum
@@ -17,7 +17,7 @@ use Rattle.one_form.specs.declared.tokens.Name.TheVariants as names
 use Rattle.one_form.specs.declared.tokens.Sign.TheVariants as signs
 use Rattle.one_form.specs.declared.parser.Form as forms
 use Rattle.one_form.specs.Form.{opening, body, addend, proof, ending, before_second, IsForm}
-use Rattle.one_form.specs.Matching.{◌>>=◌, Gives, same_kind, after_kind, after_kinds, number_before, number_at, addend_at, second_at, end_at, form_of}
+use Rattle.one_form.specs.Matching.{◌>>=◌, Gives, same_kind, after_kind, after_kinds, number_before, number_at, addend_at, second_at, nothing_at, form_of}
 use Rattle.one_form.proofs.Pieces.{by_cond}
 
 -- ---- the loop over the kinds
@@ -224,14 +224,14 @@ second_read : (place : ℕ) (rest : List Token) → second_at (record { kind = N
 unfolding second_at
 second_read place rest = refl
 
-end_told : (ts : List Token) (u : Unit {0}) → end_at ts ≡ Some u → ts ≡ []
-unfolding end_at
-end_told [] u e = refl
-end_told (t ∷ ts) u e = cc
+nothing_told : (ts : List Token) (u : Unit {0}) → nothing_at ts ≡ Some u → ts ≡ []
+unfolding nothing_at
+nothing_told [] u e = refl
+nothing_told (t ∷ ts) u e = cc
 
-end_read : end_at [] ≡ Some tt
-unfolding end_at
-end_read = refl
+nothing_read : nothing_at [] ≡ Some tt
+unfolding nothing_at
+nothing_read = refl
 
 -- ---- the form
 
@@ -246,7 +246,7 @@ form_told ts form e =
     with_some (after_kinds proof right.1) _ form e (λ g proved e.
     with_some (second_at g) _ form e (λ second e7 e.
     with_some (after_kinds ending second.1) _ form e (λ h closed e.
-    with_some (end_at h) _ form e (λ u ended e.
+    with_some (nothing_at h) _ form e (λ u ended e.
     let is_form = same_Some _ form e in
     let before =
     both_fronts (opening ++ Number claimed.0 ∷ [] ++ body ++ Number left.0 ∷ [] ++ addend right.0) proof ts right.1 g
@@ -265,7 +265,7 @@ form_told ts form e =
       after = second.1;
       whole = front.whole ∙ ap (λ us. front.front ++ us) (second_told g second.0 second.1 e7);
       front = front.same;
-      back = ap (map (λ token. token.kind)) (back.whole ∙ ap (λ us. back.front ++ us) (end_told h u ended) ∙ append-nil back.front) ∙ back.same;
+      back = ap (map (λ token. token.kind)) (back.whole ∙ ap (λ us. back.front ++ us) (nothing_told h u ended) ∙ append-nil back.front) ∙ back.same;
     }))))))))))
 
 pub form_read : (ts : List Token) (form : forms.Form) → IsForm ts form → form_of ts ≡ Some form
@@ -289,4 +289,4 @@ form_read ts form is =
     (bind_to (after_kinds proof a.mid) _ (second ∷ is.after) form a.then
     (bind_to (second_at (second ∷ is.after)) _ (form.place, is.after) form (second_read form.place is.after)
     (bind_to (after_kinds ending is.after) _ [] form closing
-    (bind_to (end_at []) _ tt form end_read refl))))))))
+    (bind_to (nothing_at []) _ tt form nothing_read refl))))))))

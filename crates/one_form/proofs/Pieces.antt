@@ -2,12 +2,12 @@
 use Rattle.std.proofs.Common.{◌≡◌, ℕ, suc, ◌+◌, ◌^◌, ◌<◌, ◌≤◌, List, [], ◌∷◌, ◌++◌, length, take, drop, Bool, true, false, ◌&&◌, cond, refl, sym, ◌∙◌, ap, subst, arith, nat_lt, lt-ltb, lit≤, get_or, ◌*◌}
 use Rattle.std.specs.Prelude.{Option, Some, None, ◌==◌}
 use Rattle.std.specs.List.{AllPass, prefix_len, take_while, list_all}
-use Rattle.std.specs.Char.{digit_value, is_ascii_digit, is_ascii_alphabetic}
+use Rattle.std.specs.Char.{digit_value, is_ascii_digit}
 use Rattle.std.specs.Str.Parse.{digits_value}
 use Rattle.std.proofs.lemmas.Int.Digits.{digits_value_more}
 use Rattle.std.proofs.lemmas.Str.Parse.{digits_value-take-le}
 use Rattle.std.proofs.lemmas.Bool.Decides.{nat_tests}
-use Rattle.std.proofs.Math.Seq.{drop-append_seam, take-append_seam}
+use Rattle.std.proofs.Math.Seq.{take-append_seam}
 use Rattle.std.proofs.lemmas.List.Sums.{AllPass-from_list_all, prefix_len-le-length}
 use Rattle.one_form.specs.declared.lexer.Piece.{Piece}
 use Rattle.one_form.specs.declared.lexer.Piece.TheVariants.{End, Gap, Token, Stray}
@@ -15,7 +15,7 @@ use Rattle.one_form.specs.declared.tokens.Sign.{Sign}
 use Rattle.one_form.specs.declared.tokens.Kind.{Kind}
 use Rattle.one_form.specs.declared.tokens.Kind.TheVariants as kinds
 use Rattle.one_form.specs.Tokens.{Stops, IsLongest, IsGap, blank, comment, IsToken, name, number, sign, is_blank, is_comment, is_letter, is_name, name_of, sign_of}
-use Rattle.one_form.specs.Pieces.{word_of, number_of, name_piece, piece_of_number, number_piece, sign_piece, begins, begins_comment, comment_piece, piece_of}
+use Rattle.one_form.specs.Pieces.{word_of, number_of, name_piece, piece_of_number, number_piece, sign_piece, begins_comment, comment_piece, piece_of}
 
 -- ---- tests
 

@@ -1,5 +1,5 @@
 -- The tokens of a text compared with those of the form from left to right: the steps by which a form is read.
-use Rattle.std.specs.Prelude.{◌≡◌, ℕ, List, [], ◌∷◌, Bool, true, false, ◌==◌, Option, Some, None, Result, Ok, Err, if◌then◌else◌}
+use Rattle.std.specs.Prelude.{◌≡◌, ℕ, List, [], ◌∷◌, Bool, false, ◌==◌, Option, Some, None, Result, Ok, Err, if◌then◌else◌}
 use denote.Enum.Bare.{sameb}
 use Rattle.one_form.specs.contracts.tokens.Name as name_enum
 use Rattle.one_form.specs.contracts.tokens.Sign as sign_enum
@@ -55,9 +55,9 @@ second_at [] = None
 second_at (token ∷ tokens) = if same_kind token.kind (Name names.Second) then Some (token.place, tokens) else None
 
 -- nothing follows
-unfoldable pub end_at : List Token → Option (Unit {0})
-end_at [] = Some tt
-end_at (token ∷ tokens) = None
+unfoldable pub nothing_at : List Token → Option (Unit {0})
+nothing_at [] = Some tt
+nothing_at (token ∷ tokens) = None
 
 -- what the tokens of the form say
 unfoldable pub form_of : List Token → Option Form
@@ -70,7 +70,7 @@ form_of tokens = do
   rest ← after_kinds proof right.1
   second ← second_at rest
   rest ← after_kinds ending second.1
-  _ ← end_at rest
+  _ ← nothing_at rest
   Some (record { claimed = claimed.0; left = left.0; right = right.0; place = second.0 })
 
 -- What a function returned, seen by view, is what reading gives.

@@ -14,8 +14,8 @@ use crate::tokens::{Kind, Name, Sign, Token};
 use htt_words::SyntaxKind;
 use std::alloc::Global;
 
-/// What stands at the front of a text: a gap or a token, each with the number of its bytes, a byte
-/// with which neither begins, or nothing.
+/// What stands at the front of a text: a gap or a token, each with the number of its bytes, bytes
+/// that begin neither, with the reason, or nothing.
 #[derive(Clone, Copy, Debug, PartialEq, Eq)]
 pub enum Piece {
     End,

@@ -2,10 +2,10 @@
 //! the front and answers with the tokens that follow, or, where something else stands there, with
 //! the tokens from that one on, so that the refusal can name its place.
 
-ghost use Rattle.std.specs.Prelude.{◌≡◌, ◌++◌, IfOk, IfErr};
+ghost use Rattle.std.specs.Prelude.{◌≡◌, IfOk, IfErr};
 ghost use Rattle.one_form.specs.declared.parser.FormStop.TheVariants.{NoMemory};
-ghost use Rattle.one_form.specs.Form.{IsText, Refuses, opening, body, proof, ending};
-ghost use Rattle.one_form.specs.Matching.{Gives, same_kind, after_kind, after_kinds, number_at, addend_at, second_at, end_at, form_of};
+ghost use Rattle.one_form.specs.Form.{IsText, Refuses};
+ghost use Rattle.one_form.specs.Matching.{Gives, same_kind, after_kind, after_kinds, number_at, addend_at, second_at, nothing_at, form_of};
 
 use crate::lexer::tokens_of;
 use crate::tokens::{Kind, Name, Sign, Token};
@@ -155,9 +155,9 @@ fn second_at(tokens: &[Token]) -> Result<(u64, &[Token]), &[Token]>
     }
 }
 
-#[tactic(auto, unfolding(crate::specs::Matching::end_at))]
-fn end_at(tokens: &[Token]) -> Result<(), &[Token]>
-    ensures { Gives (λ _. tt) result (end_at tokens.now) }
+#[tactic(auto, unfolding(crate::specs::Matching::nothing_at))]
+fn nothing_at(tokens: &[Token]) -> Result<(), &[Token]>
+    ensures { Gives (λ _. tt) result (nothing_at tokens.now) }
 {
     match tokens {
         [] => Ok(()),
@@ -177,7 +177,7 @@ fn form_of(tokens: &[Token]) -> Result<Form, &[Token]>
     let rest = after_kinds(rest, &PROOF)?;
     let (place, rest) = second_at(rest)?;
     let rest = after_kinds(rest, &ENDING)?;
-    end_at(rest)?;
+    nothing_at(rest)?;
     Ok(Form {
         claimed,
         left,

@@ -1,4 +1,4 @@
-use Rattle.std.proofs.Common.{List, [], ◌∷◌, refl, lit<}
+use Rattle.std.proofs.Common.{[], refl, lit<}
 use Rattle.std.specs.Prelude.{codes}
 use Rattle.one_form.specs.Tokens.{ends, gap, token, blank, comment, name, number}
 use Rattle.one_form.proofs.laws.example_reading.Goals as goal

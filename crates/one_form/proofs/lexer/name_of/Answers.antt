@@ -1,4 +1,4 @@
-use Rattle.std.proofs.Common.{rules, ◌≡◌, length, ℕ, arith, sym, ap, refl}
+use Rattle.std.proofs.Common.{rules, arith, sym, ap}
 use Rattle.std.specs.Prelude.{codes}
 use Rattle.std.proofs.lemmas.Slice.Eq.{text_from_reads}
 use Rattle.one_form.specs.Tokens.{name_of}

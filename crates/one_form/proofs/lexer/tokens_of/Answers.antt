@@ -1,6 +1,5 @@
-use Rattle.std.proofs.Common.{◌≡◌, ◌+◌, sym, ap, subst, ◌∙◌, arith, length, is_ok}
+use Rattle.std.proofs.Common.{◌+◌, sym, ap, subst, arith, is_ok}
 use Rattle.std.proofs.ResultArms.{chosen}
-use Rattle.one_form.specs.declared.lexer.Piece.TheVariants.{End, Gap, Token, Stray}
 use Rattle.one_form.proofs.Cutting.{Cutting, cutting_gap, cutting_token, cutting_end, cutting_stray, gap_within, token_within, piece_at}
 use Rattle.one_form.proofs.lexer.tokens_of.Goals as goal
 

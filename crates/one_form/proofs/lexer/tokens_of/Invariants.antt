@@ -1,4 +1,4 @@
-use Rattle.std.proofs.Common.{◌-◌, ◌+◌, suc, length}
+use Rattle.std.proofs.Common.{◌-◌, suc, length}
 use Rattle.one_form.proofs.Cutting.{Cutting}
 use Rattle.one_form.proofs.lexer.tokens_of.Given as goal
 

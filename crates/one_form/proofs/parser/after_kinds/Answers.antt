@@ -1,4 +1,4 @@
-use Rattle.std.proofs.Common.{rules, ◌≡◌, sym, ◌∙◌, arith}
+use Rattle.std.proofs.Common.{sym, ◌∙◌, arith}
 use Rattle.one_form.proofs.Matching.{after_kinds-step, after_kinds-fails, after_kinds-end, Gives-none}
 use Rattle.one_form.proofs.parser.after_kinds.Goals as goal
 

@@ -1,4 +1,4 @@
-use Rattle.std.proofs.Common.{◌≡◌, sym, ap, ◌∙◌, subst}
+use Rattle.std.proofs.Common.{sym, ap, ◌∙◌}
 use Rattle.one_form.specs.Matching.{form_of}
 use Rattle.one_form.proofs.Cutting.{one_reading}
 use Rattle.one_form.proofs.Matching.{form_told, form_read}
