@@ -136,3 +136,11 @@ mutual
   pub data BlockTree : Type 0 where
     b_then : StmtTree → BlockTree → BlockTree
     b_end : ProofTree → BlockTree
+
+-- How many variables a statement adds for what follows it.
+unfoldable pub binders_of : StmtTree → ℕ
+binders_of d_intro = 0
+binders_of d_gen = 1
+binders_of (d_have formula proof) = 0
+binders_of (d_open proof) = 1
+binders_of (d_at at stmt) = binders_of stmt

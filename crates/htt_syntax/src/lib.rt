@@ -1,7 +1,6 @@
 //! The trees of the language, and the words in which its refusals are told.
 #![tactic(auto)]
 
-pub mod build;
 mod mono;
 mod proof;
 mod sequent;

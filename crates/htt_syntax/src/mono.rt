@@ -3,7 +3,7 @@
 use sqlite_items::Boxed;
 
 /// A monotype.
-#[derive(Debug, Drop)]
+#[derive(Drop)]
 pub enum Mono {
     Word,
     Bool,

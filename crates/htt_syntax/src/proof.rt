@@ -6,7 +6,7 @@ use htt_seq::Seq;
 use sqlite_items::Boxed;
 
 /// What a quantified formula or an axiom is used at.
-#[derive(Debug, Drop)]
+#[derive(Drop)]
 pub enum Arg {
     Heap(u32),
     Term(Term),
@@ -14,7 +14,7 @@ pub enum Arg {
 
 /// A proof. A motive is a formula that stands under one variable.
 #[cycle(proof)]
-#[derive(Debug, Drop)]
+#[derive(Drop)]
 pub enum Proof {
     /// The hypothesis at this place in the list of hypotheses, counted from 0.
     Hyp(u32),
@@ -51,7 +51,7 @@ pub enum Proof {
 
 /// A statement of a block.
 #[cycle(proof)]
-#[derive(Debug, Drop)]
+#[derive(Drop)]
 pub enum Stmt {
     Intro,
     Gen,

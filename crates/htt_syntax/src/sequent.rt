@@ -5,7 +5,7 @@ use crate::tree::{Formula, Term, Ty};
 use htt_seq::Seq;
 
 /// An entry of a context.
-#[derive(Debug, Drop)]
+#[derive(Drop)]
 pub enum Entry {
     Mono,
     Term(Ty),
@@ -14,7 +14,7 @@ pub enum Entry {
 
 /// A goal under hypotheses. The outermost entry of the context comes first, and each entry stands
 /// under those before it.
-#[derive(Debug, Drop)]
+#[derive(Drop)]
 pub struct Sequent {
     pub context: Seq<Entry>,
     pub hyps: Seq<Formula>,
@@ -23,7 +23,7 @@ pub struct Sequent {
 
 /// What a phrase may name: the entries around it, the types of the values, the definitions with
 /// their types, and the recursive predicates.
-#[derive(Debug, Drop)]
+#[derive(Drop)]
 pub struct Env {
     pub entries: Seq<Entry>,
     pub vals: Seq<Ty>,
@@ -34,7 +34,7 @@ pub struct Env {
 /// A recursive predicate: the monotypes of its parameters, what it says at index 0, and what it
 /// says at an index above. `zero` stands under the parameters and then the heap, `next` under the
 /// index less one, the parameters and then the heap.
-#[derive(Debug, Drop)]
+#[derive(Drop)]
 pub struct RecPred {
     pub params: Seq<Mono>,
     pub zero: Formula,

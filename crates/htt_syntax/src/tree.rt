@@ -9,7 +9,7 @@ use sqlite_items::Boxed;
 
 /// A type.
 #[cycle(tree)]
-#[derive(Debug, Drop)]
+#[derive(Drop)]
 pub enum Ty {
     Mono(Mono),
     /// A function; the second type stands under the argument.
@@ -23,7 +23,7 @@ pub enum Ty {
 /// What a computation needs, answers and leaves. `pre` stands under the heap `mem`; `post` under
 /// the result, then the heaps `init` and `mem`.
 #[cycle(tree)]
-#[derive(Debug, Drop)]
+#[derive(Drop)]
 pub struct Triple {
     pub pre: Formula,
     pub result: Mono,
@@ -32,7 +32,7 @@ pub struct Triple {
 
 /// A term.
 #[cycle(tree)]
-#[derive(Debug, Drop)]
+#[derive(Drop)]
 pub enum Term {
     Var(u32),
     /// The value declared at this place in the list of values, counted from 0.
@@ -70,7 +70,7 @@ pub enum Term {
 /// A recursive function. `at` is the byte of its keyword. Each parameter stands under those before
 /// it, `triple` under all of them, and `body` under all of them and then the function itself.
 #[cycle(tree)]
-#[derive(Debug, Drop)]
+#[derive(Drop)]
 pub struct Fix {
     pub at: u64,
     pub params: Seq<Ty>,
@@ -81,7 +81,7 @@ pub struct Fix {
 /// A computation. Each step stands under the variables that the steps before it bind, one each,
 /// and `result` under those of all of them.
 #[cycle(tree)]
-#[derive(Debug, Drop)]
+#[derive(Drop)]
 pub struct Comp {
     pub steps: Seq<Step>,
     pub result: Term,
@@ -89,7 +89,7 @@ pub struct Comp {
 
 /// A step of a computation. What it answers is bound for what follows.
 #[cycle(tree)]
-#[derive(Debug, Drop)]
+#[derive(Drop)]
 pub enum Step {
     /// Runs a computation. In a canonical tree it has the monotype of the result.
     Run(Term, Option<Mono>),
@@ -109,7 +109,7 @@ pub enum Step {
 
 /// A formula over terms and heaps. A heap is named by its index.
 #[cycle(tree)]
-#[derive(Debug, Drop)]
+#[derive(Drop)]
 pub enum Formula {
     Tt,
     Ff,

@@ -6,9 +6,8 @@ ghost use Rattle.htt_syntax.specs.declared.mono.Mono.TheVariants as vmono;
 ghost use Rattle.htt_syntax.specs.declared.tree.Ty.{Ty};
 ghost use Rattle.htt_syntax.specs.declared.tree.Ty.TheVariants as vty;
 
-use crate::mono::Mono;
-use crate::tree::{Formula, Triple, Ty};
 use htt_seq::both;
+use htt_syntax::{Formula, Mono, Triple, Ty};
 use sqlite_items::Boxed;
 use std::alloc::AllocError;
 
@@ -34,7 +33,9 @@ pub fn ty_fun(
     argument: Result<Boxed<Ty>, AllocError>,
     answer: Result<Boxed<Ty>, AllocError>,
 ) -> Result<Ty, AllocError>
-    ensures made { IfOk result (λ t. (x : Ty) × (y : Ty) × (argument ≡ Ok x) × (answer ≡ Ok y) × (t ≡ vty.Fun x y)) }
+    ensures made { IfOk result (λ t. (x : Ty) × (y : Ty)
+        × (argument ≡ Ok x) × (answer ≡ Ok y)
+        × (t ≡ vty.Fun x y)) }
 {
     both(argument, answer).map(|(argument, answer)| Ty::Fun(argument, answer))
 }

@@ -6,9 +6,8 @@ ghost use Rattle.htt_syntax.specs.declared.tree.Term.{Term};
 ghost use Rattle.htt_syntax.specs.declared.tree.Formula.{Formula};
 ghost use Rattle.htt_syntax.specs.declared.tree.Formula.TheVariants as vformula;
 
-use crate::mono::Mono;
-use crate::tree::{Formula, Term};
 use htt_seq::{Seq, both};
+use htt_syntax::{Formula, Mono, Term};
 use sqlite_items::Boxed;
 use std::alloc::AllocError;
 
@@ -17,7 +16,9 @@ pub fn formula_and(
     left: Result<Boxed<Formula>, AllocError>,
     right: Result<Boxed<Formula>, AllocError>,
 ) -> Result<Formula, AllocError>
-    ensures made { IfOk result (λ t. (x : Formula) × (y : Formula) × (left ≡ Ok x) × (right ≡ Ok y) × (t ≡ vformula.And x y)) }
+    ensures made { IfOk result (λ t. (x : Formula) × (y : Formula)
+        × (left ≡ Ok x) × (right ≡ Ok y)
+        × (t ≡ vformula.And x y)) }
 {
     both(left, right).map(|(left, right)| Formula::And(left, right))
 }
@@ -27,7 +28,9 @@ pub fn formula_or(
     left: Result<Boxed<Formula>, AllocError>,
     right: Result<Boxed<Formula>, AllocError>,
 ) -> Result<Formula, AllocError>
-    ensures made { IfOk result (λ t. (x : Formula) × (y : Formula) × (left ≡ Ok x) × (right ≡ Ok y) × (t ≡ vformula.Or x y)) }
+    ensures made { IfOk result (λ t. (x : Formula) × (y : Formula)
+        × (left ≡ Ok x) × (right ≡ Ok y)
+        × (t ≡ vformula.Or x y)) }
 {
     both(left, right).map(|(left, right)| Formula::Or(left, right))
 }
@@ -37,7 +40,9 @@ pub fn formula_imp(
     left: Result<Boxed<Formula>, AllocError>,
     right: Result<Boxed<Formula>, AllocError>,
 ) -> Result<Formula, AllocError>
-    ensures made { IfOk result (λ t. (x : Formula) × (y : Formula) × (left ≡ Ok x) × (right ≡ Ok y) × (t ≡ vformula.Imp x y)) }
+    ensures made { IfOk result (λ t. (x : Formula) × (y : Formula)
+        × (left ≡ Ok x) × (right ≡ Ok y)
+        × (t ≡ vformula.Imp x y)) }
 {
     both(left, right).map(|(left, right)| Formula::Imp(left, right))
 }
@@ -47,7 +52,9 @@ pub fn formula_all_t(
     mono: Result<Mono, AllocError>,
     body: Result<Boxed<Formula>, AllocError>,
 ) -> Result<Formula, AllocError>
-    ensures made { IfOk result (λ t. (x : Mono) × (y : Formula) × (mono ≡ Ok x) × (body ≡ Ok y) × (t ≡ vformula.AllT x y)) }
+    ensures made { IfOk result (λ t. (x : Mono) × (y : Formula)
+        × (mono ≡ Ok x) × (body ≡ Ok y)
+        × (t ≡ vformula.AllT x y)) }
 {
     both(mono, body).map(|(mono, body)| Formula::AllT(mono, body))
 }
@@ -57,7 +64,9 @@ pub fn formula_ex_t(
     mono: Result<Mono, AllocError>,
     body: Result<Boxed<Formula>, AllocError>,
 ) -> Result<Formula, AllocError>
-    ensures made { IfOk result (λ t. (x : Mono) × (y : Formula) × (mono ≡ Ok x) × (body ≡ Ok y) × (t ≡ vformula.ExT x y)) }
+    ensures made { IfOk result (λ t. (x : Mono) × (y : Formula)
+        × (mono ≡ Ok x) × (body ≡ Ok y)
+        × (t ≡ vformula.ExT x y)) }
 {
     both(mono, body).map(|(mono, body)| Formula::ExT(mono, body))
 }
@@ -90,7 +99,9 @@ pub fn formula_cell(
     place: Result<Term, AllocError>,
     value: Result<Term, AllocError>,
 ) -> Result<Formula, AllocError>
-    ensures made { IfOk result (λ t. (x : Mono) × (y : ℕ) × (z : Term) × (w : Term) × (mono ≡ Ok x) × (heap ≡ Ok y) × (place ≡ Ok z) × (value ≡ Ok w) × (t ≡ vformula.Cell x y z w)) }
+    ensures made { IfOk result (λ t. (x : Mono) × (y : ℕ) × (z : Term) × (w : Term)
+        × (mono ≡ Ok x) × (heap ≡ Ok y) × (place ≡ Ok z) × (value ≡ Ok w)
+        × (t ≡ vformula.Cell x y z w)) }
 {
     both(both(mono, heap), both(place, value)).map(|((mono, heap), (place, value))| Formula::Cell(
         mono, heap, place, value,
@@ -103,7 +114,9 @@ pub fn formula_block(
     heap: Result<u32, AllocError>,
     place: Result<Term, AllocError>,
 ) -> Result<Formula, AllocError>
-    ensures made { IfOk result (λ t. (x : Mono) × (y : ℕ) × (z : Term) × (mono ≡ Ok x) × (heap ≡ Ok y) × (place ≡ Ok z) × (t ≡ vformula.Block x y z)) }
+    ensures made { IfOk result (λ t. (x : Mono) × (y : ℕ) × (z : Term)
+        × (mono ≡ Ok x) × (heap ≡ Ok y) × (place ≡ Ok z)
+        × (t ≡ vformula.Block x y z)) }
 {
     both(mono, both(heap, place)).map(|(mono, (heap, place))| Formula::Block(mono, heap, place))
 }
@@ -114,7 +127,9 @@ pub fn formula_join(
     left: Result<u32, AllocError>,
     right: Result<u32, AllocError>,
 ) -> Result<Formula, AllocError>
-    ensures made { IfOk result (λ t. (x : ℕ) × (y : ℕ) × (z : ℕ) × (whole ≡ Ok x) × (left ≡ Ok y) × (right ≡ Ok z) × (t ≡ vformula.Join x y z)) }
+    ensures made { IfOk result (λ t. (x : ℕ) × (y : ℕ) × (z : ℕ)
+        × (whole ≡ Ok x) × (left ≡ Ok y) × (right ≡ Ok z)
+        × (t ≡ vformula.Join x y z)) }
 {
     both(whole, both(left, right)).map(|(whole, (left, right))| Formula::Join(whole, left, right))
 }
@@ -124,7 +139,9 @@ pub fn formula_same(
     left: Result<u32, AllocError>,
     right: Result<u32, AllocError>,
 ) -> Result<Formula, AllocError>
-    ensures made { IfOk result (λ t. (x : ℕ) × (y : ℕ) × (left ≡ Ok x) × (right ≡ Ok y) × (t ≡ vformula.Same x y)) }
+    ensures made { IfOk result (λ t. (x : ℕ) × (y : ℕ)
+        × (left ≡ Ok x) × (right ≡ Ok y)
+        × (t ≡ vformula.Same x y)) }
 {
     both(left, right).map(|(left, right)| Formula::Same(left, right))
 }
@@ -135,7 +152,9 @@ pub fn formula_eq(
     left: Result<Term, AllocError>,
     right: Result<Term, AllocError>,
 ) -> Result<Formula, AllocError>
-    ensures made { IfOk result (λ t. (x : Mono) × (y : Term) × (z : Term) × (mono ≡ Ok x) × (left ≡ Ok y) × (right ≡ Ok z) × (t ≡ vformula.Eq x y z)) }
+    ensures made { IfOk result (λ t. (x : Mono) × (y : Term) × (z : Term)
+        × (mono ≡ Ok x) × (left ≡ Ok y) × (right ≡ Ok z)
+        × (t ≡ vformula.Eq x y z)) }
 {
     both(mono, both(left, right)).map(|(mono, (left, right))| Formula::Eq(mono, left, right))
 }
@@ -157,7 +176,9 @@ pub fn formula_rec(
     place: Result<Term, AllocError>,
     arguments: Result<Seq<Term>, AllocError>,
 ) -> Result<Formula, AllocError>
-    ensures made { IfOk result (λ t. (x : ℕ) × (y : Term) × (z : List Term) × (heap ≡ Ok x) × (place ≡ Ok y) × (arguments ≡ Ok z) × (t ≡ vformula.Rec number x y z)) }
+    ensures made { IfOk result (λ t. (x : ℕ) × (y : Term) × (z : List Term)
+        × (heap ≡ Ok x) × (place ≡ Ok y) × (arguments ≡ Ok z)
+        × (t ≡ vformula.Rec number x y z)) }
 {
     both(heap, both(place, arguments)).map(|(heap, (place, arguments))| Formula::Rec(
         number, heap, place, arguments,

@@ -6,9 +6,8 @@ ghost use Rattle.htt_syntax.specs.declared.tree.Term.{Term};
 ghost use Rattle.htt_syntax.specs.declared.tree.Formula.{Formula};
 ghost use Rattle.htt_syntax.specs.declared.tree.Step.TheVariants as vstep;
 
-use crate::mono::Mono;
-use crate::tree::{Comp, Fix, Formula, Step, Term, Triple, Ty};
 use htt_seq::{Seq, both};
+use htt_syntax::{Comp, Fix, Formula, Mono, Step, Term, Triple, Ty};
 use std::alloc::AllocError;
 
 /// A `Fix` of its parts.
@@ -50,7 +49,9 @@ pub fn step_run(
     term: Result<Term, AllocError>,
     mono: Result<Option<Mono>, AllocError>,
 ) -> Result<Step, AllocError>
-    ensures made { IfOk result (λ t. (x : Term) × (y : Option Mono) × (term ≡ Ok x) × (mono ≡ Ok y) × (t ≡ vstep.Run x y)) }
+    ensures made { IfOk result (λ t. (x : Term) × (y : Option Mono)
+        × (term ≡ Ok x) × (mono ≡ Ok y)
+        × (t ≡ vstep.Run x y)) }
 {
     both(term, mono).map(|(term, mono)| Step::Run(term, mono))
 }
@@ -60,7 +61,9 @@ pub fn step_alloc(
     mono: Result<Mono, AllocError>,
     value: Result<Term, AllocError>,
 ) -> Result<Step, AllocError>
-    ensures made { IfOk result (λ t. (x : Mono) × (y : Term) × (mono ≡ Ok x) × (value ≡ Ok y) × (t ≡ vstep.Alloc x y)) }
+    ensures made { IfOk result (λ t. (x : Mono) × (y : Term)
+        × (mono ≡ Ok x) × (value ≡ Ok y)
+        × (t ≡ vstep.Alloc x y)) }
 {
     both(mono, value).map(|(mono, value)| Step::Alloc(mono, value))
 }
@@ -70,7 +73,9 @@ pub fn step_get(
     mono: Result<Mono, AllocError>,
     place: Result<Term, AllocError>,
 ) -> Result<Step, AllocError>
-    ensures made { IfOk result (λ t. (x : Mono) × (y : Term) × (mono ≡ Ok x) × (place ≡ Ok y) × (t ≡ vstep.Get x y)) }
+    ensures made { IfOk result (λ t. (x : Mono) × (y : Term)
+        × (mono ≡ Ok x) × (place ≡ Ok y)
+        × (t ≡ vstep.Get x y)) }
 {
     both(mono, place).map(|(mono, place)| Step::Get(mono, place))
 }
@@ -81,7 +86,9 @@ pub fn step_set(
     place: Result<Term, AllocError>,
     value: Result<Term, AllocError>,
 ) -> Result<Step, AllocError>
-    ensures made { IfOk result (λ t. (x : Mono) × (y : Term) × (z : Term) × (mono ≡ Ok x) × (place ≡ Ok y) × (value ≡ Ok z) × (t ≡ vstep.Set x y z)) }
+    ensures made { IfOk result (λ t. (x : Mono) × (y : Term) × (z : Term)
+        × (mono ≡ Ok x) × (place ≡ Ok y) × (value ≡ Ok z)
+        × (t ≡ vstep.Set x y z)) }
 {
     both(mono, both(place, value)).map(|(mono, (place, value))| Step::Set(mono, place, value))
 }
@@ -91,7 +98,9 @@ pub fn step_free(
     mono: Result<Mono, AllocError>,
     place: Result<Term, AllocError>,
 ) -> Result<Step, AllocError>
-    ensures made { IfOk result (λ t. (x : Mono) × (y : Term) × (mono ≡ Ok x) × (place ≡ Ok y) × (t ≡ vstep.Free x y)) }
+    ensures made { IfOk result (λ t. (x : Mono) × (y : Term)
+        × (mono ≡ Ok x) × (place ≡ Ok y)
+        × (t ≡ vstep.Free x y)) }
 {
     both(mono, place).map(|(mono, place)| Step::Free(mono, place))
 }

@@ -6,9 +6,8 @@ ghost use Rattle.htt_syntax.specs.declared.tree.Ty.{Ty};
 ghost use Rattle.htt_syntax.specs.declared.tree.Term.{Term};
 ghost use Rattle.htt_syntax.specs.declared.tree.Term.TheVariants as vterm;
 
-use crate::mono::{Mono, Op};
-use crate::tree::{Term, Ty};
 use htt_seq::{Seq, both};
+use htt_syntax::{Mono, Op, Term, Ty};
 use sqlite_items::Boxed;
 use std::alloc::AllocError;
 
@@ -17,7 +16,9 @@ pub fn term_app(
     function: Result<Boxed<Term>, AllocError>,
     argument: Result<Boxed<Term>, AllocError>,
 ) -> Result<Term, AllocError>
-    ensures made { IfOk result (λ t. (x : Term) × (y : Term) × (function ≡ Ok x) × (argument ≡ Ok y) × (t ≡ vterm.App x y)) }
+    ensures made { IfOk result (λ t. (x : Term) × (y : Term)
+        × (function ≡ Ok x) × (argument ≡ Ok y)
+        × (t ≡ vterm.App x y)) }
 {
     both(function, argument).map(|(function, argument)| Term::App(function, argument))
 }
@@ -27,7 +28,9 @@ pub fn term_inst(
     function: Result<Boxed<Term>, AllocError>,
     mono: Result<Mono, AllocError>,
 ) -> Result<Term, AllocError>
-    ensures made { IfOk result (λ t. (x : Term) × (y : Mono) × (function ≡ Ok x) × (mono ≡ Ok y) × (t ≡ vterm.Inst x y)) }
+    ensures made { IfOk result (λ t. (x : Term) × (y : Mono)
+        × (function ≡ Ok x) × (mono ≡ Ok y)
+        × (t ≡ vterm.Inst x y)) }
 {
     both(function, mono).map(|(function, mono)| Term::Inst(function, mono))
 }
@@ -51,7 +54,9 @@ pub fn term_pair(
     left: Result<Boxed<Term>, AllocError>,
     right: Result<Boxed<Term>, AllocError>,
 ) -> Result<Term, AllocError>
-    ensures made { IfOk result (λ t. (x : Term) × (y : Term) × (left ≡ Ok x) × (right ≡ Ok y) × (t ≡ vterm.Pair x y)) }
+    ensures made { IfOk result (λ t. (x : Term) × (y : Term)
+        × (left ≡ Ok x) × (right ≡ Ok y)
+        × (t ≡ vterm.Pair x y)) }
 {
     both(left, right).map(|(left, right)| Term::Pair(left, right))
 }
@@ -83,7 +88,9 @@ pub fn term_bin(
     left: Result<Boxed<Term>, AllocError>,
     right: Result<Boxed<Term>, AllocError>,
 ) -> Result<Term, AllocError>
-    ensures made { IfOk result (λ t. (x : Term) × (y : Term) × (left ≡ Ok x) × (right ≡ Ok y) × (t ≡ vterm.Bin op x y)) }
+    ensures made { IfOk result (λ t. (x : Term) × (y : Term)
+        × (left ≡ Ok x) × (right ≡ Ok y)
+        × (t ≡ vterm.Bin op x y)) }
 {
     both(left, right).map(|(left, right)| Term::Bin(op, left, right))
 }
@@ -94,7 +101,9 @@ pub fn term_eq(
     left: Result<Boxed<Term>, AllocError>,
     right: Result<Boxed<Term>, AllocError>,
 ) -> Result<Term, AllocError>
-    ensures made { IfOk result (λ t. (x : Mono) × (y : Term) × (z : Term) × (mono ≡ Ok x) × (left ≡ Ok y) × (right ≡ Ok z) × (t ≡ vterm.Eq x y z)) }
+    ensures made { IfOk result (λ t. (x : Mono) × (y : Term) × (z : Term)
+        × (mono ≡ Ok x) × (left ≡ Ok y) × (right ≡ Ok z)
+        × (t ≡ vterm.Eq x y z)) }
 {
     both(mono, both(left, right)).map(|(mono, (left, right))| Term::Eq(mono, left, right))
 }
@@ -103,14 +112,17 @@ pub fn term_eq(
 pub fn term_sel(
     mono: Result<Mono, AllocError>,
     test: Result<Boxed<Term>, AllocError>,
-    yes: Result<Boxed<Term>, AllocError>,
-    no: Result<Boxed<Term>, AllocError>,
+    on_true: Result<Boxed<Term>, AllocError>,
+    on_false: Result<Boxed<Term>, AllocError>,
 ) -> Result<Term, AllocError>
-    ensures made { IfOk result (λ t. (x : Mono) × (y : Term) × (z : Term) × (w : Term) × (mono ≡ Ok x) × (test ≡ Ok y) × (yes ≡ Ok z) × (no ≡ Ok w) × (t ≡ vterm.Sel x y z w)) }
+    ensures made { IfOk result (λ t. (x : Mono) × (y : Term) × (z : Term) × (w : Term)
+        × (mono ≡ Ok x) × (test ≡ Ok y) × (on_true ≡ Ok z) × (on_false ≡ Ok w)
+        × (t ≡ vterm.Sel x y z w)) }
 {
-    both(both(mono, test), both(yes, no)).map(|((mono, test), (yes, no))| Term::Sel(
-        mono, test, yes, no,
-    ))
+    both(both(mono, test), both(on_true, on_false)).map(|(
+        (mono, test),
+        (on_true, on_false),
+    )| Term::Sel(mono, test, on_true, on_false))
 }
 
 /// `Term::Ann` of its parts.
@@ -118,14 +130,18 @@ pub fn term_ann(
     term: Result<Boxed<Term>, AllocError>,
     ty: Result<Boxed<Ty>, AllocError>,
 ) -> Result<Term, AllocError>
-    ensures made { IfOk result (λ t. (x : Term) × (y : Ty) × (term ≡ Ok x) × (ty ≡ Ok y) × (t ≡ vterm.Ann x y)) }
+    ensures made { IfOk result (λ t. (x : Term) × (y : Ty)
+        × (term ≡ Ok x) × (ty ≡ Ok y)
+        × (t ≡ vterm.Ann x y)) }
 {
     both(term, ty).map(|(term, ty)| Term::Ann(term, ty))
 }
 
 /// `Term::Made` of its parts.
 pub fn term_made(number: u32, values: Result<Seq<Term>, AllocError>) -> Result<Term, AllocError>
-    ensures made { IfOk result (λ t. (x : List Term) × (values ≡ Ok x) × (t ≡ vterm.Made number x)) }
+    ensures made { IfOk result (λ t. (x : List Term)
+        × (values ≡ Ok x)
+        × (t ≡ vterm.Made number x)) }
 {
     values.map(|values| Term::Made(number, values))
 }

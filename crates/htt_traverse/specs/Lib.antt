@@ -1,0 +1,4 @@
+pub mod Walk
+pub mod WalkLevels
+pub mod Rising
+pub mod Kept
