@@ -1,10 +1,9 @@
 -- How an answer becomes due, and how its line is printed.
-use Rattle.std.proofs.Common.{ℕ, ◌≡◌, List, [], ◌∷◌, ◌++◌, Option, Some, None, Result, Ok, refl, sym, ap, map, length, get_or, arith, append-nil}
+use Rattle.std.proofs.Common.{ℕ, ◌≡◌, List, [], ◌∷◌, ◌++◌, Option, Some, None, Ok, refl, sym, ap, map, length, get_or, arith, append-nil}
 use Rattle.htt_base.specs.Outside.{Told, PutGives}
-use Rattle.htt_base.specs.declared.outside.PutStop.{PutStop}
 use Rattle.htt_top.specs.declared.answer.Answer.{Answer}
 use Rattle.htt_top.specs.declared.answer.Answer.TheVariants.{Value, NotInferred, Usage, Syntax, TooLong, ReadFault, NoMemory}
-use Rattle.htt_top.specs.Answers.{Asked, Opens, IsDueTo, Due, Printed, Appended, Began, Prints, status_of}
+use Rattle.htt_top.specs.Answers.{Asked, Opens, IsDueTo, Due, Printed, Appended, Prints, status_of}
 
 -- what is due to the bytes of the file is due to the command
 pub due_of_bytes : (a : Asked) (bytes : List ℕ) (answer : Answer) → Opens a bytes → IsDueTo bytes answer → Due a answer

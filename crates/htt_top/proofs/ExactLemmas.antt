@@ -1,24 +1,17 @@
 -- Two answers that are both due to a command are one.
-use Rattle.std.proofs.Common.{ℕ, ◌≡◌, ◌≢◌, ◌<◌, ◌≤◌, List, [], ◌∷◌, length, Option, Some, None, refl, sym, ◌∙◌, ap, subst, arith}
+use Rattle.std.proofs.Common.{ℕ, ◌≡◌, ◌≢◌, ◌<◌, List, length, Option, Some, refl, sym, ◌∙◌, ap, subst, arith}
 use Rattle.htt_base.specs.Outside.{Held, Told, Rose}
 use Rattle.htt_base.specs.declared.status.Status.{Status}
 use Rattle.htt_base.specs.declared.status.Status.TheVariants as status
 use Rattle.htt_words.specs.declared.words.SyntaxKind.{SyntaxKind}
 use Rattle.one_form.specs.declared.parser.Form.{Form}
 use Rattle.one_form.specs.Form.{IsText}
-use Rattle.one_form.specs.Matching.{form_of}
-use Rattle.one_form.proofs.Cutting.{one_reading}
-use Rattle.one_form.proofs.Matching.{form_read}
-use Rattle.std.proofs.lemmas.Option.{same_Some}
+use Rattle.one_form.proofs.Meaning.{one_form}
 use Rattle.htt_top.specs.declared.answer.Answer.{Answer}
 use Rattle.htt_top.specs.declared.answer.Answer.TheVariants.{Value, NotInferred, Usage, Syntax, TooLong, ReadFault, NoMemory}
-use Rattle.htt_top.specs.Words.{IsGo, HasNoForm}
+use Rattle.htt_top.specs.Words.{IsGo}
 use Rattle.htt_top.specs.Lines.{line_of}
-use Rattle.htt_top.specs.Answers.{Asked, Opens, IsDueTo, IsDueToForm, Due, Printed, Prints, Answers, AnswersExactly, IsUndisturbed, IsSameAnswer, Appended, status_of, file_limit, result_of}
-
-one_text : (bytes : List ℕ) (f g : Form) → IsText bytes f → IsText bytes g → f ≡ g
-one_text bytes f g is is_too =
-    same_Some f g (sym (form_read is.tokens f is.is) ∙ ap form_of (one_reading is_too.tokens is.reads is_too.reads) ∙ form_read is_too.tokens g is_too.is)
+use Rattle.htt_top.specs.Answers.{Asked, Opens, IsDueTo, Due, Printed, Prints, Answers, AnswersExactly, IsSameAnswer, Appended, status_of, file_limit, result_of}
 
 -- the words name one file
 one_name : (words : List (List ℕ)) (m n : List ℕ) → IsGo words m → IsGo words n → m ≡ n
@@ -55,21 +48,21 @@ module _ (a : Asked) (held : Held) (is_told : a.held ≡ Some held) (quiet : Ros
   value_value b c m n o q x y =
       let e = one_content b c o q in
       let z = subst (λ t. IsDueTo t (Value n)) (sym e) y in
-      let f : x.0 ≡ z.0 = one_text b x.0 z.0 x.1 z.1 in
+      let f : x.0 ≡ z.0 = one_form b x.0 z.0 x.1 z.1 in
       x.2.1 ∙ ap result_of f ∙ sym z.2.1
 
   both_places : (b c : List ℕ) (m n : ℕ) → Opens a b → Opens a c → IsDueTo b (NotInferred m) → IsDueTo c (NotInferred n) → m ≡ n
   both_places b c m n o q x y =
       let e = one_content b c o q in
       let z = subst (λ t. IsDueTo t (NotInferred n)) (sym e) y in
-      let f : x.0 ≡ z.0 = one_text b x.0 z.0 x.1 z.1 in
+      let f : x.0 ≡ z.0 = one_form b x.0 z.0 x.1 z.1 in
       x.2.1 ∙ ap (λ (g : Form). g.place) f ∙ sym z.2.1
 
   right_wrong : (b c : List ℕ) (m n : ℕ) → Opens a b → Opens a c → IsDueTo b (Value m) → IsDueTo c (NotInferred n) → ⊥
   right_wrong b c m n o q x y =
       let e = one_content b c o q in
       let z = subst (λ t. IsDueTo t (NotInferred n)) (sym e) y in
-      let f : x.0 ≡ z.0 = one_text b x.0 z.0 x.1 z.1 in
+      let f : x.0 ≡ z.0 = one_form b x.0 z.0 x.1 z.1 in
       z.2.0 (sym (ap (λ (g : Form). g.claimed) f) ∙ x.2.0 ∙ ap result_of f)
 
   form_no_form : (b c : List ℕ) (f : Form) (at : ℕ) (kind : SyntaxKind) → Opens a b → Opens a c → IsText b f → IsDueTo c (Syntax at kind) → ⊥

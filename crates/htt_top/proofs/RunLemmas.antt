@@ -1,15 +1,15 @@
 -- The code for a number halts with this number.
-use Rattle.std.proofs.Common.{ℕ, ◌≡◌, ◌+◌, [], ◌∷◌, refl, sym, ap, ◌∙◌}
+use Rattle.std.proofs.Common.{ℕ, ◌≡◌, [], ◌∷◌, refl, ap, ◌∙◌}
 use Rattle.word_machine.specs.declared.code.Code.{Code}
 use Rattle.word_machine.specs.declared.machine.End.{End}
 use Rattle.word_machine.specs.declared.machine.End.TheVariants.{Halted}
-use Rattle.word_machine.specs.Machine.{AtHalt, run_of, machine_after, end_of}
+use Rattle.word_machine.specs.Machine.{AtHalt, function_after, machine_after, end_of}
 use Rattle.word_machine.proofs.MachineLemmas.{halt_is_final_lem}
 use Rattle.htt_top.specs.Code.{code_of}
 
 -- after its two instructions the machine has halted
 code_of-halts : (n : ℕ) → machine_after (code_of n) 2 ≡ AtHalt (n ∷ [])
-unfolding run_of
+unfolding function_after
 code_of-halts n = refl
 
 -- and so it has at the limit

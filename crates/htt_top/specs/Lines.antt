@@ -1,5 +1,5 @@
 -- The line that each answer prints.
-use Rattle.std.specs.Prelude.{ℕ, ◌++◌, List, [], ◌∷◌, codes}
+use Rattle.std.specs.Prelude.{ℕ, ◌++◌, List, codes}
 use Rattle.std.specs.Fmt.{decimal}
 use Rattle.htt_words.specs.declared.words.SyntaxKind.{SyntaxKind}
 use Rattle.htt_words.specs.declared.words.SyntaxKind.TheVariants.{Utf8, Char, Literal, Token, Unbound, Duplicate, Sort}

@@ -1,5 +1,5 @@
 use Rattle.htt_base.specs.Outside.{Held, Told, ReadGives}
-use Rattle.std.proofs.Common.{ℕ, List, Option, Some, None, Vec, ◌≡◌, Ok, rules, sym}
+use Rattle.std.proofs.Common.{ℕ, List, Option, Some, None, Vec, ◌≡◌, Ok, sym}
 use Rattle.std.specs.Global.{Global}
 use Rattle.htt_top.proofs.AnswerLemmas.{due_of_bytes}
 use Rattle.htt_top.proofs.command.answer.Goals as goal

@@ -1,5 +1,5 @@
-use Rattle.std.proofs.Common.{◌≡◌, ◌∷◌, [], codes, true, sym, ◌∙◌, nat_eq, string_bytes, Bool, false, not, refl, ap, arith}
-use Rattle.std.specs.Cmp.Lexicographic.{pointwise, bytes_decides}
+use Rattle.std.proofs.Common.{◌≡◌, codes, true, string_bytes, Bool, false, not, refl, arith}
+use Rattle.std.specs.Cmp.Lexicographic.{bytes_decides}
 use Rattle.htt_top.proofs.AnswerLemmas.{map_two}
 use Rattle.htt_top.proofs.command.file_name.Goals as goal
 

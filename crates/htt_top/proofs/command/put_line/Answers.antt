@@ -1,5 +1,5 @@
 use Rattle.htt_top.proofs.AnswerLemmas.{appended_done, prints_appended}
-use Rattle.std.proofs.Common.{rules, sym}
+use Rattle.std.proofs.Common.{sym}
 use Rattle.htt_top.proofs.command.put_line.Goals as goal
 
 pub returns-in-Ok : goal.returns-in-Ok

@@ -1,5 +1,4 @@
 use Rattle.std.proofs.Common.{rules, ◌≡◌, ◌<◌, length, ◌∷◌, [], arith, refl}
-use Rattle.word_machine.specs.declared.machine.End.TheVariants.{Halted}
 use Rattle.htt_top.proofs.RunLemmas.{run-code_of}
 use Rattle.htt_top.proofs.go.value.Goals as goal
 
