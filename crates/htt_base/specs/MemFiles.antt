@@ -23,6 +23,12 @@ file_contents f = contents_of f.entries.items
 abbrev pub read_names : MemFiles → List (List ℕ)
 read_names f = map string_bytes f.reads.items
 
+abbrev pub read_fault_count : MemFiles → ℕ
+read_fault_count f = f.read_faults
+
+abbrev pub write_fault_count : MemFiles → ℕ
+write_fault_count f = f.write_faults
+
 -- the number of the next call, counted from 0 over all calls
 abbrev pub next_call : MemFiles → ℕ
 next_call f = f.calls

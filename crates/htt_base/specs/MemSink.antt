@@ -5,6 +5,9 @@ use Rattle.htt_base.specs.declared.mem_sink.MemSink.{MemSink}
 abbrev pub sink_bytes : MemSink → List ℕ
 sink_bytes s = s.bytes.items
 
+abbrev pub fault_count : MemSink → ℕ
+fault_count s = s.faults
+
 -- the number of the next call, counted from 0
 abbrev pub next_put : MemSink → ℕ
 next_put s = s.calls

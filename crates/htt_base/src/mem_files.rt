@@ -2,8 +2,8 @@
 //! and then notes its name, since noting takes memory, and a name that isn't noted wasn't read.
 
 ghost use Rattle.std.specs.Prelude.{◌≡◌, ◌≤◌, ◌++◌, ◌∷◌, ◌⊎◌, ◌↔◌, [], Some, None, map, string_bytes, option_copied, IfOk, OnOk, OnErr, IsErrOf, IsTrue, find, reverse, length, Contains};
-ghost use Rattle.htt_base.specs.Outside.{IsRead, WriteGives, one_more, names_after, read_faults_after, write_faults_after, ReadGives, NotesName, CountsRead, CountsWrite};
-ghost use Rattle.htt_base.specs.MemFiles.{contents_of, is_named, file_contents, read_names, next_call, failing_calls, FailsNext, Appends};
+ghost use Rattle.htt_base.specs.Outside.{IsRead, IsWritten, one_more, names_after, read_faults_after, write_faults_after, ReadGives, NotesName, CountsRead, CountsWrite};
+ghost use Rattle.htt_base.specs.MemFiles.{contents_of, is_named, file_contents, read_names, read_fault_count, write_fault_count, next_call, failing_calls, FailsNext, Appends};
 
 use crate::outside::{Files, ReadStop, WriteStop};
 use std::alloc::{AllocError, Global};
@@ -91,7 +91,8 @@ fn store(
 }
 
 fn note(alloc: Global, reads: &mut Vec<String>, name: &str) -> Result<(), AllocError>
-    ensures ok { OnOk result (map string_bytes reads.new.items ≡ map string_bytes reads.old.items ++ name.now ∷ []) }
+    ensures ok { OnOk result (map string_bytes reads.new.items
+        ≡ map string_bytes reads.old.items ++ name.now ∷ []) }
     ensures err { OnErr result (reads.new.items ≡ reads.old.items) }
 {
     reads.push(String::from_str(alloc, name)?)?;
@@ -127,19 +128,22 @@ impl Files for MemFiles {
 
     ghost reads = { λ f. Some (read_names f) };
 
-    ghost read_faults = { λ f. f.read_faults };
+    ghost read_faults = { read_fault_count };
 
-    ghost write_faults = { λ f. f.write_faults };
+    ghost write_faults = { write_fault_count };
 
     fn read(&mut self, alloc: Global, name: &str, max: u64) -> Result<Vec<u8>, ReadStop>
         ensures gives { IsRead (file_contents self.old) name.now max result }
         ensures within { IfOk result (λ v. length v.items ≤ max) }
-        ensures fails { FailsNext self.old → IsErrOf result ReadStop.Failed ⊎ IsErrOf result ReadStop.NoMemory }
-        ensures failed { IsErrOf result ReadStop.Failed → FailsNext self.old ⊎ (file_contents self.old name.now ≡ None) }
+        ensures fails { FailsNext self.old
+            → IsErrOf result ReadStop.Failed ⊎ IsErrOf result ReadStop.NoMemory }
+        ensures failed { IsErrOf result ReadStop.Failed
+            → FailsNext self.old ⊎ (file_contents self.old name.now ≡ None) }
         ensures notes { read_names self.new ≡ names_after (read_names self.old) name.now result }
-        ensures counts { CountsRead (⟦<MemFiles as Files>⟧.read_faults self.old) (⟦<MemFiles as Files>⟧.read_faults self.new) result }
-        ensures read_faults { ⟦<MemFiles as Files>⟧.read_faults self.new ≡ read_faults_after (⟦<MemFiles as Files>⟧.read_faults self.old) result }
-        ensures write_faults { ⟦<MemFiles as Files>⟧.write_faults self.new ≡ ⟦<MemFiles as Files>⟧.write_faults self.old }
+        ensures counts { CountsRead (read_fault_count self.old) (read_fault_count self.new) result }
+        ensures read_faults { read_fault_count self.new
+            ≡ read_faults_after (read_fault_count self.old) result }
+        ensures write_faults { write_fault_count self.new ≡ write_fault_count self.old }
         ensures held { file_contents self.new ≡ file_contents self.old }
         ensures next { next_call self.new ≡ one_more (next_call self.old) }
         ensures failing { failing_calls self.new ≡ failing_calls self.old }
@@ -162,12 +166,13 @@ impl Files for MemFiles {
     }
 
     fn write(&mut self, alloc: Global, name: &str, bytes: &[u8]) -> Result<(), WriteStop>
-        ensures gives { WriteGives (Some (file_contents self.old)) (Some (file_contents self.new)) name.now bytes.now result }
+        ensures gives { IsWritten (file_contents self.old) (file_contents self.new) name.now bytes.now result }
         ensures unchanged { OnErr result (file_contents self.new ≡ file_contents self.old) }
         ensures failed { IsErrOf result WriteStop.Failed ↔ FailsNext self.old }
-        ensures counts { CountsWrite (⟦<MemFiles as Files>⟧.write_faults self.old) (⟦<MemFiles as Files>⟧.write_faults self.new) result }
-        ensures write_faults { ⟦<MemFiles as Files>⟧.write_faults self.new ≡ write_faults_after (⟦<MemFiles as Files>⟧.write_faults self.old) result }
-        ensures read_faults { ⟦<MemFiles as Files>⟧.read_faults self.new ≡ ⟦<MemFiles as Files>⟧.read_faults self.old }
+        ensures counts { CountsWrite (write_fault_count self.old) (write_fault_count self.new) result }
+        ensures write_faults { write_fault_count self.new
+            ≡ write_faults_after (write_fault_count self.old) result }
+        ensures read_faults { read_fault_count self.new ≡ read_fault_count self.old }
         ensures reads { read_names self.new ≡ read_names self.old }
         ensures next { next_call self.new ≡ one_more (next_call self.old) }
         ensures failing { failing_calls self.new ≡ failing_calls self.old }

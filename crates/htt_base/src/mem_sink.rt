@@ -1,8 +1,8 @@
 //! A sink in memory, for tests: its calls fail by their numbers.
 
 ghost use Rattle.std.specs.Prelude.{◌≡◌, ◌+◌, ◌↔◌, [], Some, IsErrOf, IsTrue, OnErr, Contains, length};
-ghost use Rattle.htt_base.specs.Outside.{PutGives, CountsPut, one_more, put_faults_after};
-ghost use Rattle.htt_base.specs.MemSink.{sink_bytes, next_put, failing_puts, FailsNext};
+ghost use Rattle.htt_base.specs.Outside.{IsPut, CountsPut, one_more, put_faults_after};
+ghost use Rattle.htt_base.specs.MemSink.{sink_bytes, fault_count, next_put, failing_puts, FailsNext};
 
 use crate::outside::{PutStop, Sink};
 use std::alloc::Global;
@@ -45,14 +45,14 @@ impl MemSink {
 impl Sink for MemSink {
     ghost written = { λ s. Some (sink_bytes s) };
 
-    ghost faults = { λ s. s.faults };
+    ghost faults = { fault_count };
 
     fn put(&mut self, _alloc: Global, bytes: &[u8]) -> Result<(), PutStop>
-        ensures gives { PutGives (Some (sink_bytes self.old)) (Some (sink_bytes self.new)) bytes.now result }
+        ensures gives { IsPut (sink_bytes self.old) (sink_bytes self.new) bytes.now result }
         ensures failed { IsErrOf result PutStop.Failed ↔ FailsNext self.old }
         ensures unchanged { OnErr result (sink_bytes self.new ≡ sink_bytes self.old) }
-        ensures counts { CountsPut (⟦<MemSink as Sink>⟧.faults self.old) (⟦<MemSink as Sink>⟧.faults self.new) result }
-        ensures faults { ⟦<MemSink as Sink>⟧.faults self.new ≡ put_faults_after (⟦<MemSink as Sink>⟧.faults self.old) result }
+        ensures counts { CountsPut (fault_count self.old) (fault_count self.new) result }
+        ensures faults { fault_count self.new ≡ put_faults_after (fault_count self.old) result }
         ensures next { next_put self.new ≡ one_more (next_put self.old) }
         ensures failing { failing_puts self.new ≡ failing_puts self.old }
     {

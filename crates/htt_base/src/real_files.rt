@@ -2,7 +2,7 @@
 //! than is asked for: that byte shows that the file is too long.
 
 ghost use Rattle.std.specs.Prelude.{◌≡◌, ◌≢◌, ◌<◌, ◌≤◌, None, IfOk, IfSome, IsErrOf, length};
-ghost use Rattle.htt_base.specs.Outside.{ReadGives, NotesName, CountsRead, WriteGives, CountsWrite, read_faults_after, write_faults_after};
+ghost use Rattle.htt_base.specs.Outside.{CountsRead, CountsWrite, read_faults_after, write_faults_after};
 
 use crate::outside::{Files, ReadStop, WriteStop};
 use std::alloc::Global;
@@ -42,13 +42,10 @@ fn read_up_to<F: Read + Drop>(file: F, alloc: Global, max: u64) -> Result<Vec<u8
 {
     let mut bytes = Vec::new(alloc);
     match file.take(max.saturating_add(1)).read_to_end(&mut bytes) {
-        Ok(_) => {}
-        Err(error) => return Err(stop_of(&error)),
+        Ok(_) if bytes.len() as u64 > max => Err(ReadStop::TooLong),
+        Ok(_) => Ok(bytes),
+        Err(error) => Err(stop_of(&error)),
     }
-    if bytes.len() as u64 > max {
-        return Err(ReadStop::TooLong);
-    }
-    Ok(bytes)
 }
 
 fn stop_of(error: &io::Error) -> ReadStop
@@ -71,9 +68,13 @@ impl<R: Runtime> Files for RealFiles<R> {
 
     fn read(&mut self, alloc: Global, name: &str, max: u64) -> Result<Vec<u8>, ReadStop>
         ensures within { IfOk result (λ v. length v.items ≤ max) }
-        ensures counts { CountsRead (⟦<RealFiles<R> as Files>⟧.read_faults self.old) (⟦<RealFiles<R> as Files>⟧.read_faults self.new) result }
-        ensures read_faults { ⟦<RealFiles<R> as Files>⟧.read_faults self.new ≡ read_faults_after (⟦<RealFiles<R> as Files>⟧.read_faults self.old) result }
-        ensures write_faults { ⟦<RealFiles<R> as Files>⟧.write_faults self.new ≡ ⟦<RealFiles<R> as Files>⟧.write_faults self.old }
+        ensures counts { CountsRead
+            (⟦<RealFiles<R> as Files>⟧.read_faults self.old)
+            (⟦<RealFiles<R> as Files>⟧.read_faults self.new) result }
+        ensures read_faults { ⟦<RealFiles<R> as Files>⟧.read_faults self.new
+            ≡ read_faults_after (⟦<RealFiles<R> as Files>⟧.read_faults self.old) result }
+        ensures write_faults { ⟦<RealFiles<R> as Files>⟧.write_faults self.new
+            ≡ ⟦<RealFiles<R> as Files>⟧.write_faults self.old }
     {
         let result = match fs::open(&self.rt, name) {
             Ok(file) => read_up_to(file, alloc, max),
@@ -86,9 +87,13 @@ impl<R: Runtime> Files for RealFiles<R> {
     }
 
     fn write(&mut self, _alloc: Global, name: &str, bytes: &[u8]) -> Result<(), WriteStop>
-        ensures counts { CountsWrite (⟦<RealFiles<R> as Files>⟧.write_faults self.old) (⟦<RealFiles<R> as Files>⟧.write_faults self.new) result }
-        ensures write_faults { ⟦<RealFiles<R> as Files>⟧.write_faults self.new ≡ write_faults_after (⟦<RealFiles<R> as Files>⟧.write_faults self.old) result }
-        ensures read_faults { ⟦<RealFiles<R> as Files>⟧.read_faults self.new ≡ ⟦<RealFiles<R> as Files>⟧.read_faults self.old }
+        ensures counts { CountsWrite
+            (⟦<RealFiles<R> as Files>⟧.write_faults self.old)
+            (⟦<RealFiles<R> as Files>⟧.write_faults self.new) result }
+        ensures write_faults { ⟦<RealFiles<R> as Files>⟧.write_faults self.new
+            ≡ write_faults_after (⟦<RealFiles<R> as Files>⟧.write_faults self.old) result }
+        ensures read_faults { ⟦<RealFiles<R> as Files>⟧.read_faults self.new
+            ≡ ⟦<RealFiles<R> as Files>⟧.read_faults self.old }
     {
         let done = match fs::create(&self.rt, name) {
             Ok(mut file) => file.write_all(bytes).is_ok(),

@@ -1,7 +1,7 @@
 //! Standard output of the runtime, as a sink that tells nothing of its content.
 
 ghost use Rattle.std.specs.Prelude.{◌≡◌, None};
-ghost use Rattle.htt_base.specs.Outside.{PutGives, CountsPut, put_faults_after};
+ghost use Rattle.htt_base.specs.Outside.{CountsPut, put_faults_after};
 
 use crate::outside::{PutStop, Sink};
 use std::alloc::Global;
@@ -32,9 +32,11 @@ impl<R: Runtime> Sink for RealSink<R> {
     ghost faults = { λ s. s.faults };
 
     fn put(&mut self, _alloc: Global, bytes: &[u8]) -> Result<(), PutStop>
-        ensures gives { PutGives (⟦<RealSink<R> as Sink>⟧.written self.old) (⟦<RealSink<R> as Sink>⟧.written self.new) bytes.now result }
-        ensures counts { CountsPut (⟦<RealSink<R> as Sink>⟧.faults self.old) (⟦<RealSink<R> as Sink>⟧.faults self.new) result }
-        ensures faults { ⟦<RealSink<R> as Sink>⟧.faults self.new ≡ put_faults_after (⟦<RealSink<R> as Sink>⟧.faults self.old) result }
+        ensures counts { CountsPut
+            (⟦<RealSink<R> as Sink>⟧.faults self.old)
+            (⟦<RealSink<R> as Sink>⟧.faults self.new) result }
+        ensures faults { ⟦<RealSink<R> as Sink>⟧.faults self.new
+            ≡ put_faults_after (⟦<RealSink<R> as Sink>⟧.faults self.old) result }
     {
         if io::writer(&self.rt).write_all(bytes).is_ok() {
             return Ok(());
