@@ -6,12 +6,16 @@ ghost use Rattle.htt_syntax.specs.Levels.{comp_tree};
 ghost use Rattle.htt_traverse.specs.Kept.{kept};
 
 use crate::action::Action;
+use crate::computations::walk_comp;
+use crate::formulas::walk_formula;
 use crate::mono::walk_mono;
-use crate::walk::{walk_comp, walk_formula, walk_term, walk_ty};
+use crate::terms::walk_term;
+use crate::types::walk_ty;
 use htt_syntax::{Comp, Formula, Mono, Term, Ty};
 use std::alloc::{AllocError, Global};
 
-struct Keep {}
+/// The action that puts each variable for itself.
+pub struct Keep {}
 
 impl Action for Keep {
     ghost puts = { λ keep. kept };

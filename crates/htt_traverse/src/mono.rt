@@ -6,7 +6,7 @@ ghost use Rattle.htt_traverse.specs.Walk.{walk_mono};
 
 use crate::action::Action;
 use htt_seq::boxed;
-use htt_syntax::{Mono, build};
+use htt_syntax::Mono;
 use sqlite_items::Boxed;
 use std::alloc::{AllocError, Global};
 
@@ -26,7 +26,7 @@ pub fn walk_mono<A: Action>(
         Mono::Bool => Ok(Mono::Bool),
         Mono::Loc => Ok(Mono::Loc),
         Mono::Unit => Ok(Mono::Unit),
-        Mono::Pair(left, right) => build::mono_pair(
+        Mono::Pair(left, right) => htt_build::mono_pair(
             mono_box(alloc, left, action, depth),
             mono_box(alloc, right, action, depth),
         ),
