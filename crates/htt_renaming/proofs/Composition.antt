@@ -39,6 +39,7 @@ option_joins m k l h (Some t) = λ j. Some (mono_joins m k l h t j)
 
 mutual
   unfolding rename_term
+
   pub ty_joins : (m k l : Map) → ((n : ℕ) → m (k n) ≡ l n) → (t : TyTree) → rename_ty m (rename_ty k t) ≡ rename_ty l t
   ty_joins m k l h (y_mono mono) = λ j. y_mono (mono_joins m k l h mono j)
   ty_joins m k l h (y_fun argument answer) = λ j. y_fun (ty_joins m k l h argument j) (ty_joins (lift m) (lift k) (lift l) (joins_lift m k l h) answer j)
@@ -129,6 +130,7 @@ monos_join m k l h (t ∷ ts) = λ j. mono_joins m k l h t j ∷ monos_join m k 
 
 mutual
   unfolding rename_proof
+
   pub proof_joins : (m k l : Map) → ((n : ℕ) → m (k n) ≡ l n) → (t : ProofTree) → rename_proof m (rename_proof k t) ≡ rename_proof l t
   proof_joins m k l h (p_hyp number) = refl
   proof_joins m k l h p_trivial = refl

@@ -28,6 +28,7 @@ option_stays m h (Some t) = λ j. Some (mono_stays m h t j)
 
 mutual
   unfolding rename_term
+
   pub ty_stays : (m : Map) → ((n : ℕ) → m n ≡ n) → (t : TyTree) → rename_ty m t ≡ t
   ty_stays m h (y_mono mono) = λ j. y_mono (mono_stays m h mono j)
   ty_stays m h (y_fun argument answer) = λ j. y_fun (ty_stays m h argument j) (ty_stays (lift m) (stays_lift m h) answer j)
@@ -118,6 +119,7 @@ monos_stay m h (t ∷ ts) = λ j. mono_stays m h t j ∷ monos_stay m h ts j
 
 mutual
   unfolding rename_proof
+
   pub proof_stays : (m : Map) → ((n : ℕ) → m n ≡ n) → (t : ProofTree) → rename_proof m t ≡ t
   proof_stays m h (p_hyp number) = refl
   proof_stays m h p_trivial = refl

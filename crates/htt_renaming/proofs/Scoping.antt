@@ -27,6 +27,7 @@ option_scoped m n k h (in_some d) = in_some (mono_scoped m n k h d)
 
 mutual
   unfolding rename_term
+
   pub ty_scoped : (m : Map) (n k : ℕ) → Sends m n k → {t : TyTree} → ScopedTy n t → ScopedTy k (rename_ty m t)
   ty_scoped m n k h (in_y_mono dm0) = in_y_mono (mono_scoped m n k h dm0)
   ty_scoped m n k h (in_y_fun da0 da1) = in_y_fun (ty_scoped m n k h da0) (ty_scoped (lift m) (suc n) (suc k) (sends_lift m n k h) da1)

@@ -6,8 +6,8 @@ mod proof;
 mod sequent;
 mod tree;
 
+pub use htt_words::{Bound, Kind, Rule, SyntaxKind, Which, Why};
 pub use mono::{Mono, Op};
 pub use proof::{Arg, Proof, Stmt};
 pub use sequent::{Entry, Env, RecPred, Sequent};
 pub use tree::{Comp, Fix, Formula, Step, Term, Triple, Ty};
-pub use htt_words::{Bound, Kind, Rule, SyntaxKind, Which, Why};
