@@ -22,7 +22,9 @@ pub struct Form {
     pub place: u64,
 }
 
-/// Why no form was read: the text has none, or memory ran out.
+/// Why no form was read: the text has none, or memory ran out. No clause speaks of `at` and `kind`.
+/// They tell where the text leaves the form: the end of its front that is UTF-8, the bytes that begin
+/// no token, the first token that is another, or the length of the text where it ends too early.
 #[derive(Clone, Copy, Debug, PartialEq, Eq)]
 pub enum FormStop {
     NotForm { at: u64, kind: SyntaxKind },
@@ -186,7 +188,8 @@ fn form_of(tokens: &[Token]) -> Result<Form, &[Token]>
     })
 }
 
-/// Reads a text of the form. A text that has not the form is refused at the byte where it leaves it.
+/// Reads a text of the form, of any length, in time linear in it. A text that hasn't the form, and no
+/// other, is answered by `NotForm`. Memory is taken for the tokens alone.
 pub fn read_form(alloc: Global, text: &[u8]) -> Result<Form, FormStop>
     ensures form { IfOk result (λ form. IsText text.now form) }
     ensures refused { IfErr result (λ stop. Refuses text.now stop) }
