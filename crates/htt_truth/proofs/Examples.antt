@@ -1,15 +1,14 @@
 -- The worked examples hold.
-use Rattle.std.proofs.Common.{◌≡◌, ℕ, zero, suc, List, [], ◌∷◌, length, get_or, Option, Some, None, refl, sym, ap, ◌∙◌, arith, ◌⊎◌, inl, inr}
-use Rattle.std.specs.Prelude.{Bool, true, false, ◌^◌, ◌<◌}
-use Rattle.htt_syntax.specs.Trees.{m_word, m_bool, FormulaTree, f_eq, t_var, t_bool}
-use Rattle.htt_values.specs.Values.{Value, v_word, v_bool, HasType, is_word, is_bool, is_loc, is_unit, is_pair, encoding}
-use Rattle.htt_values.specs.Heaps.{Block, Heap, single, IsOnly, IsEmpty}
+use Rattle.std.proofs.Common.{◌≡◌, [], ◌∷◌, length, get_or, Some, None, refl, sym, ap, ◌∙◌, arith, ◌⊎◌, inl, inr}
+use Rattle.std.specs.Prelude.{true, false, ◌^◌, ◌<◌}
+use Rattle.htt_syntax.specs.Trees.{m_bool}
+use Rattle.htt_values.specs.Values.{Value, v_word, v_bool, HasType, is_word, is_bool}
+use Rattle.htt_values.specs.Heaps.{Block, single, IsOnly, IsEmpty}
 use Rattle.htt_values.proofs.Joins.{single_is_only}
-use Rattle.htt_truth.specs.Worlds.{World, th_value}
 use Rattle.htt_truth.specs.TermValue.{term_value, term_values}
-use Rattle.htt_truth.specs.Truth.{NotNot, Recs, Holds}
-use Rattle.htt_truth.specs.Predicates.{recs_below, recs_of}
-use Rattle.htt_truth.specs.Examples.{w, none, doubles, twice_one, WorkedExamples}
+use Rattle.htt_truth.specs.Truth.{Holds}
+use Rattle.htt_truth.specs.Predicates.{recs_below}
+use Rattle.htt_truth.specs.Examples.{WorkedExamples}
 
 some_is_not_none : (b : Block) → Some b ≡ None → ⊥
 some_is_not_none b e = cc
@@ -39,12 +38,23 @@ four_is_word = omega arith
 pub worked : WorkedExamples
 unfolding Holds term_value term_values recs_below
 worked = record {
-  mono_variable = refl; sum_of_variable = refl; chosen_part = refl; equal_places = refl; eq_at_a_variable = refl;
-  equation = refl; no_equation = λ e. cc;
-  cell_holds = single_is_only 5 (7 ∷ []); other_word = other_block; other_place = other_place; not_empty = full;
+  mono_variable = refl;
+  sum_of_variable = refl;
+  chosen_part = refl;
+  equal_places = refl;
+  eq_at_a_variable = refl;
+  equation = refl;
+  no_equation = λ e. cc;
+  cell_holds = single_is_only 5 (7 ∷ []);
+  other_word = other_block;
+  other_place = other_place;
+  not_empty = full;
   block_of_one_word = λ k. k (7 ∷ [], refl, single_is_only 5 (7 ∷ []));
   block_of_two_words = λ k. k (λ b. one_word b.0 b.1 b.2);
   every_bool_is_one_of_two = λ v typed k. k (bool_is v typed);
   some_word_is_above = λ k. k (v_word 4, is_word four_is_word, refl);
-  four_is_twice_two = refl; five_is_not = λ e. cc; two_is_twice_one = refl; no_such_predicate = λ e. e
+  four_is_twice_two = refl;
+  five_is_not = λ e. cc;
+  two_is_twice_one = refl;
+  no_such_predicate = λ e. e;
 }

@@ -6,7 +6,7 @@ use native.Mathlib.Decide.{ℕ_discrete}
 use mathlib.Core.Bool.{Bool-discrete}
 use Rattle.htt_syntax.specs.Trees.{FormulaTree, f_tt, f_ff, f_and, f_or, f_imp, f_all_t, f_ex_t, f_all_h, f_ex_h, f_emp, f_cell, f_block, f_join, f_same, f_eq, f_at, f_rec}
 use Rattle.htt_values.specs.Values.{Value, value_discrete}
-use Rattle.htt_values.specs.Heaps.{Block, Heap, IsEmpty, IsOnly, Joins, IsJoin, IsSame}
+use Rattle.htt_values.specs.Heaps.{Block, Heap, IsOnly, Joins}
 use Rattle.htt_truth.specs.Worlds.{World, th_value, th_heap}
 use Rattle.htt_truth.specs.Truth.{NotNot, Recs, Holds}
 use Rattle.htt_truth.specs.Predicates.{RecTree, Said, either, with_said, said_at, said_by, recs_below, recs_of, zero_world, next_world}
@@ -100,5 +100,5 @@ pub classical : TruthIsClassical
 classical = record {
   tables = λ table p j vs h. (table_stable table).at p j vs h;
   stable = λ table w F. stable (recs_of table) (table_stable table) F w;
-  excluded_middle = λ table w F. middle (recs_of table) w F
+  excluded_middle = λ table w F. middle (recs_of table) w F;
 }

@@ -1,5 +1,5 @@
 -- A predicate of a founded table unfolds with the whole table's predicates.
-use Rattle.std.proofs.Common.{◌≡◌, ℕ, zero, suc, ◌+◌, ◌-◌, ◌<◌, ◌≤◌, List, [], ◌∷◌, length, Option, Some, None, refl, sym, ap, ◌∙◌, subst, arith, ◌⊎◌, inl, inr}
+use Rattle.std.proofs.Common.{◌≡◌, ℕ, zero, suc, ◌+◌, ◌-◌, ◌<◌, ◌≤◌, List, [], ◌∷◌, length, Option, Some, refl, sym, ap, ◌∙◌, arith, ◌⊎◌, inl, inr}
 use Rattle.std.specs.Prelude.{Bool, true, false, nat_eq, slice_get}
 use Rattle.std.proofs.lemmas.Option.{slice_get_within}
 use Rattle.std.proofs.lemmas.Bool.Decides.{nat_tests}
@@ -10,7 +10,7 @@ use Rattle.htt_truth.specs.Worlds.{Thing, World, th_value, th_heap, thing_at, va
 use Rattle.htt_truth.specs.TermValue.{term_value, term_values, word_of}
 use Rattle.htt_truth.specs.Truth.{NotNot, Recs, Holds}
 use Rattle.htt_truth.specs.Predicates.{RecTree, Said, either, with_said, said_at, said_by, recs_below, recs_of, under_values, zero_world, next_world}
-use Rattle.htt_truth.specs.Atoms.{AtomsMeet, IsEarlier, IsEarlierOrLess, IsFounded, IsFoundedTable}
+use Rattle.htt_truth.specs.Atoms.{AtomsMeet, IsEarlier, IsEarlierOrLess}
 use Rattle.htt_truth.specs.Laws.{PredicatesUnfold}
 use Rattle.htt_truth.proofs.Renamed.{both_ways}
 
@@ -83,7 +83,7 @@ index_next : (j params d : ℕ) (w : World) (x : Thing) → IndexAt j params d w
 index_next j params d w x v = let e : suc d + params ≡ suc (d + params) = omega arith in ap (λ (n : ℕ). value_at (x ∷ w) (suc n)) e ∙ v
 
 next_same : (table : List RecTree) (p : ℕ) (r : RecTree) → slice_get table p ≡ Some r → (j params d q : ℕ) (place : TermTree) (w : World) → IndexAt j params d w → IsEarlierOrLess p params d q place → (vs : List Value) (h : Heap)
-  → with_said (recs_below table p) p (λ i. said_at (recs_below table p) p r j) q (word_of (term_value w place)) vs h ≡ recs_of table q (word_of (term_value w place)) vs h
+    → with_said (recs_below table p) p (λ i. said_at (recs_below table p) p r j) q (word_of (term_value w place)) vs h ≡ recs_of table q (word_of (term_value w place)) vs h
 next_same table p r e j params d q place w v (inl l) vs h =
     let le : p ≤ length table = let k = slice_get_within table p r e in omega (arith, k) in
     with_other (recs_below table p) p (λ i. said_at (recs_below table p) p r j) q (word_of (term_value w place)) vs h l ∙ sym (below_stays table p (length table) le q (word_of (term_value w place)) vs h l)
@@ -107,8 +107,8 @@ index_there j vs params e h =
 pub unfolds : PredicatesUnfold
 unfolds = record {
   at_zero = λ table founded p r e vs h.
-    let le : p ≤ length table = let k = slice_get_within table p r e in omega (arith, k) in
-    both_ways (own_says table p r e zero vs h ∙ truths_alike (IsEarlier p) (λ d w. Unit {0}) (recs_below table p) (recs_of table) (zero_alike table p le) r.at_zero 0 (zero_world vs h) tt (founded p r e).zero_founded);
+      let le : p ≤ length table = let k = slice_get_within table p r e in omega (arith, k) in
+      both_ways (own_says table p r e zero vs h ∙ truths_alike (IsEarlier p) (λ d w. Unit {0}) (recs_below table p) (recs_of table) (zero_alike table p le) r.at_zero 0 (zero_world vs h) tt (founded p r e).zero_founded);
   at_next = λ table founded p r e j vs long h.
-    both_ways (own_says table p r e (suc j) vs h ∙ truths_alike (IsEarlierOrLess p (length r.params)) (IndexAt j (length r.params)) (with_said (recs_below table p) p (λ i. said_at (recs_below table p) p r j)) (recs_of table) (record { next = index_next j (length r.params); same = next_same table p r e j (length r.params) }) r.at_next 0 (next_world j vs h) (index_there j vs (length r.params) long h) (founded p r e).next_founded)
+      both_ways (own_says table p r e (suc j) vs h ∙ truths_alike (IsEarlierOrLess p (length r.params)) (IndexAt j (length r.params)) (with_said (recs_below table p) p (λ i. said_at (recs_below table p) p r j)) (recs_of table) (record { next = index_next j (length r.params); same = next_same table p r e j (length r.params) }) r.at_next 0 (next_world j vs h) (index_there j vs (length r.params) long h) (founded p r e).next_founded);
 }

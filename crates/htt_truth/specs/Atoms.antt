@@ -1,6 +1,6 @@
 -- Which recursive atoms a formula has, and when a table of predicates is well founded.
 use Rattle.std.specs.Prelude.{◌≡◌, ℕ, suc, ◌+◌, ◌<◌, List, length, Some, slice_get, ◌⊎◌}
-use Rattle.htt_syntax.specs.Trees.{TermTree, FormulaTree, t_var, f_tt, f_ff, f_and, f_or, f_imp, f_all_t, f_ex_t, f_all_h, f_ex_h, f_emp, f_cell, f_block, f_join, f_same, f_eq, f_at, f_rec}
+use Rattle.htt_syntax.specs.Trees.{TermTree, FormulaTree, t_var, f_and, f_or, f_imp, f_all_t, f_ex_t, f_all_h, f_ex_h, f_at, f_rec}
 use Rattle.htt_truth.specs.Predicates.{RecTree}
 
 -- Each recursive atom of a formula that stands under d binders meets P: by the count of binders

@@ -1,12 +1,12 @@
 -- Truths that were worked out by hand. Index 0 is a word in w, index 1 a heap, index 2 a monotype.
-use Rattle.std.specs.Prelude.{◌≡◌, ℕ, List, [], ◌∷◌, true, false, Some, None}
+use Rattle.std.specs.Prelude.{◌≡◌, [], ◌∷◌, true, false}
 use Rattle.htt_syntax.specs.declared.mono.Op.TheVariants.{Add, Lt}
-use Rattle.htt_syntax.specs.Trees.{FormulaTree, m_word, m_bool, m_loc, m_unit, m_pair, m_var, t_var, t_word, t_bool, t_loc, t_unit, t_pair, t_fst, t_snd, t_not, t_bin, t_eq, t_sel, t_at, no_terms, more_terms, f_tt, f_ff, f_and, f_or, f_imp, f_all_t, f_ex_t, f_emp, f_cell, f_block, f_join, f_same, f_eq, f_at, f_rec}
-use Rattle.htt_values.specs.Values.{Value, v_word, v_bool, v_loc, v_unit, v_pair, HasType, encoding}
-use Rattle.htt_values.specs.Heaps.{Heap, empty, single, IsEmpty, IsOnly}
+use Rattle.htt_syntax.specs.Trees.{m_word, m_bool, m_loc, m_unit, m_pair, m_var, t_var, t_word, t_bool, t_loc, t_pair, t_snd, t_not, t_bin, t_eq, t_sel, t_at, no_terms, more_terms, f_tt, f_or, f_all_t, f_ex_t, f_emp, f_cell, f_block, f_eq, f_rec}
+use Rattle.htt_values.specs.Values.{v_word, v_bool}
+use Rattle.htt_values.specs.Heaps.{empty, single}
 use Rattle.htt_truth.specs.Worlds.{World, th_mono, th_value, th_heap, mono_under}
 use Rattle.htt_truth.specs.TermValue.{term_value}
-use Rattle.htt_truth.specs.Truth.{NotNot, Recs, Holds}
+use Rattle.htt_truth.specs.Truth.{Recs, Holds}
 use Rattle.htt_truth.specs.Predicates.{RecTree, recs_of}
 
 abbrev pub w : World
@@ -20,7 +20,7 @@ abbrev pub doubles : RecTree
 doubles = record {
   params = m_word ∷ [];
   at_zero = f_eq m_word (t_var 1) (t_word 0);
-  at_next = f_rec 0 0 (t_var 2) (more_terms (t_bin Add (t_var 1) (t_word 18446744073709551614)) no_terms)
+  at_next = f_rec 0 0 (t_var 2) (more_terms (t_bin Add (t_var 1) (t_word 18446744073709551614)) no_terms);
 }
 
 -- at 0 the word is twice 1, by the predicate before
@@ -28,7 +28,7 @@ abbrev pub twice_one : RecTree
 twice_one = record {
   params = m_word ∷ [];
   at_zero = f_rec 0 0 (t_word 1) (more_terms (t_var 1) no_terms);
-  at_next = f_tt
+  at_next = f_tt;
 }
 
 pub record WorkedExamples : Type 0 where

@@ -4,7 +4,7 @@ use Rattle.htt_syntax.specs.Trees.{MonoTree, TermTree, FormulaTree, f_ff, f_and,
 use Rattle.htt_renaming.specs.Renaming.{Map, rename_mono, rename_term, rename_formula}
 use Rattle.htt_values.specs.Values.{Value}
 use Rattle.htt_values.specs.Heaps.{Heap, IsHeap, IsJoin}
-use Rattle.htt_truth.specs.Worlds.{Thing, World, thing_at, th_heap, heap_at, mono_under}
+use Rattle.htt_truth.specs.Worlds.{World, thing_at, th_heap, heap_at, mono_under}
 use Rattle.htt_truth.specs.TermValue.{term_value}
 use Rattle.htt_truth.specs.Truth.{NotNot, Recs, Holds}
 use Rattle.htt_truth.specs.Predicates.{RecTree, recs_of, zero_world, next_world}

@@ -1,6 +1,6 @@
 -- Truth of a formula in a world, as in classical logic. The logic of the check is constructive, so
 -- "or" and "there is" say that their denial is absurd; then all laws of classical logic hold.
-use Rattle.std.specs.Prelude.{◌≡◌, ℕ, suc, List, length, ◌∷◌, ◌⊎◌}
+use Rattle.std.specs.Prelude.{◌≡◌, ℕ, List, length, ◌∷◌, ◌⊎◌}
 use Rattle.htt_syntax.specs.Trees.{FormulaTree, f_tt, f_ff, f_and, f_or, f_imp, f_all_t, f_ex_t, f_all_h, f_ex_h, f_emp, f_cell, f_block, f_join, f_same, f_eq, f_at, f_rec}
 use Rattle.htt_values.specs.Values.{Value, HasType, encoding, width}
 use Rattle.htt_values.specs.Heaps.{Block, Heap, IsHeap, IsEmpty, IsOnly, IsJoin, IsSame}
