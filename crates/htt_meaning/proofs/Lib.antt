@@ -1,0 +1,4 @@
+pub mod PureFuel
+pub mod RunFuel
+pub mod Handed
+pub mod Examples

@@ -1,0 +1,5 @@
+pub mod Closures
+pub mod Meaning
+pub mod Choices
+pub mod Laws
+pub mod Examples
