@@ -10,6 +10,11 @@ pub data Standing : Type 0 where
   as_mono as_heap as_open : Standing
   as_term : Skeleton → Standing
 
+-- An entry of which only the skeleton is told.
+abbrev pub standing_of : Skeleton → Standing
+standing_of sk_o = as_open
+standing_of s = as_term s
+
 -- The variable n, counted from the innermost, may be used as such an entry.
 pub data Stands : List Standing → ℕ → Standing → Type 0 where
   here : {context : List Standing} {entry : Standing} → Stands (entry ∷ context) zero entry

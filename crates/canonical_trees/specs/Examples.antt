@@ -69,6 +69,3 @@ pub record TheCanonical : Type 0 where
   -- a variable of a function's argument is no monotype
   pub no_monotype : Canonical no_heads [] (t_lam (t_eq (m_var 0) (t_word 2) (t_word 2))) (sk_arrow sk_o sk_o) → ⊥
   pub no_val : Canonical no_heads [] (t_val 0) sk_o → ⊥
-
-abbrev pub ExamplesOfCanonicalTrees : Type 0
-ExamplesOfCanonicalTrees = TheSkeletons × TheFoldings × NoFoldings × TheExpansions × TheCanonical

@@ -2,4 +2,4 @@ use Rattle.canonical_trees.proofs.Renamed.{term_renamed, comp_renamed, ty_rename
 use Rattle.canonical_trees.proofs.renaming_keeps_canonical.Goals as goal
 
 pub returns : goal.returns
-returns c = record { law = λ heads m g h k. ((λ t s d. term_renamed d k), (λ t d. comp_renamed d k), (λ t d. ty_renamed d k), (λ t d. formula_renamed d k)) }
+returns c = record { terms = λ heads m g h k t s d. term_renamed d k; computations = λ heads m g h k t d. comp_renamed d k; types = λ heads m g h k t d. ty_renamed d k; formulas = λ heads m g h k t d. formula_renamed d k }
