@@ -1,0 +1,4 @@
+pub mod Renamed
+pub mod Expanded
+pub mod Examples
+pub mod OneSkeleton

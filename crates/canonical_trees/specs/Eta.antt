@@ -1,0 +1,16 @@
+-- The eta-expansion of a neutral term at a type: functions of each argument that the type takes, down
+-- to a monotype, where it stays, or to a computation, where it is run.
+use Rattle.std.specs.Prelude.{zero, suc, Some}
+use Rattle.htt_syntax.specs.Trees.{TyTree, TermTree, m_var, y_mono, y_fun, y_all, y_hoare, y_at, triple, t_var, t_app, t_inst, t_lam, t_lam_t, t_do, c_ret, c_step, s_run}
+use Rattle.htt_renaming.specs.Renaming.{Map, lift, rename_mono, rename_term}
+
+-- at the type that the map renames
+unfoldable pub expanded : Map → TermTree → TyTree → TermTree
+expanded m term (y_mono mono) = term
+expanded m term (y_fun argument answer) = t_lam (expanded (lift m) (t_app (rename_term suc term) (expanded (λ n. suc (m n)) (t_var zero) argument)) answer)
+expanded m term (y_all body) = t_lam_t (expanded (lift m) (t_inst (rename_term suc term) (m_var zero)) body)
+expanded m term (y_hoare (triple pre mono post)) = t_do (c_step (s_run term (Some (rename_mono m mono))) (c_ret (t_var zero)))
+expanded m term (y_at at ty) = expanded m term ty
+
+abbrev pub eta : TermTree → TyTree → TermTree
+eta term ty = expanded (λ n. n) term ty

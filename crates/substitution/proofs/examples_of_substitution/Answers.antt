@@ -1,0 +1,5 @@
+use Rattle.substitution.proofs.Examples.{applications, terms, monotypes, computations, others}
+use Rattle.substitution.proofs.examples_of_substitution.Goals as goal
+
+pub returns : goal.returns
+returns c = record { examples = (applications, terms, monotypes, computations, others) }

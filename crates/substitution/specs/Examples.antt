@@ -1,0 +1,75 @@
+-- Worked examples of substitution.
+use Rattle.std.specs.Prelude.{◌≡◌, ℕ, true, Some}
+use Rattle.htt_syntax.specs.declared.mono.Op.TheVariants.{Add}
+use Rattle.htt_syntax.specs.Trees.{TermTree, CompTree, m_word, m_loc, m_pair, m_var, y_mono, triple, t_var, t_val, t_app, t_inst, t_lam, t_lam_t, t_do, t_fix, t_word, t_bool, t_pair, t_fst, t_bin, t_eq, t_sel, t_ann, x_param, x_body, c_ret, c_step, s_run, s_alloc, s_get, s_set, f_tt, f_cell, f_all_h}
+use Rattle.canonical_trees.specs.Skeletons.{sk_o, sk_c, sk_arrow, sk_all}
+use Rattle.substitution.specs.Monotypes.{put_mono_term}
+use Rattle.substitution.specs.Substitution.{SubTerm, SubComp, SubFormula, App, Bind}
+
+abbrev pub plus : TermTree → ℕ → TermTree
+plus term n = t_bin Add term (t_word n)
+
+-- fun f . fun x . f (f x)
+abbrev pub twice : TermTree
+twice = t_lam (t_lam (t_app (t_var 1) (t_app (t_var 1) (t_var 0))))
+
+abbrev pub plus_one : TermTree
+plus_one = t_lam (plus (t_var 0) 1)
+
+abbrev pub plus_two : TermTree
+plus_two = t_lam (plus (plus (t_var 0) 1) 1)
+
+abbrev pub plus_four : TermTree
+plus_four = t_lam (plus (plus (plus (plus (t_var 0) 1) 1) 1) 1)
+
+-- twice (twice (fun y . y + 1)) 0
+pub record Applications : Type 0 where
+  pub once : App twice (sk_arrow sk_o sk_o) plus_one plus_two
+  pub again : App twice (sk_arrow sk_o sk_o) plus_two plus_four
+  pub at_zero : App plus_four sk_o (t_word 0) (t_word 4)
+  pub no_function : (r : TermTree) → App (t_var 0) (sk_arrow sk_o sk_o) plus_one r → ⊥
+
+pub record Terms : Type 0 where
+  pub head : SubTerm plus_one (sk_arrow sk_o sk_o) 0 (t_app (t_var 0) (t_word 3)) (t_word 4)
+  pub gap_closed : SubTerm (t_word 7) sk_o 1 (t_pair (t_var 0) (t_pair (t_var 1) (t_var 2))) (t_pair (t_var 0) (t_pair (t_word 7) (t_var 1)))
+  pub no_capture : SubTerm (t_var 4) sk_o 0 (t_lam (t_bin Add (t_var 0) (t_var 1))) (t_lam (t_bin Add (t_var 0) (t_var 5)))
+  pub zero_added : SubTerm (t_var 5) sk_o 0 (plus (t_var 0) 0) (plus (t_var 5) 0)
+  pub choice : SubTerm (t_bool true) sk_o 0 (t_sel m_word (t_var 0) (t_word 1) (t_var 3)) (t_word 1)
+  pub part : SubTerm (t_pair (t_word 2) (t_var 6)) sk_o 0 (t_fst (t_var 0)) (t_word 2)
+  pub other_monotype : SubTerm (t_word 2) sk_o 0 (t_eq (m_var 1) (t_var 0) (t_word 2)) (t_eq (m_var 0) (t_word 2) (t_word 2))
+  -- (fun [a] . fun x . eq[a](x, 3)) [word] 3
+  pub instance : SubTerm (t_lam_t (t_lam (t_eq (m_var 1) (t_var 0) (t_word 3)))) (sk_all (sk_arrow sk_o sk_o)) 0 (t_app (t_inst (t_var 0) m_word) (t_word 3)) (t_bool true)
+  pub no_annotation : (r : TermTree) → SubTerm (t_word 2) sk_o 0 (t_ann (t_var 0) (y_mono m_word)) r → ⊥
+
+pub record Monotypes : Type 0 where
+  pub folded_at_words : put_mono_term m_word 0 (t_eq (m_var 0) (t_word 2) (t_word 2)) ≡ t_bool true
+  pub unfolded_at_places : put_mono_term m_loc 0 (t_eq (m_var 0) (t_word 2) (t_word 2)) ≡ t_eq m_loc (t_word 2) (t_word 2)
+  pub identity : put_mono_term m_word 0 (t_lam (t_var 0)) ≡ t_lam (t_var 0)
+  -- a pair that is put isn't expanded
+  pub variable : put_mono_term (m_pair m_word m_word) 1 (t_var 0) ≡ t_var 0
+  pub gap_closed : put_mono_term (m_var 0) 1 (t_eq (m_var 1) (t_var 0) (t_var 2)) ≡ t_eq (m_var 0) (t_var 0) (t_var 1)
+  pub no_capture : put_mono_term (m_var 4) 0 (t_lam (t_eq (m_var 1) (t_var 0) (t_var 0))) ≡ t_lam (t_eq (m_var 5) (t_var 0) (t_var 0))
+
+-- do z <- alloc[word] 5; ret (z, 1)
+abbrev pub fresh : CompTree
+fresh = c_step (s_alloc m_word (t_word 5)) (c_ret (t_pair (t_var 0) (t_word 1)))
+
+pub record Computations : Type 0 where
+  pub returned : Bind (c_ret (t_word 2)) (c_ret (plus (t_var 0) 1)) (c_ret (t_word 3))
+  -- y <- get[word] l; ret y before set[word] l y, where l is the variable 0
+  pub read_and_written : Bind (c_step (s_get m_word (t_var 0)) (c_ret (t_var 0))) (c_step (s_set m_word (t_var 1) (t_var 0)) (c_ret (t_var 0))) (c_step (s_get m_word (t_var 0)) (c_step (s_set m_word (t_var 1) (t_var 0)) (c_ret (t_var 0))))
+  -- y <- x; ret fst y, where fresh is put for x
+  pub spliced : SubComp (t_do fresh) sk_c 0 (c_step (s_run (t_var 0) (Some (m_pair m_loc m_word))) (c_ret (t_fst (t_var 0)))) (c_step (s_alloc m_word (t_word 5)) (c_ret (t_var 0)))
+  pub called : SubComp (t_word 3) sk_o 0 (c_step (s_run (t_app (t_val 0) (t_var 0)) (Some m_word)) (c_ret (t_var 1))) (c_step (s_run (t_app (t_val 0) (t_word 3)) (Some m_word)) (c_ret (t_word 3)))
+
+-- a recursive function stays a head, though its argument is a literal
+abbrev pub recursive : TermTree
+recursive = t_fix 0 (x_param (y_mono m_word) (x_body (triple f_tt m_word f_tt) (c_ret (t_var 1))))
+
+pub record Others : Type 0 where
+  pub recursion_stays : SubComp (t_word 3) sk_o 0 (c_step (s_run (t_app recursive (t_var 0)) (Some m_word)) (c_ret (t_var 0))) (c_step (s_run (t_app recursive (t_word 3)) (Some m_word)) (c_ret (t_var 0)))
+  -- all h : heap . Cell[word](h, y, x), where 3 is put for x
+  pub formula : SubFormula (t_word 3) sk_o 0 (f_all_h (f_cell m_word 0 (t_var 2) (t_var 1))) (f_all_h (f_cell m_word 0 (t_var 1) (t_word 3)))
+
+abbrev pub ExamplesOfSubstitution : Type 0
+ExamplesOfSubstitution = Applications × Terms × Monotypes × Computations × Others

@@ -1,0 +1,5 @@
+pub mod Closing
+pub mod Monotypes
+pub mod Substitution
+pub mod Laws
+pub mod Examples

@@ -1,0 +1,4 @@
+pub mod Folded
+pub mod Filled
+pub mod Places
+pub mod Total

@@ -1,0 +1,26 @@
+//! Hereditary substitution gives a tree wherever the trees that it is given are canonical at the
+//! skeletons in question, and that tree is canonical. With at most one result this is exactly one.
+//! A function without a body states a law by its contract.
+#![tactic(auto)]
+
+ghost use Rattle.substitution_total.specs.Laws.{ApplicationGivesCanonical, BindingGivesCanonical, MonotypesGiveCanonical, TermsGiveCanonical};
+
+/// A canonical term that is put for a variable of its skeleton gives a canonical tree.
+pub fn terms_give_canonical()
+    ensures law { TermsGiveCanonical }
+{}
+
+/// A canonical function applied to a canonical argument gives a canonical term.
+pub fn application_gives_canonical()
+    ensures law { ApplicationGivesCanonical }
+{}
+
+/// A canonical computation run before another gives a canonical computation.
+pub fn binding_gives_canonical()
+    ensures law { BindingGivesCanonical }
+{}
+
+/// A canonical monotype that is put for a monotype variable leaves a tree canonical.
+pub fn monotypes_give_canonical()
+    ensures law { MonotypesGiveCanonical }
+{}
