@@ -1,0 +1,50 @@
+-- The worked examples hold.
+use Rattle.std.proofs.Common.{◌≡◌, ℕ, zero, suc, List, [], ◌∷◌, length, get_or, Option, Some, None, refl, sym, ap, ◌∙◌, arith, ◌⊎◌, inl, inr}
+use Rattle.std.specs.Prelude.{Bool, true, false, ◌^◌, ◌<◌}
+use Rattle.htt_syntax.specs.Trees.{m_word, m_bool, FormulaTree, f_eq, t_var, t_bool}
+use Rattle.htt_values.specs.Values.{Value, v_word, v_bool, HasType, is_word, is_bool, is_loc, is_unit, is_pair, encoding}
+use Rattle.htt_values.specs.Heaps.{Block, Heap, single, IsOnly, IsEmpty}
+use Rattle.htt_values.proofs.Joins.{single_is_only}
+use Rattle.htt_truth.specs.Worlds.{World, th_value}
+use Rattle.htt_truth.specs.TermValue.{term_value, term_values}
+use Rattle.htt_truth.specs.Truth.{NotNot, Recs, Holds}
+use Rattle.htt_truth.specs.Predicates.{recs_below, recs_of}
+use Rattle.htt_truth.specs.Examples.{w, none, doubles, twice_one, WorkedExamples}
+
+some_is_not_none : (b : Block) → Some b ≡ None → ⊥
+some_is_not_none b e = cc
+
+some_is_one : (b c : Block) → Some b ≡ Some c → b ≡ c
+some_is_one b c e = cc
+
+other_block : IsOnly (single 5 (7 ∷ [])) 5 (8 ∷ []) → ⊥
+other_block o = let e : 7 ∷ [] ≡ 8 ∷ [] = some_is_one (7 ∷ []) (8 ∷ []) o.here in let f : 7 ≡ 8 = ap (λ (b : Block). get_or b 0 0) e in omega (arith, f)
+
+other_place : IsOnly (single 5 (7 ∷ [])) 6 (7 ∷ []) → ⊥
+other_place o = some_is_not_none (7 ∷ []) (sym o.here)
+
+full : IsEmpty (single 5 (7 ∷ [])) → ⊥
+full o = some_is_not_none (7 ∷ []) (o.each 5)
+
+one_word : (b : Block) → length b ≡ 2 → IsOnly (single 5 (7 ∷ [])) 5 b → ⊥
+one_word b long o = let f : 7 ∷ [] ≡ b = some_is_one (7 ∷ []) b o.here in let g : 1 ≡ 2 = ap length f ∙ long in omega (arith, g)
+
+bool_is : (v : Value) → HasType v m_bool → (v ≡ v_bool true) ⊎ (v ≡ v_bool false)
+bool_is _ (is_bool {b = true}) = inl refl
+bool_is _ (is_bool {b = false}) = inr refl
+
+four_is_word : 4 < 2 ^ 64
+four_is_word = omega arith
+
+pub worked : WorkedExamples
+unfolding Holds term_value term_values recs_below
+worked = record {
+  mono_variable = refl; sum_of_variable = refl; chosen_part = refl; equal_places = refl; eq_at_a_variable = refl;
+  equation = refl; no_equation = λ e. cc;
+  cell_holds = single_is_only 5 (7 ∷ []); other_word = other_block; other_place = other_place; not_empty = full;
+  block_of_one_word = λ k. k (7 ∷ [], refl, single_is_only 5 (7 ∷ []));
+  block_of_two_words = λ k. k (λ b. one_word b.0 b.1 b.2);
+  every_bool_is_one_of_two = λ v typed k. k (bool_is v typed);
+  some_word_is_above = λ k. k (v_word 4, is_word four_is_word, refl);
+  four_is_twice_two = refl; five_is_not = λ e. cc; two_is_twice_one = refl; no_such_predicate = λ e. e
+}

@@ -1,0 +1,5 @@
+pub mod Encoding
+pub mod Decoding
+pub mod Operations
+pub mod Joins
+pub mod Examples

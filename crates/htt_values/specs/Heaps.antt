@@ -1,0 +1,58 @@
+-- Heaps: finite maps from locations to blocks, a block being a list of words.
+use Rattle.std.specs.Prelude.{◌≡◌, ◌≢◌, ℕ, ◌<◌, List, Option, Some, None, All, nat_eq, if◌then◌else◌}
+use Rattle.htt_values.specs.Values.{IsWord}
+
+abbrev pub Block : Type 0
+Block = List ℕ
+
+-- What stands at each location.
+abbrev pub Heap : Type 0
+Heap = ℕ → Option Block
+
+-- A block of a heap stands at a word other than 0 and holds words, so a heap is finite.
+pub record IsHeap (h : Heap) : Type 0 where
+  pub above_zero : (l : ℕ) (b : Block) → h l ≡ Some b → 0 < l
+  pub at_words : (l : ℕ) (b : Block) → h l ≡ Some b → IsWord l
+  pub of_words : (l : ℕ) (b : Block) → h l ≡ Some b → All IsWord b
+
+abbrev pub InUse : Heap → ℕ → Type 0
+InUse h l = (b : Block) × (h l ≡ Some b)
+
+abbrev pub empty : Heap
+empty l = None
+
+-- The heap with this at the location, and elsewhere as it was.
+abbrev pub put : Heap → ℕ → Option Block → Heap
+put h l at_place m = if nat_eq m l then at_place else h m
+
+abbrev pub written : Heap → ℕ → Block → Heap
+written h l b = put h l (Some b)
+
+abbrev pub removed : Heap → ℕ → Heap
+removed h l = put h l None
+
+abbrev pub single : ℕ → Block → Heap
+single l b = written empty l b
+
+-- Two heaps with the same blocks.
+pub record IsSame (h k : Heap) : Type 0 where
+  pub each : (l : ℕ) → h l ≡ k l
+
+-- No block at all.
+pub record IsEmpty (h : Heap) : Type 0 where
+  pub each : (l : ℕ) → h l ≡ None
+
+-- Exactly one block.
+pub record IsOnly (h : Heap) (l : ℕ) (b : Block) : Type 0 where
+  pub here : h l ≡ Some b
+  pub others : (m : ℕ) → m ≢ l → h m ≡ None
+
+-- At one location: the first is what the other two have together, of which one has nothing.
+abbrev pub Joins : Option Block → Option Block → Option Block → Type 0
+Joins x None b = x ≡ b
+Joins x (Some a) None = x ≡ Some a
+Joins x (Some a) (Some b) = ⊥
+
+-- a and b are disjoint, and h is their union.
+pub record IsJoin (h a b : Heap) : Type 0 where
+  pub each : (l : ℕ) → Joins (h l) (a l) (b l)

@@ -1,0 +1,5 @@
+pub mod Values
+pub mod Heaps
+pub mod ValueLaws
+pub mod HeapLaws
+pub mod Examples
