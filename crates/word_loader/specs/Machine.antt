@@ -1,7 +1,10 @@
 -- The written machine: its states, one step, and the machine after a number of steps.
-use Rattle.std.specs.Prelude.{ℕ, zero, suc, ◌≡◌, ◌+◌, ◌-◌, ◌*◌, ◌/◌, ◌%◌, ◌^◌, List, [], ◌∷◌, ◌++◌, length, take, drop, replicate, Bool, true, false, Option, Some, None, nat_eq, nat_lt, slice_get, slice_index_or, bit_and, bit_or, bit_xor, if◌then◌else◌}
+use Rattle.std.specs.Prelude.{ℕ, zero, suc, ◌≡◌, ◌+◌, ◌-◌, List, [], ◌∷◌, ◌++◌, length, take, drop, replicate, Bool, true, false, Option, Some, None, nat_eq, nat_lt, slice_get, slice_index_or, if◌then◌else◌}
 use Rattle.htt_words.specs.declared.words.Kind.{Kind}
 use Rattle.htt_words.specs.declared.words.Kind.TheVariants as kind
+use Rattle.htt_syntax.specs.declared.mono.Op.{Op as Operation}
+use Rattle.htt_syntax.specs.declared.mono.Op.TheVariants as ops
+use Rattle.htt_values.specs.Values.{Value, v_word, v_bool, op_value}
 use Rattle.htt_values.specs.Heaps.{Heap, Block, written, removed}
 use Rattle.word_loader.specs.declared.code.Code.{Code}
 use Rattle.word_loader.specs.declared.code.Function.{Function}
@@ -36,16 +39,21 @@ words_at locals place n = take n (drop place locals)
 abbrev pub with_words : List ℕ → ℕ → List ℕ → List ℕ
 with_words locals place words = take place locals ++ words ++ drop (place + length words) locals
 
-abbrev pub truth_word : Bool → ℕ
-truth_word true = 1
-truth_word false = 0
+-- a value of a word or a boolean as a word
+abbrev pub value_word : Value → ℕ
+value_word (v_word n) = n
+value_word (v_bool true) = 1
+value_word _ = 0
 
--- the operations by their numbers, from 0 on
+abbrev pub on_words : Operation → ℕ → ℕ → ℕ
+on_words op x y = value_word (op_value op x y)
+
+-- the operations by their numbers, from 0 on: those of the language, equality, and whether a word is 0
 abbrev pub operations : List (ℕ → ℕ → ℕ)
 operations =
-    (λ x y. (x + y) % 2 ^ 64) ∷ (λ x y. (x + (2 ^ 64 - y)) % 2 ^ 64) ∷ (λ x y. (x * y) % 2 ^ 64) ∷
-    bit_and ∷ bit_or ∷ bit_xor ∷ (λ x y. (x * 2 ^ (y % 64)) % 2 ^ 64) ∷ (λ x y. x / 2 ^ (y % 64)) ∷
-    (λ x y. truth_word (nat_lt x y)) ∷ (λ x y. truth_word (nat_eq x y)) ∷ (λ x y. truth_word (nat_eq x 0)) ∷ []
+    on_words ops.Add ∷ on_words ops.Sub ∷ on_words ops.Mul ∷ on_words ops.And ∷ on_words ops.Or ∷ on_words ops.Xor ∷
+    on_words ops.Shl ∷ on_words ops.Shr ∷ on_words ops.Lt ∷
+    (λ x y. value_word (v_bool (nat_eq x y))) ∷ (λ x y. value_word (v_bool (nat_eq x 0))) ∷ []
 
 abbrev pub result_of : Option (ℕ → ℕ → ℕ) → ℕ → ℕ → ℕ
 result_of None x y = 0
