@@ -1,0 +1,20 @@
+use Rattle.std.proofs.Common.{refl}
+use Rattle.word_loader.specs.Machine.{step, after_steps}
+use Rattle.word_loader.proofs.laws.worked_runs.Goals as goal
+
+pub returns : goal.returns
+unfolding step after_steps
+returns c = record {
+  two_steps = refl;
+  wraps = refl;
+  allocates = refl;
+  no_choice = refl;
+  zero_choice = refl;
+  used_choice = refl;
+  other_length = refl;
+  at_null = refl;
+  calls = refl;
+  tail_calls = refl;
+  jumps = refl;
+  shifts = refl;
+}
