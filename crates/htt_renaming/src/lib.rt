@@ -7,17 +7,14 @@ ghost use Rattle.htt_renaming.specs.Laws.{IdentityKeeps, RenamingsCompose, Renam
 /// Renaming by the identity gives the tree itself.
 pub fn identity_keeps()
     ensures law { IdentityKeeps }
-{
-}
+{}
 
 /// Renaming twice is renaming by the one map after the other.
 pub fn renamings_compose()
     ensures law { RenamingsCompose }
-{
-}
+{}
 
 /// Renaming keeps a tree in scope.
 pub fn renaming_keeps_scope()
     ensures law { RenamingKeepsScope }
-{
-}
+{}
