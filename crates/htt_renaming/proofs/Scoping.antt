@@ -1,6 +1,6 @@
 -- A renaming that sends the innermost n variables among the innermost k keeps a tree in scope.
-use Rattle.std.proofs.Common.{ℕ, zero, suc, ◌+◌, ◌≡◌, ◌<◌, refl, arith, Option, Some, None, option_map}
-use Rattle.htt_syntax.specs.Trees.{MonoTree, TyTree, TripleTree, TermTree, FixTree, CompTree, StepTree, FormulaTree, TermTrees, m_word, m_bool, m_loc, m_unit, m_pair, m_var, y_mono, y_fun, y_all, y_hoare, y_at, triple, t_var, t_val, t_def, t_app, t_inst, t_lam, t_lam_t, t_do, t_fix, t_word, t_bool, t_loc, t_unit, t_pair, t_fst, t_snd, t_not, t_bin, t_eq, t_sel, t_ann, t_made, t_at, x_param, x_body, c_ret, c_step, s_run, s_alloc, s_get, s_set, s_free, s_if, s_claim, f_tt, f_ff, f_and, f_or, f_imp, f_all_t, f_ex_t, f_all_h, f_ex_h, f_emp, f_cell, f_block, f_join, f_same, f_eq, f_at, f_rec, no_terms, more_terms}
+use Rattle.std.proofs.Common.{ℕ, zero, suc, ◌<◌, arith, Option, option_map}
+use Rattle.htt_syntax.specs.Trees.{MonoTree, TyTree, TripleTree, TermTree, FixTree, CompTree, StepTree, FormulaTree, TermTrees}
 use Rattle.htt_renaming.specs.Renaming.{Map, lift, rename_mono, rename_ty, rename_triple, rename_term, rename_fix, rename_comp, rename_step, rename_formula, rename_terms}
 use Rattle.htt_renaming.specs.Scoped.{ScopedMono, ScopedOption, in_none, in_some, ScopedTy, ScopedTriple, ScopedTerm, ScopedFix, ScopedComp, ScopedStep, ScopedFormula, ScopedTerms, in_m_word, in_m_bool, in_m_loc, in_m_unit, in_m_pair, in_m_var, in_y_mono, in_y_fun, in_y_all, in_y_hoare, in_y_at, in_triple, in_t_var, in_t_val, in_t_def, in_t_app, in_t_inst, in_t_lam, in_t_lam_t, in_t_do, in_t_fix, in_t_word, in_t_bool, in_t_loc, in_t_unit, in_t_pair, in_t_fst, in_t_snd, in_t_not, in_t_bin, in_t_eq, in_t_sel, in_t_ann, in_t_made, in_t_at, in_x_param, in_x_body, in_c_ret, in_c_step, in_s_run, in_s_alloc, in_s_get, in_s_set, in_s_free, in_s_if, in_s_claim, in_f_tt, in_f_ff, in_f_and, in_f_or, in_f_imp, in_f_all_t, in_f_ex_t, in_f_all_h, in_f_ex_h, in_f_emp, in_f_cell, in_f_block, in_f_join, in_f_same, in_f_eq, in_f_at, in_f_rec, in_no_terms, in_more_terms}
 

@@ -1,5 +1,5 @@
 -- The tree that each value of the Rust type of proofs is, matched as `Views` matches the others.
-use Rattle.std.specs.Prelude.{List, map}
+use Rattle.std.specs.Prelude.{map}
 use Rattle.htt_syntax.specs.declared.proof.Arg.{Arg}
 use Rattle.htt_syntax.specs.declared.proof.Arg.TheVariants as arg
 use Rattle.htt_syntax.specs.declared.proof.Proof.{Proof, more_of-Proof, end_of-Proof, Row_of-Stmt, more_of-Stmt, end_of-Stmt}

@@ -1,7 +1,7 @@
 -- The tree that each value of the Rust types is. The values are matched as they are generated: a
 -- box as its shape and what it holds, a sequence as its shape and its row, and a struct inside a
 -- node as its fields. The equations that readers use stand in the files of levels.
-use Rattle.std.specs.Prelude.{Option, option_map}
+use Rattle.std.specs.Prelude.{option_map}
 use Rattle.htt_syntax.specs.declared.mono.Mono.{Mono, Pair', more_of-Mono, end_of-Mono}
 use Rattle.htt_syntax.specs.declared.mono.Mono.TheVariants as mono
 use Rattle.htt_syntax.specs.declared.tree.Ty.{Ty, more_of-Ty, end_of-Ty, Row_of-Ty, more_of-Triple, end_of-Triple}
@@ -13,7 +13,7 @@ use Rattle.htt_syntax.specs.declared.tree.Step.{Step}
 use Rattle.htt_syntax.specs.declared.tree.Step as step
 use Rattle.htt_syntax.specs.declared.tree.Formula.{Formula, more_of-Formula, end_of-Formula}
 use Rattle.htt_syntax.specs.declared.tree.Formula as formula
-use Rattle.htt_syntax.specs.Trees.{MonoTree, TyTree, TripleTree, TermTree, FixTree, CompTree, StepTree, FormulaTree, TermTrees, m_word, m_bool, m_loc, m_unit, m_pair, m_var, y_mono, y_fun, y_all, y_hoare, y_at, t_var, t_val, t_def, t_app, t_inst, t_lam, t_lam_t, t_do, t_fix, t_word, t_bool, t_loc, t_unit, t_pair, t_fst, t_snd, t_not, t_bin, t_eq, t_sel, t_ann, t_made, t_at, s_run, s_alloc, s_get, s_set, s_free, s_if, s_claim, f_tt, f_ff, f_and, f_or, f_imp, f_all_t, f_ex_t, f_all_h, f_ex_h, f_emp, f_cell, f_block, f_join, f_same, f_eq, f_at, f_rec, triple, x_param, x_body, c_ret, c_step, no_terms, more_terms}
+use Rattle.htt_syntax.specs.Trees.{MonoTree, TyTree, TermTree, FixTree, CompTree, StepTree, FormulaTree, TermTrees, m_word, m_bool, m_loc, m_unit, m_pair, m_var, y_mono, y_fun, y_all, y_hoare, y_at, t_var, t_val, t_def, t_app, t_inst, t_lam, t_lam_t, t_do, t_fix, t_word, t_bool, t_loc, t_unit, t_pair, t_fst, t_snd, t_not, t_bin, t_eq, t_sel, t_ann, t_made, t_at, s_run, s_alloc, s_get, s_set, s_free, s_if, s_claim, f_tt, f_ff, f_and, f_or, f_imp, f_all_t, f_ex_t, f_all_h, f_ex_h, f_emp, f_cell, f_block, f_join, f_same, f_eq, f_at, f_rec, triple, x_param, x_body, c_ret, c_step, no_terms, more_terms}
 
 unfoldable pub mono_tree : Mono → MonoTree
 mono_tree mono.Word = m_word

@@ -11,6 +11,8 @@ mod copy;
 mod formulas;
 mod mono;
 mod terms;
+#[cfg(test)]
+mod tests;
 mod types;
 
 pub use action::Action;

@@ -1,0 +1,3 @@
+pub mod WalkProof
+pub mod WalkProofLevels
+pub mod Descent
