@@ -34,9 +34,12 @@ single_function locals result body = record { version = 2; functions = record { 
 -- two functions; the second has two parameters and returns their difference
 abbrev pub with_difference : List Instr → Code
 with_difference body =
-    record { version = 2; functions =
-        record { params = 0; locals = 4; result = 1; body = body } ∷
-        record { params = 2; locals = 3; result = 1; body = Op 2 1 0 1 ∷ Ret 2 ∷ [] } ∷ [] }
+    record {
+      version = 2;
+      functions =
+          record { params = 0; locals = 4; result = 1; body = body } ∷
+          record { params = 2; locals = 3; result = 1; body = Op 2 1 0 1 ∷ Ret 2 ∷ [] } ∷ [];
+    }
 
 pub record WorkedRuns : Type 0 where
   -- the halting return is a step

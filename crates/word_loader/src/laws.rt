@@ -5,18 +5,15 @@ ghost use Rattle.word_loader.specs.Laws.{ChoicesAreHandedOn, OverIsFinal, Worked
 /// A machine that has halted, has faulted or asks stays so with more steps.
 pub fn over_is_final()
     ensures { OverIsFinal }
-{
-}
+{}
 
 /// Choices that aren't used are handed on: a machine that doesn't ask does the same with more
 /// choices behind its own, and keeps them.
 pub fn choices_are_handed_on()
     ensures { ChoicesAreHandedOn }
-{
-}
+{}
 
 /// Small runs, worked out by hand.
 pub fn worked_runs()
     ensures { WorkedRuns }
-{
-}
+{}
