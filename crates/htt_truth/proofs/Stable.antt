@@ -31,10 +31,10 @@ by_cases : {A : Type 0} → A ⊎ (A → ⊥) → Stable A
 by_cases (inl a) h = a
 by_cases (inr n) h = absurd (h n)
 
-block_stable : (a b : Option Block) → Stable (a ≡ b)
+pub block_stable : (a b : Option Block) → Stable (a ≡ b)
 block_stable a b = by_cases (block_cases a b)
 
-joins_stable : (x a b : Option Block) → Stable (Joins x a b)
+pub joins_stable : (x a b : Option Block) → Stable (Joins x a b)
 joins_stable x None b h = block_stable x b h
 joins_stable x (Some a) None h = block_stable x (Some a) h
 joins_stable x (Some a) (Some b) h = h (λ k. k)
@@ -42,7 +42,7 @@ joins_stable x (Some a) (Some b) h = h (λ k. k)
 only_stable : (h : Heap) (l : ℕ) (b : Block) → Stable (IsOnly h l b)
 only_stable h l b n = record { here = block_stable _ _ (λ k. n (λ o. k o.here)); others = λ m ne. block_stable _ _ (λ k. n (λ o. k (o.others m ne))) }
 
-value_stable : (x y : Value) → Stable (x ≡ y)
+pub value_stable : (x y : Value) → Stable (x ≡ y)
 value_stable x y h = elim (value_discrete ℕ_discrete Bool-discrete x y) [ yes p ↦ p | no p ↦ absurd (h p) ]
 
 -- What each predicate says is stable.
