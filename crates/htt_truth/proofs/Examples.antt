@@ -3,7 +3,7 @@ use Rattle.std.proofs.Common.{◌≡◌, [], ◌∷◌, length, get_or, Some, No
 use Rattle.std.specs.Prelude.{true, false, ◌^◌, ◌<◌}
 use Rattle.htt_syntax.specs.Trees.{m_bool}
 use Rattle.htt_values.specs.Values.{Value, v_word, v_bool, HasType, is_word, is_bool}
-use Rattle.htt_values.specs.Heaps.{Block, single, IsOnly, IsEmpty}
+use Rattle.htt_values.specs.Heaps.{Block, single, IsOnly, IsEmpty, Heap, IsHeap, empty}
 use Rattle.htt_values.proofs.Joins.{single_is_only}
 use Rattle.htt_truth.specs.TermValue.{term_value, term_values}
 use Rattle.htt_truth.specs.Truth.{Holds}
@@ -35,6 +35,12 @@ bool_is _ (is_bool {b = false}) = inr refl
 four_is_word : 4 < 2 ^ 64
 four_is_word = omega arith
 
+empty_is_heap : IsHeap empty
+empty_is_heap = record { above_zero = λ l b e. absurd (some_is_not_none b (sym e)); at_words = λ l b e. absurd (some_is_not_none b (sym e)); of_words = λ l b e. absurd (some_is_not_none b (sym e)) }
+
+not_at_null : (h : Heap) → IsHeap h → IsOnly h 0 (1 ∷ []) → ⊥
+not_at_null h is o = let l : 0 < 0 = is.above_zero 0 (1 ∷ []) o.here in omega (arith, l)
+
 pub worked : WorkedExamples
 unfolding Holds term_value term_values recs_below
 worked = record {
@@ -53,6 +59,11 @@ worked = record {
   block_of_two_words = λ k. k (λ b. one_word b.0 b.1 b.2);
   every_bool_is_one_of_two = λ v typed k. k (bool_is v typed);
   some_word_is_above = λ k. k (v_word 4, is_word four_is_word, refl);
+  some_heap_is_empty = λ k. k (empty, empty_is_heap, record { each = λ l. refl });
+  same_as_itself = record { each = λ l. refl };
+  no_join_with_itself = λ j. j.each 5;
+  unit_takes_an_empty_block = single_is_only 5 [];
+  no_cell_at_null = not_at_null;
   four_is_twice_two = refl;
   five_is_not = λ e. cc;
   two_is_twice_one = refl;
