@@ -2,7 +2,7 @@
 use Rattle.std.specs.Prelude.{◌≡◌, ◌+◌, ◌≤◌, ℕ, suc, List}
 use Rattle.htt_syntax.specs.Trees.{CompTree}
 use Rattle.htt_values.specs.Heaps.{Heap, InUse}
-use Rattle.htt_meaning.specs.Closures.{Meant, Env, RunResult, done, no_fuel, fault, Items}
+use Rattle.htt_meaning.specs.Closures.{RunValue, Env, RunResult, done, no_fuel, fault, Items}
 use Rattle.htt_meaning.specs.Meaning.{run}
 use Rattle.htt_meaning.specs.Choices.{IsGreatest, numbers_from}
 
@@ -14,7 +14,7 @@ NoneAbove h g = (l : ℕ) → InUse h l → l ≤ g
 -- further ones are; where it is done, it has taken exactly these many, and none is left greater than
 -- the last that it took.
 pub data Served (g : ℕ) (result : List ℕ → RunResult) : Type 0 where
-  served_done : (count : ℕ) (v : Meant) (k : Heap) → NoneAbove k (g + count) → ((more : ℕ) → result (numbers_from (suc g) (count + more)) ≡ done v k (numbers_from (suc (g + count)) more)) → Served g result
+  served_done : (count : ℕ) (v : RunValue) (k : Heap) → NoneAbove k (g + count) → ((more : ℕ) → result (numbers_from (suc g) (count + more)) ≡ done v k (numbers_from (suc (g + count)) more)) → Served g result
   served_no_fuel : (count : ℕ) → ((more : ℕ) → result (numbers_from (suc g) (count + more)) ≡ no_fuel) → Served g result
   served_fault : (count : ℕ) → ((more : ℕ) → result (numbers_from (suc g) (count + more)) ≡ fault) → Served g result
 

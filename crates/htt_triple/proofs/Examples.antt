@@ -3,32 +3,32 @@ use Rattle.std.proofs.Common.{◌≡◌, ℕ, List, [], ◌∷◌, Some, None, r
 use Rattle.std.specs.Prelude.{Bool, true, false, nat_eq, if◌then◌else◌}
 use Rattle.std.proofs.lemmas.Bool.Decides.{nat_tests}
 use Rattle.htt_values.specs.Values.{Value, v_word, v_unit}
-use Rattle.htt_values.specs.Heaps.{Heap, Block, empty, single, written, Joins, IsJoin}
+use Rattle.htt_values.specs.Heaps.{Heap, Block, empty_heap, single_block, with_block, Joins, IsJoin}
 use Rattle.htt_values.proofs.Joins.{single_is_only, join_of_empty, join_is_one}
 use Rattle.htt_syntax.specs.Trees.{m_word, t_var, t_word, f_eq}
 use Rattle.htt_truth.specs.Worlds.{th_value, th_heap}
 use Rattle.htt_truth.specs.Predicates.{recs_below}
 use Rattle.htt_truth.specs.TermValue.{term_value}
 use Rattle.htt_truth.specs.Truth.{Holds}
-use Rattle.htt_meaning.specs.Closures.{Meant, base, done, fault}
+use Rattle.htt_meaning.specs.Closures.{RunValue, base, done, fault}
 use Rattle.htt_triple.specs.Triples.{MeetsTriple, run_of_val}
 use Rattle.htt_triple.specs.Examples.{file, gives_five, gives_six, writes_eight, writes_from_any, WorkedExamples}
 
-no_fault_at_end : {v : Meant} {h : Heap} {cs : List ℕ} → done v h cs ≡ fault → ⊥
+no_fault_at_end : {v : RunValue} {h : Heap} {cs : List ℕ} → done v h cs ≡ fault → ⊥
 no_fault_at_end e = cc
 
-heap_of_end : {v u : Meant} {h g : Heap} {cs ds : List ℕ} → done v h cs ≡ done u g ds → h ≡ g
+heap_of_end : {v u : RunValue} {h g : Heap} {cs ds : List ℕ} → done v h cs ≡ done u g ds → h ≡ g
 heap_of_end e = cc
 
-value_of_end : {v u : Meant} {h g : Heap} {cs ds : List ℕ} → done v h cs ≡ done u g ds → v ≡ u
+value_of_end : {v u : RunValue} {h g : Heap} {cs ds : List ℕ} → done v h cs ≡ done u g ds → v ≡ u
 value_of_end e = cc
 
-five : (k : Heap) → MeetsTriple [] gives_five (run_of_val file 0 1 []) empty k
+five : (k : Heap) → MeetsTriple [] gives_five (run_of_val file 0 1 []) empty_heap k
 unfolding Holds term_value
 five k = record {
   no_fault = λ whole j p e. no_fault_at_end e;
   ends_so = λ whole j p v g rest e. record {
-    own = empty;
+    own = empty_heap;
     parts = record { each = λ l. ap (λ (h : Heap). h l) (sym (heap_of_end e)) ∙ j.each l };
     value = v_word 5;
     is_value = sym (value_of_end e);
@@ -43,13 +43,13 @@ six_post : (x : Value) (a b : Heap) → base (v_word 5) ≡ base x → Holds (λ
 unfolding Holds term_value
 six_post x a b e p = let f : 5 ≡ 6 = one_word (e ∙ ap base p) in omega (arith, f)
 
-five_is_not_six : MeetsTriple [] gives_six (run_of_val file 0 1 []) empty empty → ⊥
+five_is_not_six : MeetsTriple [] gives_six (run_of_val file 0 1 []) empty_heap empty_heap → ⊥
 unfolding Holds term_value recs_below
-five_is_not_six m = let a = m.ends_so empty (join_of_empty empty) (record { each = λ l. refl }) (base (v_word 5)) empty [] refl in six_post a.value a.own empty a.is_value a.post
+five_is_not_six m = let a = m.ends_so empty_heap (join_of_empty empty_heap) (record { each = λ l. refl }) (base (v_word 5)) empty_heap [] refl in six_post a.value a.own empty_heap a.is_value a.post
 
-not_from_any : MeetsTriple [] writes_from_any (run_of_val file 1 1 []) empty empty → ⊥
+not_from_any : MeetsTriple [] writes_from_any (run_of_val file 1 1 []) empty_heap empty_heap → ⊥
 unfolding Holds
-not_from_any m = m.no_fault empty (join_of_empty empty) tt refl
+not_from_any m = m.no_fault empty_heap (join_of_empty empty_heap) tt refl
 
 -- two places, of which one may have been written before
 both_places : (b c : Bool) → (b ≡ true → c ≡ true → ⊥) → (x y : Block) → Joins (if b then Some x else (if c then Some y else None)) (if b then Some x else None) (if c then Some y else None)
@@ -68,24 +68,24 @@ not_both : (l : ℕ) → nat_eq l 5 ≡ true → nat_eq l 6 ≡ true → ⊥
 not_both l p q = grind (arith, nat_tests)
 
 abbrev two_cells : Heap
-two_cells = written (single 6 (1 ∷ [])) 5 (7 ∷ [])
+two_cells = with_block (single_block 6 (1 ∷ [])) 5 (7 ∷ [])
 
-two_cells_are : IsJoin two_cells (single 5 (7 ∷ [])) (single 6 (1 ∷ []))
+two_cells_are : IsJoin two_cells (single_block 5 (7 ∷ [])) (single_block 6 (1 ∷ []))
 two_cells_are = record { each = λ l. both_places (nat_eq l 5) (nat_eq l 6) (not_both l) (7 ∷ []) (1 ∷ []) }
 
-whole_is : (whole : Heap) → IsJoin whole (single 5 (7 ∷ [])) (single 6 (1 ∷ [])) → whole ≡ two_cells
+whole_is : (whole : Heap) → IsJoin whole (single_block 5 (7 ∷ [])) (single_block 6 (1 ∷ [])) → whole ≡ two_cells
 whole_is whole j = λ i l. (join_is_one j two_cells_are).each l i
 
-ends_at : (whole : Heap) → IsJoin whole (single 5 (7 ∷ [])) (single 6 (1 ∷ [])) → run_of_val file 1 1 [] whole ≡ done (base v_unit) (written two_cells 5 (8 ∷ [])) []
+ends_at : (whole : Heap) → IsJoin whole (single_block 5 (7 ∷ [])) (single_block 6 (1 ∷ [])) → run_of_val file 1 1 [] whole ≡ done (base v_unit) (with_block two_cells 5 (8 ∷ [])) []
 ends_at whole j = ap (run_of_val file 1 1 []) (whole_is whole j)
 
-eight : MeetsTriple [] writes_eight (run_of_val file 1 1 []) (single 5 (7 ∷ [])) (single 6 (1 ∷ []))
+eight : MeetsTriple [] writes_eight (run_of_val file 1 1 []) (single_block 5 (7 ∷ [])) (single_block 6 (1 ∷ []))
 unfolding Holds term_value
 eight = record {
   no_fault = λ whole j p e. no_fault_at_end (sym (ends_at whole j) ∙ e);
   ends_so = λ whole j p v g rest e. record {
-    own = single 5 (8 ∷ []);
-    parts = subst (λ (h : Heap). IsJoin h (single 5 (8 ∷ [])) (single 6 (1 ∷ []))) (heap_of_end (sym (ends_at whole j) ∙ e)) (record { each = λ l. written_place (nat_eq l 5) (nat_eq l 6) (not_both l) (8 ∷ []) (1 ∷ []) (7 ∷ []) });
+    own = single_block 5 (8 ∷ []);
+    parts = subst (λ (h : Heap). IsJoin h (single_block 5 (8 ∷ [])) (single_block 6 (1 ∷ []))) (heap_of_end (sym (ends_at whole j) ∙ e)) (record { each = λ l. written_place (nat_eq l 5) (nat_eq l 6) (not_both l) (8 ∷ []) (1 ∷ []) (7 ∷ []) });
     value = v_unit;
     is_value = sym (value_of_end (sym (ends_at whole j) ∙ e));
     post = single_is_only 5 (8 ∷ []);

@@ -8,14 +8,14 @@ use Rattle.htt_truth.specs.Worlds.{th_value, th_heap}
 use Rattle.htt_truth.specs.Truth.{NotNot, Holds}
 use Rattle.htt_truth.specs.Predicates.{RecTree, recs_of}
 use Rattle.htt_truth.proofs.Stable.{joins_stable, classical}
-use Rattle.htt_meaning.specs.Closures.{Env, Meant, base, fun_of, all_of, do_of, fix_of, RunResult}
+use Rattle.htt_meaning.specs.Closures.{Env, RunValue, base, fun_of, all_of, do_of, fix_of, RunResult}
 use Rattle.htt_triple.specs.Triples.{Leaves, MeetsTriple}
 use Rattle.htt_triple.specs.Laws.{TripleLaws}
 
-own_is_one : {table : List RecTree} {spec : TripleTree} {h k g : Heap} {v : Meant} (a b : Leaves table spec h k v g) → IsSame a.own b.own
+own_is_one : {table : List RecTree} {spec : TripleTree} {h k g : Heap} {v : RunValue} (a b : Leaves table spec h k v g) → IsSame a.own b.own
 own_is_one a b = join_cancels (join_commutes a.parts) (join_commutes b.parts)
 
-own_is_heap : {table : List RecTree} {spec : TripleTree} {h k g : Heap} {v : Meant} (a : Leaves table spec h k v g) → IsHeap g → IsHeap a.own
+own_is_heap : {table : List RecTree} {spec : TripleTree} {h k g : Heap} {v : RunValue} (a : Leaves table spec h k v g) → IsHeap g → IsHeap a.own
 own_is_heap a i = (part_is_heap a.parts i).0
 
 -- what is left of a block without the other
@@ -46,10 +46,10 @@ no_base_fix p = cc
 abbrev rest : Heap → Heap → Heap
 rest g k l = without (g l) (k l)
 
-own_is : {table : List RecTree} {spec : TripleTree} {h k g : Heap} {v : Meant} (a : Leaves table spec h k v g) → a.own ≡ rest g k
+own_is : {table : List RecTree} {spec : TripleTree} {h k g : Heap} {v : RunValue} (a : Leaves table spec h k v g) → a.own ≡ rest g k
 own_is {k = k} {g = g} a = λ i l. own_is_rest (g l) (a.own l) (k l) (a.parts.each l) i
 
-leaves_is_stable : (table : List RecTree) (spec : TripleTree) (h k : Heap) (v : Meant) (g : Heap) → NotNot (Leaves table spec h k v g) → Leaves table spec h k v g
+leaves_is_stable : (table : List RecTree) (spec : TripleTree) (h k : Heap) (v : RunValue) (g : Heap) → NotNot (Leaves table spec h k v g) → Leaves table spec h k v g
 leaves_is_stable table (triple pre mono post) h k (base x) g n = record {
   own = rest g k;
   parts = record { each = λ l. joins_stable (g l) (rest g k l) (k l) (λ deny. n (λ a. deny (subst (λ (o : Heap). Joins (g l) (o l) (k l)) (own_is a) (a.parts.each l)))) };

@@ -2,7 +2,7 @@
 use Rattle.std.specs.Prelude.{[], ◌∷◌}
 use Rattle.htt_syntax.specs.declared.mono.Op.TheVariants.{Add}
 use Rattle.htt_syntax.specs.Trees.{TripleTree, triple, m_word, m_unit, t_var, t_word, t_loc, t_unit, t_do, t_bin, c_ret, c_step, s_set, f_tt, f_emp, f_eq, f_cell}
-use Rattle.htt_values.specs.Heaps.{Heap, empty, single}
+use Rattle.htt_values.specs.Heaps.{Heap, empty_heap, single_block}
 use Rattle.htt_meaning.specs.Closures.{Items}
 use Rattle.htt_triple.specs.Triples.{MeetsTriple, run_of_val}
 
@@ -25,7 +25,7 @@ abbrev pub writes_from_any : TripleTree
 writes_from_any = triple f_tt m_unit (f_cell m_word 0 (t_loc 5) (t_word 8))
 
 pub record WorkedExamples : Type 0 where
-  pub five_is_given : (k : Heap) → MeetsTriple [] gives_five (run_of_val file 0 1 []) empty k
-  pub six_is_not : MeetsTriple [] gives_six (run_of_val file 0 1 []) empty empty → ⊥
-  pub eight_beside_another : MeetsTriple [] writes_eight (run_of_val file 1 1 []) (single 5 (7 ∷ [])) (single 6 (1 ∷ []))
-  pub not_from_any : MeetsTriple [] writes_from_any (run_of_val file 1 1 []) empty empty → ⊥
+  pub five_is_given : (k : Heap) → MeetsTriple [] gives_five (run_of_val file 0 1 []) empty_heap k
+  pub six_is_not : MeetsTriple [] gives_six (run_of_val file 0 1 []) empty_heap empty_heap → ⊥
+  pub eight_beside_another : MeetsTriple [] writes_eight (run_of_val file 1 1 []) (single_block 5 (7 ∷ [])) (single_block 6 (1 ∷ []))
+  pub not_from_any : MeetsTriple [] writes_from_any (run_of_val file 1 1 []) empty_heap empty_heap → ⊥

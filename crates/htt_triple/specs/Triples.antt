@@ -7,7 +7,7 @@ use Rattle.htt_values.specs.Heaps.{Heap, IsJoin}
 use Rattle.htt_truth.specs.Worlds.{th_value, th_heap}
 use Rattle.htt_truth.specs.Truth.{Holds}
 use Rattle.htt_truth.specs.Predicates.{RecTree, recs_of}
-use Rattle.htt_meaning.specs.Closures.{Meant, base, nothing, RunResult, done, fault, Items}
+use Rattle.htt_meaning.specs.Closures.{RunValue, base, nothing, RunResult, done, fault, Items}
 use Rattle.htt_meaning.specs.Meaning.{run}
 
 -- The precondition stands under the heap mem.
@@ -20,7 +20,7 @@ PostHolds table (triple pre mono post) v init mem = Holds (recs_of table) (th_he
 
 -- A run from h beside the frame k has ended with a value and the heap g: g is the frame and an own
 -- part, of which the postcondition is true.
-pub record Leaves (table : List RecTree) (spec : TripleTree) (h k : Heap) (v : Meant) (g : Heap) : Type 0 where
+pub record Leaves (table : List RecTree) (spec : TripleTree) (h k : Heap) (v : RunValue) (g : Heap) : Type 0 where
   pub own : Heap
   pub parts : IsJoin g own k
   pub value : Value
@@ -30,7 +30,7 @@ pub record Leaves (table : List RecTree) (spec : TripleTree) (h k : Heap) (v : M
 -- The triple of a run from h beside the frame k, by what the run comes to from the whole heap.
 pub record MeetsTriple (table : List RecTree) (spec : TripleTree) (result : Heap → RunResult) (h k : Heap) : Type 0 where
   pub no_fault : (whole : Heap) → IsJoin whole h k → PreHolds table spec h → result whole ≢ fault
-  pub ends_so : (whole : Heap) → IsJoin whole h k → PreHolds table spec h → (v : Meant) (g : Heap) (rest : List ℕ) → result whole ≡ done v g rest → Leaves table spec h k v g
+  pub ends_so : (whole : Heap) → IsJoin whole h k → PreHolds table spec h → (v : RunValue) (g : Heap) (rest : List ℕ) → result whole ≡ done v g rest → Leaves table spec h k v g
 
 -- x <- main; ret x
 abbrev pub main_comp : ℕ → CompTree

@@ -2,7 +2,7 @@
 use Rattle.std.proofs.Common.{◌≡◌, ℕ, Option, Some, None, refl, sym, ap, ◌∙◌, ⊎_elim}
 use Rattle.std.proofs.lemmas.Bool.{cases_eq}
 use Rattle.htt_values.specs.Values.{encoding}
-use Rattle.htt_values.specs.Heaps.{Block, Heap, IsOnly, IsSame, single}
+use Rattle.htt_values.specs.Heaps.{Block, Heap, IsOnly, IsSame, single_block}
 use Rattle.htt_values.proofs.Encoding.{encoding_is_as_wide}
 use Rattle.htt_values.proofs.Joins.{single_is_only}
 use Rattle.htt_truth.specs.Worlds.{heap_at}
@@ -17,10 +17,10 @@ none_of : (o : Option Block) → ((b : Block) → o ≡ Some b → ⊥) → o �
 none_of None n = refl
 none_of (Some b) n = absurd (n b refl)
 
-only_is_same : {h : Heap} {l : ℕ} {b : Block} → IsOnly h l b → IsSame h (single l b)
-only_is_same {h = h} {l = l} {b = b} o = record { each = λ m. ⊎_elim (λ (e : m ≡ l). ap h e ∙ o.here ∙ sym (ap (single l b) e ∙ (single_is_only l b).here)) (λ (e : m ≡ l → ⊥). o.others m e ∙ sym ((single_is_only l b).others m e)) (cases_eq m l) }
+only_is_same : {h : Heap} {l : ℕ} {b : Block} → IsOnly h l b → IsSame h (single_block l b)
+only_is_same {h = h} {l = l} {b = b} o = record { each = λ m. ⊎_elim (λ (e : m ≡ l). ap h e ∙ o.here ∙ sym (ap (single_block l b) e ∙ (single_is_only l b).here)) (λ (e : m ≡ l → ⊥). o.others m e ∙ sym ((single_is_only l b).others m e)) (cases_eq m l) }
 
-same_is_only : {h : Heap} {l : ℕ} {b : Block} → IsSame h (single l b) → IsOnly h l b
+same_is_only : {h : Heap} {l : ℕ} {b : Block} → IsSame h (single_block l b) → IsOnly h l b
 same_is_only {l = l} {b = b} s = record { here = s.each l ∙ (single_is_only l b).here; others = λ m e. s.each m ∙ (single_is_only l b).others m e }
 
 pub formulas : HeapFormulas

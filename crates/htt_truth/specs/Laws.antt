@@ -3,7 +3,7 @@ use Rattle.std.specs.Prelude.{◌≡◌, ◌↔◌, ℕ, zero, suc, List, length
 use Rattle.htt_syntax.specs.Trees.{MonoTree, TermTree, FormulaTree, f_ff, f_and, f_or, f_imp, f_ex_h, f_emp, f_cell, f_block, f_join}
 use Rattle.htt_renaming.specs.Renaming.{Map, rename_mono, rename_term, rename_formula}
 use Rattle.htt_values.specs.Values.{Value, HasType, IsClosed, encoding, width}
-use Rattle.htt_values.specs.Heaps.{Block, Heap, InUse, IsHeap, IsJoin, IsSame, single}
+use Rattle.htt_values.specs.Heaps.{Block, Heap, InUse, IsHeap, IsJoin, IsSame, single_block}
 use Rattle.htt_truth.specs.Worlds.{World, FirstOrder, o_mono, o_value, o_heap, IsWorld, thing_at, th_heap, mono_at, value_at, heap_at, mono_under}
 use Rattle.htt_truth.specs.TermValue.{term_value, loc_of}
 use Rattle.htt_truth.specs.Truth.{NotNot, Recs, Holds}
@@ -61,6 +61,6 @@ pub record WorldsGive : Type 0 where
 -- holds the value; it is a single block of the width. A cell is a block.
 pub record HeapFormulas : Type 0 where
   pub emp_is_unused : (table : List RecTree) (w : World) (h : ℕ) → Holds (recs_of table) w (f_emp h) ↔ ((l : ℕ) → InUse (heap_at w h) l → ⊥)
-  pub cell_is_single : (table : List RecTree) (w : World) (t : MonoTree) (h : ℕ) (M N : TermTree) → Holds (recs_of table) w (f_cell t h M N) ↔ IsSame (heap_at w h) (single (loc_of (term_value w M)) (encoding (term_value w N)))
-  pub block_is_single : (table : List RecTree) (w : World) (t : MonoTree) (h : ℕ) (M : TermTree) → Holds (recs_of table) w (f_block t h M) ↔ NotNot ((b : Block) × (length b ≡ width (mono_under w t)) × IsSame (heap_at w h) (single (loc_of (term_value w M)) b))
+  pub cell_is_single : (table : List RecTree) (w : World) (t : MonoTree) (h : ℕ) (M N : TermTree) → Holds (recs_of table) w (f_cell t h M N) ↔ IsSame (heap_at w h) (single_block (loc_of (term_value w M)) (encoding (term_value w N)))
+  pub block_is_single : (table : List RecTree) (w : World) (t : MonoTree) (h : ℕ) (M : TermTree) → Holds (recs_of table) w (f_block t h M) ↔ NotNot ((b : Block) × (length b ≡ width (mono_under w t)) × IsSame (heap_at w h) (single_block (loc_of (term_value w M)) b))
   pub cell_is_block : (table : List RecTree) (w : World) (t : MonoTree) (h : ℕ) (M N : TermTree) → HasType (term_value w N) (mono_under w t) → Holds (recs_of table) w (f_cell t h M N) → Holds (recs_of table) w (f_block t h M)
