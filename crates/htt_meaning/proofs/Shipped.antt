@@ -1,5 +1,5 @@
 -- The shipped choices are fresh, so a run with enough of them ends without asking.
-use Rattle.std.proofs.Common.{◌≡◌, ℕ, zero, suc, ◌+◌, ◌≤◌, List, Option, Some, None, refl, sym, ap, ◌∙◌, subst, arith, ⊎_elim}
+use Rattle.std.proofs.Common.{◌≡◌, ℕ, zero, suc, ◌+◌, ◌≤◌, List, Option, Some, None, refl, sym, ap, ◌∙◌, subst, arith, ⊎_elim, inl, inr}
 use Rattle.std.specs.Prelude.{Bool, true, false, is_none, if◌then◌else◌}
 use Rattle.std.proofs.lemmas.Bool.{cases_eq}
 use Rattle.std.proofs.lemmas.Bool.Decides.{nat_tests}
@@ -151,8 +151,20 @@ runner_serves items (suc n) = record { at = λ e comp h g b. ran_served items (i
 greatest_below : (h : Heap) (g k : ℕ) → IsGreatest h g → IsGreatest h k → g ≤ k
 greatest_below h g k i j = ⊎_elim (λ (u : InUse h g). j.none_above g u) (λ (z : g ≡ zero). omega (arith, z)) i.in_use_or_zero
 
+none_is_no_block : {b : Block} → None ≡ Some b → ⊥
+none_is_no_block e = cc
+
+by_place : (n : ℕ) (h : Heap) → NoneAbove h (suc n) → (o : Option Block) → h (suc n) ≡ o → (NoneAbove h n → (g : ℕ) × IsGreatest h g) → (g : ℕ) × IsGreatest h g
+by_place n h b (Some c) e lower = (suc n, record { none_above = b; in_use_or_zero = inl (c, e) })
+by_place n h b None e lower = lower (λ l used. ⊎_elim (λ (q : l ≡ suc n). absurd (none_is_no_block (sym e ∙ sym (ap h q) ∙ used.1))) (λ (q : l ≡ suc n → ⊥). let m = b l used in omega (arith, m, q)) (cases_eq l (suc n)))
+
+found_below : (n : ℕ) (h : Heap) → NoneAbove h n → (g : ℕ) × IsGreatest h g
+found_below zero h b = (zero, record { none_above = b; in_use_or_zero = inr refl })
+found_below (suc n) h b = by_place n h b (h (suc n)) refl (λ c. found_below n h c)
+
 pub suffices : ShippedChoicesSuffice
 suffices = record {
   run_is_served = λ items n e comp h g i. ran_served items (inner_result items n) (runner_of items n) (runner_serves items n) e comp h g i.none_above;
+  greatest_exists = λ h i. found_below 18446744073709551615 h (λ l used. let m = i.at_words l used.0 used.1 in omega (arith, m));
   greatest_is_one = λ h g k i j. let a = greatest_below h g k i j in let b = greatest_below h k g j i in omega (arith, a, b);
 }

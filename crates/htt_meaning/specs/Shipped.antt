@@ -1,7 +1,7 @@
 -- What the shipped choices come to: a run is never left asking.
 use Rattle.std.specs.Prelude.{◌≡◌, ◌+◌, ◌≤◌, ℕ, suc, List}
 use Rattle.htt_syntax.specs.Trees.{CompTree}
-use Rattle.htt_values.specs.Heaps.{Heap, InUse}
+use Rattle.htt_values.specs.Heaps.{Heap, InUse, IsHeap}
 use Rattle.htt_meaning.specs.Closures.{RunValue, Env, RunResult, done, no_fuel, fault, Items}
 use Rattle.htt_meaning.specs.Meaning.{run}
 use Rattle.htt_meaning.specs.Choices.{IsGreatest, numbers_from}
@@ -21,5 +21,6 @@ pub data Served (g : ℕ) (result : List ℕ → RunResult) : Type 0 where
 pub record ShippedChoicesSuffice : Type 0 where
   -- each run with the shipped choices ends without asking, where there are enough of them
   pub run_is_served : (items : Items) (n : ℕ) (e : Env) (comp : CompTree) (h : Heap) (g : ℕ) → IsGreatest h g → Served g (run items n e comp h)
-  -- the greatest location is one
+  -- each heap has a greatest location, and one alone
+  pub greatest_exists : (h : Heap) → IsHeap h → (g : ℕ) × IsGreatest h g
   pub greatest_is_one : (h : Heap) (g k : ℕ) → IsGreatest h g → IsGreatest h k → g ≡ k

@@ -1,5 +1,5 @@
 -- The worked examples hold.
-use Rattle.std.proofs.Common.{◌≡◌, [], ◌∷◌, length, get_or, Some, None, refl, sym, ap, ◌∙◌, arith, ◌⊎◌, inl, inr}
+use Rattle.std.proofs.Common.{◌≡◌, [], ◌∷◌, length, get_or, Some, None, refl, sym, ap, ◌∙◌, arith, ◌⊎◌, inl, inr, zero, suc, subst}
 use Rattle.std.specs.Prelude.{true, false, ◌^◌, ◌<◌}
 use Rattle.htt_syntax.specs.Trees.{m_bool}
 use Rattle.htt_values.specs.Values.{Value, v_word, v_bool, HasType, is_word, is_bool}
@@ -7,8 +7,9 @@ use Rattle.htt_values.specs.Heaps.{Block, single_block, IsOnly, IsEmpty, Heap, I
 use Rattle.htt_values.proofs.Joins.{single_is_only}
 use Rattle.htt_truth.specs.TermValue.{term_value, term_values}
 use Rattle.htt_truth.specs.Truth.{Holds}
-use Rattle.htt_truth.specs.Predicates.{recs_below}
-use Rattle.htt_truth.specs.Examples.{WorkedExamples}
+use Rattle.htt_truth.specs.Atoms.{AtomsMeet, IsFounded, IsFoundedTable}
+use Rattle.htt_truth.specs.Predicates.{RecTree, recs_below}
+use Rattle.htt_truth.specs.Examples.{WorkedExamples, doubles, twice_one}
 
 some_is_not_none : (b : Block) → Some b ≡ None → ⊥
 some_is_not_none b e = cc
@@ -41,6 +42,25 @@ empty_is_heap = record { above_zero = λ l b e. absurd (some_is_not_none b (sym 
 not_at_null : (h : Heap) → IsHeap h → IsOnly h 0 (1 ∷ []) → ⊥
 not_at_null h is o = let l : 0 < 0 = is.above_zero 0 (1 ∷ []) o.here in omega (arith, l)
 
+same_entry : {r s : RecTree} → Some r ≡ Some s → r ≡ s
+same_entry e = cc
+
+no_entry : {s : RecTree} → None ≡ Some s → ⊥
+no_entry e = cc
+
+doubles_founded : IsFounded 0 doubles
+unfolding AtomsMeet
+doubles_founded = record { zero_founded = tt; next_founded = inr (refl, refl) }
+
+twice_one_founded : IsFounded 1 twice_one
+unfolding AtomsMeet
+twice_one_founded = record { zero_founded = omega arith; next_founded = tt }
+
+founded : IsFoundedTable (doubles ∷ twice_one ∷ [])
+founded zero r e = subst (IsFounded 0) (same_entry e) doubles_founded
+founded (suc zero) r e = subst (IsFounded 1) (same_entry e) twice_one_founded
+founded (suc (suc p)) r e = absurd (no_entry e)
+
 pub worked : WorkedExamples
 unfolding Holds term_value term_values recs_below
 worked = record {
@@ -67,5 +87,6 @@ worked = record {
   four_is_twice_two = refl;
   five_is_not = λ e. cc;
   two_is_twice_one = refl;
+  the_table_is_founded = founded;
   no_such_predicate = λ e. e;
 }

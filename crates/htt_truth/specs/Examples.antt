@@ -7,6 +7,7 @@ use Rattle.htt_values.specs.Heaps.{empty_heap, single_block, Heap, IsHeap}
 use Rattle.htt_truth.specs.Worlds.{World, th_mono, th_value, th_heap, mono_under}
 use Rattle.htt_truth.specs.TermValue.{term_value}
 use Rattle.htt_truth.specs.Truth.{Recs, Holds}
+use Rattle.htt_truth.specs.Atoms.{IsFoundedTable}
 use Rattle.htt_truth.specs.Predicates.{RecTree, recs_of}
 
 abbrev pub w : World
@@ -55,4 +56,5 @@ pub record WorkedExamples : Type 0 where
   pub four_is_twice_two : recs_of (doubles ∷ []) 0 2 (v_word 4 ∷ []) empty_heap
   pub five_is_not : recs_of (doubles ∷ []) 0 2 (v_word 5 ∷ []) empty_heap → ⊥
   pub two_is_twice_one : recs_of (doubles ∷ twice_one ∷ []) 1 0 (v_word 2 ∷ []) empty_heap
+  pub the_table_is_founded : IsFoundedTable (doubles ∷ twice_one ∷ [])
   pub no_such_predicate : recs_of (doubles ∷ []) 1 0 (v_word 0 ∷ []) empty_heap → ⊥
