@@ -2,3 +2,4 @@ pub mod PureFuel
 pub mod RunFuel
 pub mod Handed
 pub mod Examples
+pub mod Shipped

@@ -7,29 +7,29 @@ use Rattle.htt_values.specs.Heaps.{Heap}
 mutual
   -- A value of a monotype, or a closure: a function of a term, a function of a monotype, a
   -- computation, or a recursive function with some of its arguments.
-  pub data Meant : Type 0 where
-    base : Value → Meant
-    fun_of : Env → TermTree → Meant
-    all_of : Env → TermTree → Meant
-    do_of : Env → CompTree → Meant
+  pub data RunValue : Type 0 where
+    base : Value → RunValue
+    fun_of : Env → TermTree → RunValue
+    all_of : Env → TermTree → RunValue
+    do_of : Env → CompTree → RunValue
     -- its environment and the function; then the environment with the arguments so far, and what is
     -- left of the function under them
-    fix_of : Env → FixTree → Env → FixTree → Meant
+    fix_of : Env → FixTree → Env → FixTree → RunValue
 
   -- The entries around a phrase, the innermost first.
   pub data Env : Type 0 where
     nothing : Env
     with_mono : MonoTree → Env → Env
-    with_value : Meant → Env → Env
+    with_value : RunValue → Env → Env
 
 pub data PureResult : Type 0 where
-  gives : Meant → PureResult
+  gives : RunValue → PureResult
   lacks_fuel : PureResult
   faults : PureResult
 
 pub data RunResult : Type 0 where
   -- the value, the heap, and the choices that are left
-  done : Meant → Heap → List ℕ → RunResult
+  done : RunValue → Heap → List ℕ → RunResult
   no_fuel : RunResult
   asks : RunResult
   fault : RunResult
@@ -60,10 +60,10 @@ pair_mono (Some t) (Some u) = Some (m_pair t u)
 pair_mono _ _ = None
 
 -- A monotype closed by an environment, where it can be.
-abbrev pub closed_by : Env → MonoTree → Option MonoTree
-closed_by e m_word = Some m_word
-closed_by e m_bool = Some m_bool
-closed_by e m_loc = Some m_loc
-closed_by e m_unit = Some m_unit
-closed_by e (m_pair t u) = pair_mono (closed_by e t) (closed_by e u)
-closed_by e (m_var index) = mono_entry e index
+abbrev pub closed_mono : Env → MonoTree → Option MonoTree
+closed_mono e m_word = Some m_word
+closed_mono e m_bool = Some m_bool
+closed_mono e m_loc = Some m_loc
+closed_mono e m_unit = Some m_unit
+closed_mono e (m_pair t u) = pair_mono (closed_mono e t) (closed_mono e u)
+closed_mono e (m_var index) = mono_entry e index

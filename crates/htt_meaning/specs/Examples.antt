@@ -3,7 +3,7 @@ use Rattle.std.specs.Prelude.{◌≡◌, ℕ, List, [], ◌∷◌, true, false, 
 use Rattle.htt_syntax.specs.declared.mono.Op.TheVariants.{Add, Sub}
 use Rattle.htt_syntax.specs.Trees.{TermTree, FixTree, CompTree, StepTree, y_mono, triple, f_tt, f_ff, m_word, m_bool, m_loc, m_pair, m_var, t_var, t_val, t_def, t_app, t_inst, t_lam, t_lam_t, t_do, t_fix, t_word, t_bool, t_loc, t_pair, t_fst, t_bin, t_eq, t_sel, t_ann, t_at, x_param, x_body, c_ret, c_step, s_run, s_alloc, s_get, s_set, s_free, s_if, s_claim}
 use Rattle.htt_values.specs.Values.{v_word, v_bool, v_unit, v_pair}
-use Rattle.htt_values.specs.Heaps.{Heap, empty, single, written, removed}
+use Rattle.htt_values.specs.Heaps.{Heap, empty_heap, single_block, with_block, without_block}
 use Rattle.htt_meaning.specs.Closures.{base, do_of, nothing, PureResult, gives, lacks_fuel, faults, RunResult, done, no_fuel, asks, fault, Items}
 use Rattle.htt_meaning.specs.Meaning.{pure, run}
 use Rattle.htt_meaning.specs.Choices.{numbers_from}
@@ -49,22 +49,22 @@ pub record WorkedExamples : Type 0 where
   pub use_with_fuel : value 1 (t_val 0) ≡ gives (do_of nothing (c_ret (t_bin Add (t_word 2) (t_word 3))))
   pub definition_is_applied : value 1 (t_app (t_def 0) (t_at 5 (t_ann (t_word 6) (y_mono m_word)))) ≡ gives (base (v_word 7))
   pub all_parts_of_a_choice : value 0 (t_sel m_word (t_bool true) (t_word 1) (t_fst (t_word 2))) ≡ faults
-  pub cell_is_used : ends 0 one_cell empty (5 ∷ 9 ∷ []) ≡ done (base (v_word 8)) (removed (written (single 5 (7 ∷ [])) 5 (8 ∷ [])) 5) (9 ∷ [])
-  pub no_choice : ends 0 one_cell empty [] ≡ asks
-  pub zero_is_no_choice : ends 0 one_cell empty (0 ∷ 5 ∷ []) ≡ asks
-  pub used_is_no_choice : ends 0 one_cell (single 5 []) (5 ∷ 6 ∷ []) ≡ asks
-  pub two_is_no_bool : ends 0 (only (s_get m_bool (t_loc 5))) (single 5 (2 ∷ [])) [] ≡ fault
-  pub one_is_true : ends 0 (only (s_get m_bool (t_loc 5))) (single 5 (1 ∷ [])) [] ≡ done (base (v_bool true)) (single 5 (1 ∷ [])) []
-  pub other_width : ends 0 (only (s_set (m_pair m_word m_word) (t_loc 5) (t_word 1))) (single 5 (1 ∷ [])) [] ≡ fault
-  pub width_alone_counts : ends 0 (only (s_free m_bool (t_loc 5))) (single 5 (7 ∷ [])) [] ≡ done (base v_unit) (removed (single 5 (7 ∷ [])) 5) []
-  pub nothing_to_free : ends 0 (only (s_free m_word (t_loc 6))) (single 5 (7 ∷ [])) [] ≡ fault
-  pub branch_takes_no_fuel : ends 0 (only (s_if m_word (t_bool false) (c_ret (t_word 1)) (c_ret (t_word 2)))) empty [] ≡ done (base (v_word 2)) empty []
-  pub claim_does_nothing : ends 0 (only (s_claim f_ff)) (single 5 []) (6 ∷ []) ≡ done (base v_unit) (single 5 []) (6 ∷ [])
-  pub run_takes_fuel : ends 0 (only (s_run (t_do (c_ret (t_word 1))) None)) empty [] ≡ no_fuel
-  pub use_and_run : ends 1 (only (s_run (t_val 0) None)) empty [] ≡ done (base (v_word 5)) empty []
-  pub counted_down : ends 3 (only (s_run (t_app (t_fix 9 count_down) (t_word 2)) None)) empty [] ≡ done (base (v_word 0)) empty []
-  pub counting_takes_fuel : ends 2 (only (s_run (t_app (t_fix 9 count_down) (t_word 2)) None)) empty [] ≡ no_fuel
-  pub arguments_in_order : ends 1 (only (s_run (t_app (t_app (t_fix 9 both) (t_word 3)) (t_word 4)) None)) empty [] ≡ done (base (v_pair (v_word 3) (v_word 4))) empty []
-  pub lacks_an_argument : ends 1 (only (s_run (t_app (t_fix 9 both) (t_word 3)) None)) empty [] ≡ fault
+  pub cell_is_used : ends 0 one_cell empty_heap (5 ∷ 9 ∷ []) ≡ done (base (v_word 8)) (without_block (with_block (single_block 5 (7 ∷ [])) 5 (8 ∷ [])) 5) (9 ∷ [])
+  pub no_choice : ends 0 one_cell empty_heap [] ≡ asks
+  pub zero_is_no_choice : ends 0 one_cell empty_heap (0 ∷ 5 ∷ []) ≡ asks
+  pub used_is_no_choice : ends 0 one_cell (single_block 5 []) (5 ∷ 6 ∷ []) ≡ asks
+  pub two_is_no_bool : ends 0 (only (s_get m_bool (t_loc 5))) (single_block 5 (2 ∷ [])) [] ≡ fault
+  pub one_is_true : ends 0 (only (s_get m_bool (t_loc 5))) (single_block 5 (1 ∷ [])) [] ≡ done (base (v_bool true)) (single_block 5 (1 ∷ [])) []
+  pub other_width : ends 0 (only (s_set (m_pair m_word m_word) (t_loc 5) (t_word 1))) (single_block 5 (1 ∷ [])) [] ≡ fault
+  pub width_alone_counts : ends 0 (only (s_free m_bool (t_loc 5))) (single_block 5 (7 ∷ [])) [] ≡ done (base v_unit) (without_block (single_block 5 (7 ∷ [])) 5) []
+  pub nothing_to_free : ends 0 (only (s_free m_word (t_loc 6))) (single_block 5 (7 ∷ [])) [] ≡ fault
+  pub branch_takes_no_fuel : ends 0 (only (s_if m_word (t_bool false) (c_ret (t_word 1)) (c_ret (t_word 2)))) empty_heap [] ≡ done (base (v_word 2)) empty_heap []
+  pub claim_does_nothing : ends 0 (only (s_claim f_ff)) (single_block 5 []) (6 ∷ []) ≡ done (base v_unit) (single_block 5 []) (6 ∷ [])
+  pub run_takes_fuel : ends 0 (only (s_run (t_do (c_ret (t_word 1))) None)) empty_heap [] ≡ no_fuel
+  pub use_and_run : ends 1 (only (s_run (t_val 0) None)) empty_heap [] ≡ done (base (v_word 5)) empty_heap []
+  pub counted_down : ends 3 (only (s_run (t_app (t_fix 9 count_down) (t_word 2)) None)) empty_heap [] ≡ done (base (v_word 0)) empty_heap []
+  pub counting_takes_fuel : ends 2 (only (s_run (t_app (t_fix 9 count_down) (t_word 2)) None)) empty_heap [] ≡ no_fuel
+  pub arguments_in_order : ends 1 (only (s_run (t_app (t_app (t_fix 9 both) (t_word 3)) (t_word 4)) None)) empty_heap [] ≡ done (base (v_pair (v_word 3) (v_word 4))) empty_heap []
+  pub lacks_an_argument : ends 1 (only (s_run (t_app (t_fix 9 both) (t_word 3)) None)) empty_heap [] ≡ fault
   pub too_many_arguments : value 5 (t_app (t_app (t_fix 9 count_down) (t_word 3)) (t_word 4)) ≡ faults
   pub three_choices : numbers_from 6 3 ≡ 6 ∷ 7 ∷ 8 ∷ []

@@ -2,7 +2,7 @@
 use Rattle.std.specs.Prelude.{◌≡◌, ◌≢◌, ◌+◌, ℕ, List, ◌++◌}
 use Rattle.htt_syntax.specs.Trees.{TermTree, CompTree}
 use Rattle.htt_values.specs.Heaps.{Heap}
-use Rattle.htt_meaning.specs.Closures.{Meant, Env, lacks_fuel, done, no_fuel, fault, Items}
+use Rattle.htt_meaning.specs.Closures.{RunValue, Env, lacks_fuel, done, no_fuel, fault, Items}
 use Rattle.htt_meaning.specs.Meaning.{pure, run}
 
 -- A result other than want of fuel stays the same with more fuel.
@@ -12,6 +12,6 @@ pub record MoreFuelKeeps : Type 0 where
 
 -- A run that ends without asking ends so with more choices, and hands the further ones on.
 pub record ChoicesAreHandedOn : Type 0 where
-  pub when_done : (items : Items) (n : ℕ) (e : Env) (comp : CompTree) (h : Heap) (cs more : List ℕ) (v : Meant) (k : Heap) (rest : List ℕ) → run items n e comp h cs ≡ done v k rest → run items n e comp h (cs ++ more) ≡ done v k (rest ++ more)
+  pub when_done : (items : Items) (n : ℕ) (e : Env) (comp : CompTree) (h : Heap) (cs more : List ℕ) (v : RunValue) (k : Heap) (rest : List ℕ) → run items n e comp h cs ≡ done v k rest → run items n e comp h (cs ++ more) ≡ done v k (rest ++ more)
   pub when_fault : (items : Items) (n : ℕ) (e : Env) (comp : CompTree) (h : Heap) (cs more : List ℕ) → run items n e comp h cs ≡ fault → run items n e comp h (cs ++ more) ≡ fault
   pub when_no_fuel : (items : Items) (n : ℕ) (e : Env) (comp : CompTree) (h : Heap) (cs more : List ℕ) → run items n e comp h cs ≡ no_fuel → run items n e comp h (cs ++ more) ≡ no_fuel

@@ -3,3 +3,4 @@ pub mod Meaning
 pub mod Choices
 pub mod Laws
 pub mod Examples
+pub mod Shipped

@@ -6,6 +6,7 @@
 
 ghost use Rattle.htt_meaning.specs.Examples.{WorkedExamples};
 ghost use Rattle.htt_meaning.specs.Laws.{ChoicesAreHandedOn, MoreFuelKeeps};
+ghost use Rattle.htt_meaning.specs.Shipped.{ShippedChoicesSuffice};
 
 /// A result other than want of fuel stays the same with more fuel.
 pub fn more_fuel_keeps()
@@ -15,6 +16,11 @@ pub fn more_fuel_keeps()
 /// A run that doesn't ask for a location comes to the same with further choices, and hands them on.
 pub fn choices_are_handed_on()
     ensures law { ChoicesAreHandedOn }
+{}
+
+/// A run with the shipped choices ends without asking, where there are enough of them.
+pub fn shipped_choices_suffice()
+    ensures law { ShippedChoicesSuffice }
 {}
 
 /// The definitions compute these examples.

@@ -1,5 +1,7 @@
 pub mod Stable
 pub mod Renamed
+pub mod Given
+pub mod Cells
 pub mod Stars
 pub mod Unfolding
 pub mod Examples

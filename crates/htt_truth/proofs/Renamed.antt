@@ -5,7 +5,7 @@ use Rattle.htt_renaming.specs.Renaming.{Map, lift, rename_mono, rename_term, ren
 use Rattle.htt_values.specs.Values.{Value, v_pair, HasType, encoding, width, value_of_op, value_of_not, value_of_eq, value_of_sel, value_of_fst, value_of_snd}
 use Rattle.htt_values.specs.Heaps.{Block, Heap, IsHeap, IsEmpty, IsOnly, IsJoin, IsSame}
 use Rattle.htt_truth.specs.Worlds.{Thing, World, th_value, th_heap, thing_at, mono_of, value_of, heap_of, mono_under}
-use Rattle.htt_truth.specs.TermValue.{or_unit, term_value, term_values, word_of, loc_of}
+use Rattle.htt_truth.specs.TermValue.{value_or_unit, term_value, term_values, word_of, loc_of}
 use Rattle.htt_truth.specs.Truth.{NotNot, Recs, Holds}
 use Rattle.htt_truth.specs.Predicates.{recs_of}
 use Rattle.htt_truth.specs.Laws.{Agrees, RenamingKeepsTruth}
@@ -43,12 +43,12 @@ value_renamed a (t_bool truth) = refl
 value_renamed a (t_loc place) = refl
 value_renamed a t_unit = refl
 value_renamed a (t_pair left right) = λ j. v_pair (value_renamed a left j) (value_renamed a right j)
-value_renamed a (t_fst pair) = λ j. or_unit (value_of_fst (value_renamed a pair j))
-value_renamed a (t_snd pair) = λ j. or_unit (value_of_snd (value_renamed a pair j))
-value_renamed a (t_not term) = λ j. or_unit (value_of_not (value_renamed a term j))
-value_renamed a (t_bin op left right) = λ j. or_unit (value_of_op op (value_renamed a left j) (value_renamed a right j))
-value_renamed a (t_eq mono left right) = λ j. or_unit (value_of_eq (mono_renamed a mono j) (value_renamed a left j) (value_renamed a right j))
-value_renamed a (t_sel mono test on_true on_false) = λ j. or_unit (value_of_sel (value_renamed a test j) (value_renamed a on_true j) (value_renamed a on_false j))
+value_renamed a (t_fst pair) = λ j. value_or_unit (value_of_fst (value_renamed a pair j))
+value_renamed a (t_snd pair) = λ j. value_or_unit (value_of_snd (value_renamed a pair j))
+value_renamed a (t_not term) = λ j. value_or_unit (value_of_not (value_renamed a term j))
+value_renamed a (t_bin op left right) = λ j. value_or_unit (value_of_op op (value_renamed a left j) (value_renamed a right j))
+value_renamed a (t_eq mono left right) = λ j. value_or_unit (value_of_eq (mono_renamed a mono j) (value_renamed a left j) (value_renamed a right j))
+value_renamed a (t_sel mono test on_true on_false) = λ j. value_or_unit (value_of_sel (value_renamed a test j) (value_renamed a on_true j) (value_renamed a on_false j))
 value_renamed a (t_ann term ty) = refl
 value_renamed a (t_made number values) = refl
 value_renamed a (t_at at term) = value_renamed a term

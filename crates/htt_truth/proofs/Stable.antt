@@ -9,7 +9,7 @@ use Rattle.htt_values.specs.Values.{Value, value_discrete}
 use Rattle.htt_values.specs.Heaps.{Block, Heap, IsOnly, Joins}
 use Rattle.htt_truth.specs.Worlds.{World, th_value, th_heap}
 use Rattle.htt_truth.specs.Truth.{NotNot, Recs, Holds}
-use Rattle.htt_truth.specs.Predicates.{RecTree, Said, either, with_said, said_at, said_by, recs_below, recs_of, zero_world, next_world}
+use Rattle.htt_truth.specs.Predicates.{RecTree, Saying, type_if, recs_with, saying_of, saying_of_entry, recs_below, recs_of, zero_world, next_world}
 use Rattle.htt_truth.specs.Laws.{TruthIsClassical}
 
 abbrev pub Stable : Type 0 → Type 0
@@ -31,10 +31,10 @@ by_cases : {A : Type 0} → A ⊎ (A → ⊥) → Stable A
 by_cases (inl a) h = a
 by_cases (inr n) h = absurd (h n)
 
-block_stable : (a b : Option Block) → Stable (a ≡ b)
+pub block_stable : (a b : Option Block) → Stable (a ≡ b)
 block_stable a b = by_cases (block_cases a b)
 
-joins_stable : (x a b : Option Block) → Stable (Joins x a b)
+pub joins_stable : (x a b : Option Block) → Stable (Joins x a b)
 joins_stable x None b h = block_stable x b h
 joins_stable x (Some a) None h = block_stable x (Some a) h
 joins_stable x (Some a) (Some b) h = h (λ k. k)
@@ -42,7 +42,7 @@ joins_stable x (Some a) (Some b) h = h (λ k. k)
 only_stable : (h : Heap) (l : ℕ) (b : Block) → Stable (IsOnly h l b)
 only_stable h l b n = record { here = block_stable _ _ (λ k. n (λ o. k o.here)); others = λ m ne. block_stable _ _ (λ k. n (λ o. k (o.others m ne))) }
 
-value_stable : (x y : Value) → Stable (x ≡ y)
+pub value_stable : (x y : Value) → Stable (x ≡ y)
 value_stable x y h = elim (value_discrete ℕ_discrete Bool-discrete x y) [ yes p ↦ p | no p ↦ absurd (h p) ]
 
 -- What each predicate says is stable.
@@ -69,25 +69,25 @@ stable R s (f_eq mono left right) w h = value_stable _ _ h
 stable R s (f_at at formula) w h = stable R s formula w h
 stable R s (f_rec number heap place arguments) w h = s.at _ _ _ _ h
 
-either_stable : (b : Bool) (A B : Type 0) → Stable A → Stable B → Stable (either b A B)
+either_stable : (b : Bool) (A B : Type 0) → Stable A → Stable B → Stable (type_if b A B)
 either_stable true A B f g = f
 either_stable false A B f g = g
 
-with_stable : (R : Recs) (p : ℕ) (said : Said) → StableRecs R → ((j : ℕ) (vs : List Value) (h : Heap) → Stable (said j vs h)) → StableRecs (with_said R p said)
+with_stable : (R : Recs) (p : ℕ) (said : Saying) → StableRecs R → ((j : ℕ) (vs : List Value) (h : Heap) → Stable (said j vs h)) → StableRecs (recs_with R p said)
 with_stable R p said s f = record { at = λ q j vs h. either_stable (nat_eq q p) (said j vs h) (R q j vs h) (f j vs h) (s.at q j vs h) }
 
-said_stable : (R : Recs) → StableRecs R → (p : ℕ) (r : RecTree) (j : ℕ) (vs : List Value) (h : Heap) → Stable (said_at R p r j vs h)
+said_stable : (R : Recs) → StableRecs R → (p : ℕ) (r : RecTree) (j : ℕ) (vs : List Value) (h : Heap) → Stable (saying_of R p r j vs h)
 said_stable R s p r zero vs h = stable R s r.at_zero (zero_world vs h)
-said_stable R s p r (suc j) vs h = stable (with_said R p (λ i. said_at R p r j)) (with_stable R p (λ i. said_at R p r j) s (λ i. said_stable R s p r j)) r.at_next (next_world j vs h)
+said_stable R s p r (suc j) vs h = stable (recs_with R p (λ i. saying_of R p r j)) (with_stable R p (λ i. saying_of R p r j) s (λ i. said_stable R s p r j)) r.at_next (next_world j vs h)
 
-by_stable : (R : Recs) → StableRecs R → (p : ℕ) (o : Option RecTree) (j : ℕ) (vs : List Value) (h : Heap) → Stable (said_by R p o j vs h)
+by_stable : (R : Recs) → StableRecs R → (p : ℕ) (o : Option RecTree) (j : ℕ) (vs : List Value) (h : Heap) → Stable (saying_of_entry R p o j vs h)
 by_stable R s p (Some r) j vs h = said_stable R s p r j vs h
 by_stable R s p None j vs h = λ k. k (λ e. e)
 
 below_stable : (table : List RecTree) (n : ℕ) → StableRecs (recs_below table n)
 unfolding recs_below
 below_stable table zero = record { at = λ q j vs h k. k (λ e. e) }
-below_stable table (suc p) = with_stable (recs_below table p) p (said_by (recs_below table p) p (slice_get table p)) (below_stable table p) (by_stable (recs_below table p) (below_stable table p) p (slice_get table p))
+below_stable table (suc p) = with_stable (recs_below table p) p (saying_of_entry (recs_below table p) p (slice_get table p)) (below_stable table p) (by_stable (recs_below table p) (below_stable table p) p (slice_get table p))
 
 table_stable : (table : List RecTree) → StableRecs (recs_of table)
 table_stable table = below_stable table (length table)

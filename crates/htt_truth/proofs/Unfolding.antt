@@ -9,7 +9,7 @@ use Rattle.htt_values.specs.Heaps.{Heap, IsHeap}
 use Rattle.htt_truth.specs.Worlds.{Thing, World, th_value, th_heap, thing_at, value_at, value_of, heap_at, mono_under}
 use Rattle.htt_truth.specs.TermValue.{term_value, term_values, word_of}
 use Rattle.htt_truth.specs.Truth.{NotNot, Recs, Holds}
-use Rattle.htt_truth.specs.Predicates.{RecTree, Said, either, with_said, said_at, said_by, recs_below, recs_of, under_values, zero_world, next_world}
+use Rattle.htt_truth.specs.Predicates.{RecTree, Saying, type_if, recs_with, saying_of, saying_of_entry, recs_below, recs_of, world_of_values, zero_world, next_world}
 use Rattle.htt_truth.specs.Atoms.{AtomsMeet, IsEarlier, IsEarlierOrLess}
 use Rattle.htt_truth.specs.Laws.{PredicatesUnfold}
 use Rattle.htt_truth.proofs.Renamed.{both_ways}
@@ -45,28 +45,28 @@ same_number n = grind (arith, nat_tests)
 other_number : (q p : ℕ) → q < p → nat_eq q p ≡ false
 other_number q p l = grind (arith, nat_tests)
 
-with_own : (R : Recs) (p : ℕ) (said : Said) (j : ℕ) (vs : List Value) (h : Heap) → with_said R p said p j vs h ≡ said j vs h
-with_own R p said j vs h = ap (λ (b : Bool). either b (said j vs h) (R p j vs h)) (same_number p)
+with_own : (R : Recs) (p : ℕ) (said : Saying) (j : ℕ) (vs : List Value) (h : Heap) → recs_with R p said p j vs h ≡ said j vs h
+with_own R p said j vs h = ap (λ (b : Bool). type_if b (said j vs h) (R p j vs h)) (same_number p)
 
-with_other : (R : Recs) (p : ℕ) (said : Said) (q j : ℕ) (vs : List Value) (h : Heap) → q < p → with_said R p said q j vs h ≡ R q j vs h
-with_other R p said q j vs h l = ap (λ (b : Bool). either b (said j vs h) (R q j vs h)) (other_number q p l)
+with_other : (R : Recs) (p : ℕ) (said : Saying) (q j : ℕ) (vs : List Value) (h : Heap) → q < p → recs_with R p said q j vs h ≡ R q j vs h
+with_other R p said q j vs h l = ap (λ (b : Bool). type_if b (said j vs h) (R q j vs h)) (other_number q p l)
 
 -- What a predicate says stays when later ones are added.
 own_stays : (table : List RecTree) (more p : ℕ) (q j : ℕ) (vs : List Value) (h : Heap) → q < p → recs_below table (more + p) q j vs h ≡ recs_below table p q j vs h
 unfolding recs_below
 own_stays table zero p q j vs h l = let e : zero + p ≡ p = omega arith in ap (λ (n : ℕ). recs_below table n q j vs h) e
 own_stays table (suc more) p q j vs h l = let e : suc more + p ≡ suc (more + p) = omega arith in
-    ap (λ (n : ℕ). recs_below table n q j vs h) e ∙ with_other (recs_below table (more + p)) (more + p) (said_by (recs_below table (more + p)) (more + p) (slice_get table (more + p))) q j vs h (omega (arith, l)) ∙ own_stays table more p q j vs h l
+    ap (λ (n : ℕ). recs_below table n q j vs h) e ∙ with_other (recs_below table (more + p)) (more + p) (saying_of_entry (recs_below table (more + p)) (more + p) (slice_get table (more + p))) q j vs h (omega (arith, l)) ∙ own_stays table more p q j vs h l
 
 below_stays : (table : List RecTree) (p n : ℕ) → p ≤ n → (q j : ℕ) (vs : List Value) (h : Heap) → q < p → recs_below table n q j vs h ≡ recs_below table p q j vs h
 below_stays table p n le q j vs h l = let e : n ≡ (n - p) + p = omega (arith, le) in ap (λ (k : ℕ). recs_below table k q j vs h) e ∙ own_stays table (n - p) p q j vs h l
 
-own_says : (table : List RecTree) (p : ℕ) (r : RecTree) → slice_get table p ≡ Some r → (j : ℕ) (vs : List Value) (h : Heap) → recs_of table p j vs h ≡ said_at (recs_below table p) p r j vs h
+own_says : (table : List RecTree) (p : ℕ) (r : RecTree) → slice_get table p ≡ Some r → (j : ℕ) (vs : List Value) (h : Heap) → recs_of table p j vs h ≡ saying_of (recs_below table p) p r j vs h
 unfolding recs_below
 own_says table p r e j vs h =
     below_stays table (suc p) (length table) (slice_get_within table p r e) p j vs h (omega arith)
-    ∙ with_own (recs_below table p) p (said_by (recs_below table p) p (slice_get table p)) j vs h
-    ∙ ap (λ (o : Option RecTree). said_by (recs_below table p) p o j vs h) e
+    ∙ with_own (recs_below table p) p (saying_of_entry (recs_below table p) p (slice_get table p)) j vs h
+    ∙ ap (λ (o : Option RecTree). saying_of_entry (recs_below table p) p o j vs h) e
 
 zero_alike : (table : List RecTree) (p : ℕ) → p ≤ length table → Alike (IsEarlier p) (λ d w. Unit {0}) (recs_below table p) (recs_of table)
 zero_alike table p le = record { next = λ d w x v. tt; same = λ d q place w v l vs h. sym (below_stays table p (length table) le q (word_of (term_value w place)) vs h l) }
@@ -83,21 +83,21 @@ index_next : (j params d : ℕ) (w : World) (x : Thing) → IndexAt j params d w
 index_next j params d w x v = let e : suc d + params ≡ suc (d + params) = omega arith in ap (λ (n : ℕ). value_at (x ∷ w) (suc n)) e ∙ v
 
 next_same : (table : List RecTree) (p : ℕ) (r : RecTree) → slice_get table p ≡ Some r → (j params d q : ℕ) (place : TermTree) (w : World) → IndexAt j params d w → IsEarlierOrLess p params d q place → (vs : List Value) (h : Heap)
-    → with_said (recs_below table p) p (λ i. said_at (recs_below table p) p r j) q (word_of (term_value w place)) vs h ≡ recs_of table q (word_of (term_value w place)) vs h
+    → recs_with (recs_below table p) p (λ i. saying_of (recs_below table p) p r j) q (word_of (term_value w place)) vs h ≡ recs_of table q (word_of (term_value w place)) vs h
 next_same table p r e j params d q place w v (inl l) vs h =
     let le : p ≤ length table = let k = slice_get_within table p r e in omega (arith, k) in
-    with_other (recs_below table p) p (λ i. said_at (recs_below table p) p r j) q (word_of (term_value w place)) vs h l ∙ sym (below_stays table p (length table) le q (word_of (term_value w place)) vs h l)
+    with_other (recs_below table p) p (λ i. saying_of (recs_below table p) p r j) q (word_of (term_value w place)) vs h l ∙ sym (below_stays table p (length table) le q (word_of (term_value w place)) vs h l)
 next_same table p r e j params d q place w v (inr own) vs h =
     let f : word_of (term_value w place) ≡ j = word_of_place w place (suc (d + params)) j own.1 v in
-    ap (λ (n : ℕ). with_said (recs_below table p) p (λ i. said_at (recs_below table p) p r j) n (word_of (term_value w place)) vs h) own.0
-    ∙ with_own (recs_below table p) p (λ i. said_at (recs_below table p) p r j) (word_of (term_value w place)) vs h
+    ap (λ (n : ℕ). recs_with (recs_below table p) p (λ i. saying_of (recs_below table p) p r j) n (word_of (term_value w place)) vs h) own.0
+    ∙ with_own (recs_below table p) p (λ i. saying_of (recs_below table p) p r j) (word_of (term_value w place)) vs h
     ∙ sym (own_says table p r e j vs h)
     ∙ ap (λ (n : ℕ). recs_of table p n vs h) (sym f)
     ∙ ap (λ (n : ℕ). recs_of table n (word_of (term_value w place)) vs h) (sym own.0)
 
-under_at : (vs : List Value) (w : World) (k : ℕ) → thing_at (under_values w vs) (length vs + k) ≡ thing_at w k
+under_at : (vs : List Value) (w : World) (k : ℕ) → thing_at (world_of_values w vs) (length vs + k) ≡ thing_at w k
 under_at [] w k = let e : 0 + k ≡ k = omega arith in ap (thing_at w) e
-under_at (v ∷ vs) w k = let e : length (v ∷ vs) + k ≡ length vs + suc k = omega arith in ap (λ (n : ℕ). thing_at (under_values (th_value v ∷ w) vs) n) e ∙ under_at vs (th_value v ∷ w) (suc k)
+under_at (v ∷ vs) w k = let e : length (v ∷ vs) + k ≡ length vs + suc k = omega arith in ap (λ (n : ℕ). thing_at (world_of_values (th_value v ∷ w) vs) n) e ∙ under_at vs (th_value v ∷ w) (suc k)
 
 index_there : (j : ℕ) (vs : List Value) (params : ℕ) → length vs ≡ params → (h : Heap) → IndexAt j params 0 (next_world j vs h)
 index_there j vs params e h =
@@ -110,5 +110,5 @@ unfolds = record {
       let le : p ≤ length table = let k = slice_get_within table p r e in omega (arith, k) in
       both_ways (own_says table p r e zero vs h ∙ truths_alike (IsEarlier p) (λ d w. Unit {0}) (recs_below table p) (recs_of table) (zero_alike table p le) r.at_zero 0 (zero_world vs h) tt (founded p r e).zero_founded);
   at_next = λ table founded p r e j vs long h.
-      both_ways (own_says table p r e (suc j) vs h ∙ truths_alike (IsEarlierOrLess p (length r.params)) (IndexAt j (length r.params)) (with_said (recs_below table p) p (λ i. said_at (recs_below table p) p r j)) (recs_of table) (record { next = index_next j (length r.params); same = next_same table p r e j (length r.params) }) r.at_next 0 (next_world j vs h) (index_there j vs (length r.params) long h) (founded p r e).next_founded);
+      both_ways (own_says table p r e (suc j) vs h ∙ truths_alike (IsEarlierOrLess p (length r.params)) (IndexAt j (length r.params)) (recs_with (recs_below table p) p (λ i. saying_of (recs_below table p) p r j)) (recs_of table) (record { next = index_next j (length r.params); same = next_same table p r e j (length r.params) }) r.at_next 0 (next_world j vs h) (index_there j vs (length r.params) long h) (founded p r e).next_founded);
 }

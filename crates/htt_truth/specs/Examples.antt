@@ -1,16 +1,17 @@
 -- Truths that were worked out by hand. Index 0 is a word in w, index 1 a heap, index 2 a monotype.
 use Rattle.std.specs.Prelude.{◌≡◌, [], ◌∷◌, true, false}
 use Rattle.htt_syntax.specs.declared.mono.Op.TheVariants.{Add, Lt}
-use Rattle.htt_syntax.specs.Trees.{m_word, m_bool, m_loc, m_unit, m_pair, m_var, t_var, t_word, t_bool, t_loc, t_pair, t_snd, t_not, t_bin, t_eq, t_sel, t_at, no_terms, more_terms, f_tt, f_or, f_all_t, f_ex_t, f_emp, f_cell, f_block, f_eq, f_rec}
+use Rattle.htt_syntax.specs.Trees.{m_word, m_bool, m_loc, m_unit, m_pair, m_var, t_var, t_word, t_bool, t_loc, t_pair, t_snd, t_not, t_bin, t_eq, t_sel, t_at, no_terms, more_terms, f_tt, f_or, f_all_t, f_ex_t, f_emp, f_cell, f_block, f_eq, f_rec, t_unit, f_ex_h, f_join, f_same}
 use Rattle.htt_values.specs.Values.{v_word, v_bool}
-use Rattle.htt_values.specs.Heaps.{empty, single}
+use Rattle.htt_values.specs.Heaps.{empty_heap, single_block, Heap, IsHeap}
 use Rattle.htt_truth.specs.Worlds.{World, th_mono, th_value, th_heap, mono_under}
 use Rattle.htt_truth.specs.TermValue.{term_value}
 use Rattle.htt_truth.specs.Truth.{Recs, Holds}
+use Rattle.htt_truth.specs.Atoms.{IsFoundedTable}
 use Rattle.htt_truth.specs.Predicates.{RecTree, recs_of}
 
 abbrev pub w : World
-w = th_value (v_word 18446744073709551615) ∷ th_heap (single 5 (7 ∷ [])) ∷ th_mono (m_pair m_word m_bool) ∷ []
+w = th_value (v_word 18446744073709551615) ∷ th_heap (single_block 5 (7 ∷ [])) ∷ th_mono (m_pair m_word m_bool) ∷ []
 
 abbrev pub none : Recs
 none p j vs h = ⊥
@@ -47,7 +48,13 @@ pub record WorkedExamples : Type 0 where
   pub block_of_two_words : Holds none w (f_block (m_var 2) 1 (t_loc 5)) → ⊥
   pub every_bool_is_one_of_two : Holds none w (f_all_t m_bool (f_or (f_eq m_bool (t_var 0) (t_bool true)) (f_eq m_bool (t_var 0) (t_bool false))))
   pub some_word_is_above : Holds none w (f_ex_t m_word (f_eq m_bool (t_bin Lt (t_word 3) (t_var 0)) (t_bool true)))
-  pub four_is_twice_two : recs_of (doubles ∷ []) 0 2 (v_word 4 ∷ []) empty
-  pub five_is_not : recs_of (doubles ∷ []) 0 2 (v_word 5 ∷ []) empty → ⊥
-  pub two_is_twice_one : recs_of (doubles ∷ twice_one ∷ []) 1 0 (v_word 2 ∷ []) empty
-  pub no_such_predicate : recs_of (doubles ∷ []) 1 0 (v_word 0 ∷ []) empty → ⊥
+  pub some_heap_is_empty : Holds none w (f_ex_h (f_emp 0))
+  pub same_as_itself : Holds none w (f_same 1 1)
+  pub no_join_with_itself : Holds none w (f_join 1 1 1) → ⊥
+  pub unit_takes_an_empty_block : Holds none (th_heap (single_block 5 []) ∷ []) (f_cell m_unit 0 (t_loc 5) t_unit)
+  pub no_cell_at_null : (h : Heap) → IsHeap h → Holds none (th_heap h ∷ []) (f_cell m_word 0 (t_loc 0) (t_word 1)) → ⊥
+  pub four_is_twice_two : recs_of (doubles ∷ []) 0 2 (v_word 4 ∷ []) empty_heap
+  pub five_is_not : recs_of (doubles ∷ []) 0 2 (v_word 5 ∷ []) empty_heap → ⊥
+  pub two_is_twice_one : recs_of (doubles ∷ twice_one ∷ []) 1 0 (v_word 2 ∷ []) empty_heap
+  pub the_table_is_founded : IsFoundedTable (doubles ∷ twice_one ∷ [])
+  pub no_such_predicate : recs_of (doubles ∷ []) 1 0 (v_word 0 ∷ []) empty_heap → ⊥

@@ -1,11 +1,11 @@
 -- The laws of truth.
-use Rattle.std.specs.Prelude.{◌≡◌, ◌↔◌, ℕ, zero, suc, List, length, Some, slice_get, ◌∷◌}
-use Rattle.htt_syntax.specs.Trees.{MonoTree, TermTree, FormulaTree, f_ff, f_and, f_or, f_imp, f_ex_h, f_join}
+use Rattle.std.specs.Prelude.{◌≡◌, ◌↔◌, ℕ, zero, suc, List, length, Some, slice_get, drop, ◌∷◌}
+use Rattle.htt_syntax.specs.Trees.{MonoTree, TermTree, FormulaTree, f_ff, f_and, f_or, f_imp, f_ex_h, f_emp, f_cell, f_block, f_join}
 use Rattle.htt_renaming.specs.Renaming.{Map, rename_mono, rename_term, rename_formula}
-use Rattle.htt_values.specs.Values.{Value}
-use Rattle.htt_values.specs.Heaps.{Heap, IsHeap, IsJoin}
-use Rattle.htt_truth.specs.Worlds.{World, thing_at, th_heap, heap_at, mono_under}
-use Rattle.htt_truth.specs.TermValue.{term_value}
+use Rattle.htt_values.specs.Values.{Value, HasType, IsClosed, encoding, width}
+use Rattle.htt_values.specs.Heaps.{Block, Heap, InUse, IsHeap, IsJoin, IsSame, single_block}
+use Rattle.htt_truth.specs.Worlds.{World, FirstOrder, o_mono, o_value, o_heap, IsWorld, thing_at, th_heap, mono_at, value_at, heap_at, mono_under}
+use Rattle.htt_truth.specs.TermValue.{term_value, loc_of}
 use Rattle.htt_truth.specs.Truth.{NotNot, Recs, Holds}
 use Rattle.htt_truth.specs.Predicates.{RecTree, recs_of, zero_world, next_world}
 use Rattle.htt_truth.specs.Atoms.{IsFoundedTable}
@@ -49,3 +49,18 @@ pub record StarIsSplit : Type 0 where
 pub record PredicatesUnfold : Type 0 where
   pub at_zero : (table : List RecTree) → IsFoundedTable table → (p : ℕ) (r : RecTree) → slice_get table p ≡ Some r → (vs : List Value) (h : Heap) → recs_of table p zero vs h ↔ Holds (recs_of table) (zero_world vs h) r.at_zero
   pub at_next : (table : List RecTree) → IsFoundedTable table → (p : ℕ) (r : RecTree) → slice_get table p ≡ Some r → (j : ℕ) (vs : List Value) → length vs ≡ length r.params → (h : Heap) → recs_of table p (suc j) vs h ↔ Holds (recs_of table) (next_world j vs h) r.at_next
+
+-- A world of a first-order context gives each entry a thing of its sort; a value's monotype stands
+-- under the entries further out.
+pub record WorldsGive : Type 0 where
+  pub mono_given : {c : List FirstOrder} {w : World} → IsWorld c w → (n : ℕ) → slice_get c n ≡ Some o_mono → IsClosed (mono_at w n)
+  pub value_given : {c : List FirstOrder} {w : World} → IsWorld c w → (n : ℕ) (t : MonoTree) → slice_get c n ≡ Some (o_value t) → HasType (value_at w n) (mono_under (drop (suc n) w) t)
+  pub heap_given : {c : List FirstOrder} {w : World} → IsWorld c w → (n : ℕ) → slice_get c n ≡ Some o_heap → IsHeap (heap_at w n)
+
+-- The formulas of one heap, in other words: no location is in use; the heap is a single block, which
+-- holds the value; it is a single block of the width. A cell is a block.
+pub record HeapFormulas : Type 0 where
+  pub emp_is_unused : (table : List RecTree) (w : World) (h : ℕ) → Holds (recs_of table) w (f_emp h) ↔ ((l : ℕ) → InUse (heap_at w h) l → ⊥)
+  pub cell_is_single : (table : List RecTree) (w : World) (t : MonoTree) (h : ℕ) (M N : TermTree) → Holds (recs_of table) w (f_cell t h M N) ↔ IsSame (heap_at w h) (single_block (loc_of (term_value w M)) (encoding (term_value w N)))
+  pub block_is_single : (table : List RecTree) (w : World) (t : MonoTree) (h : ℕ) (M : TermTree) → Holds (recs_of table) w (f_block t h M) ↔ NotNot ((b : Block) × (length b ≡ width (mono_under w t)) × IsSame (heap_at w h) (single_block (loc_of (term_value w M)) b))
+  pub cell_is_block : (table : List RecTree) (w : World) (t : MonoTree) (h : ℕ) (M N : TermTree) → HasType (term_value w N) (mono_under w t) → Holds (recs_of table) w (f_cell t h M N) → Holds (recs_of table) w (f_block t h M)

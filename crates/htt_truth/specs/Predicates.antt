@@ -14,42 +14,42 @@ pub record RecTree : Type 0 where
   pub at_next : FormulaTree
 
 -- A world with these values as further entries, the first of them outermost.
-abbrev pub under_values : World → List Value → World
-under_values w [] = w
-under_values w (v ∷ vs) = under_values (th_value v ∷ w) vs
+abbrev pub world_of_values : World → List Value → World
+world_of_values w [] = w
+world_of_values w (v ∷ vs) = world_of_values (th_value v ∷ w) vs
 
 abbrev pub zero_world : List Value → Heap → World
-zero_world vs h = th_heap h ∷ under_values [] vs
+zero_world vs h = th_heap h ∷ world_of_values [] vs
 
 abbrev pub next_world : ℕ → List Value → Heap → World
-next_world j vs h = th_heap h ∷ under_values (th_value (v_word j) ∷ []) vs
+next_world j vs h = th_heap h ∷ world_of_values (th_value (v_word j) ∷ []) vs
 
 -- What one predicate says, of an index, arguments and a heap.
-abbrev pub Said : Type 1
-Said = ℕ → List Value → Heap → Type 0
+abbrev pub Saying : Type 1
+Saying = ℕ → List Value → Heap → Type 0
 
-abbrev pub either : Bool → Type 0 → Type 0 → Type 0
-either true A B = A
-either false A B = B
+abbrev pub type_if : Bool → Type 0 → Type 0 → Type 0
+type_if true A B = A
+type_if false A B = B
 
 -- The predicates as before, but one of them says this.
-abbrev pub with_said : Recs → ℕ → Said → Recs
-with_said R p said q j vs h = either (nat_eq q p) (said j vs h) (R q j vs h)
+abbrev pub recs_with : Recs → ℕ → Saying → Recs
+recs_with R p said q j vs h = type_if (nat_eq q p) (said j vs h) (R q j vs h)
 
 -- What a predicate says, where R is what the earlier ones say. Above 0 each atom of the predicate
 -- itself stands at the index less one.
-abbrev pub said_at : Recs → ℕ → RecTree → Said
-said_at R p r zero vs h = Holds R (zero_world vs h) r.at_zero
-said_at R p r (suc j) vs h = Holds (with_said R p (λ i. said_at R p r j)) (next_world j vs h) r.at_next
+abbrev pub saying_of : Recs → ℕ → RecTree → Saying
+saying_of R p r zero vs h = Holds R (zero_world vs h) r.at_zero
+saying_of R p r (suc j) vs h = Holds (recs_with R p (λ i. saying_of R p r j)) (next_world j vs h) r.at_next
 
-abbrev pub said_by : Recs → ℕ → Option RecTree → Said
-said_by R p (Some r) = said_at R p r
-said_by R p None = λ j vs h. ⊥
+abbrev pub saying_of_entry : Recs → ℕ → Option RecTree → Saying
+saying_of_entry R p (Some r) = saying_of R p r
+saying_of_entry R p None = λ j vs h. ⊥
 
 -- What the predicates below a number say. No other says anything.
 unfoldable pub recs_below : List RecTree → ℕ → Recs
 recs_below table zero = λ q j vs h. ⊥
-recs_below table (suc p) = with_said (recs_below table p) p (said_by (recs_below table p) p (slice_get table p))
+recs_below table (suc p) = recs_with (recs_below table p) p (saying_of_entry (recs_below table p) p (slice_get table p))
 
 -- What the predicates of a table say.
 abbrev pub recs_of : List RecTree → Recs

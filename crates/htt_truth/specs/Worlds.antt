@@ -2,7 +2,7 @@
 use Rattle.std.specs.Prelude.{ℕ, zero, suc, List, [], ◌∷◌}
 use Rattle.htt_syntax.specs.Trees.{MonoTree, m_word, m_bool, m_loc, m_unit, m_pair, m_var}
 use Rattle.htt_values.specs.Values.{Value, v_unit, HasType, IsClosed}
-use Rattle.htt_values.specs.Heaps.{Heap, IsHeap, empty}
+use Rattle.htt_values.specs.Heaps.{Heap, IsHeap, empty_heap}
 
 pub data Thing : Type 0 where
   th_mono : MonoTree → Thing
@@ -30,7 +30,7 @@ value_of _ = v_unit
 
 abbrev pub heap_of : Thing → Heap
 heap_of (th_heap h) = h
-heap_of _ = empty
+heap_of _ = empty_heap
 
 abbrev pub mono_at : World → ℕ → MonoTree
 mono_at w n = mono_of (thing_at w n)

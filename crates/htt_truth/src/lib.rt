@@ -5,7 +5,7 @@
 #![tactic(auto)]
 
 ghost use Rattle.htt_truth.specs.Examples.{WorkedExamples};
-ghost use Rattle.htt_truth.specs.Laws.{PredicatesUnfold, RenamingKeepsTruth, StarIsSplit, TruthIsClassical};
+ghost use Rattle.htt_truth.specs.Laws.{HeapFormulas, PredicatesUnfold, RenamingKeepsTruth, StarIsSplit, TruthIsClassical, WorldsGive};
 
 /// Truth is stable under double negation, so the excluded middle holds in every world.
 pub fn truth_is_classical()
@@ -16,6 +16,17 @@ pub fn truth_is_classical()
 /// thing of the one stands where the map sends it.
 pub fn renaming_keeps_truth()
     ensures law { RenamingKeepsTruth }
+{}
+
+/// A world of a first-order context gives each entry a thing of its sort.
+pub fn worlds_give()
+    ensures law { WorldsGive }
+{}
+
+/// `Emp` is true where no location is in use, a cell where the heap is the one block that holds the
+/// value, a block where it is one block of the width.
+pub fn heap_formulas()
+    ensures law { HeapFormulas }
 {}
 
 /// A star is true exactly where two disjoint parts of the heap make its two formulas true.

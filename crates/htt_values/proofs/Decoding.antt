@@ -4,20 +4,20 @@ use Rattle.std.specs.Prelude.{Bool, true, false, option_map}
 use Rattle.std.proofs.lemmas.Bool.Decides.{nat_tests}
 use Rattle.std.proofs.lemmas.List.{take-append-drop}
 use Rattle.htt_syntax.specs.Trees.{MonoTree, m_word, m_bool, m_loc, m_unit, m_pair, m_var}
-use Rattle.htt_values.specs.Values.{Value, v_word, v_bool, v_loc, v_unit, v_pair, IsWord, HasType, is_word, is_bool, is_loc, is_unit, is_pair, width, encoding, read_word, read_bool, pair_of, decoded}
+use Rattle.htt_values.specs.Values.{Value, v_word, v_bool, v_loc, v_unit, v_pair, IsWord, HasType, is_word, is_bool, is_loc, is_unit, is_pair, width, encoding, word_of_number, bool_of_number, pair_of, value_of_words}
 use Rattle.htt_values.proofs.Encoding.{encoding_is_as_wide}
 
-read_word_is : (n m : ℕ) → read_word n ≡ Some m → (n ≡ m) × IsWord m
+read_word_is : (n m : ℕ) → word_of_number n ≡ Some m → (n ≡ m) × IsWord m
 read_word_is n m e = grind (arith, nat_tests)
 
-word_is_read : (n : ℕ) → IsWord n → read_word n ≡ Some n
+word_is_read : (n : ℕ) → IsWord n → word_of_number n ≡ Some n
 word_is_read n l = grind (arith, nat_tests)
 
 abbrev bit : Bool → ℕ
 bit true = 1
 bit false = 0
 
-read_bool_is : (n : ℕ) (b : Bool) → read_bool n ≡ Some b → n ≡ bit b
+read_bool_is : (n : ℕ) (b : Bool) → bool_of_number n ≡ Some b → n ≡ bit b
 read_bool_is n true e = grind (arith, nat_tests)
 read_bool_is n false e = grind (arith, nat_tests)
 
@@ -53,20 +53,20 @@ of_bool : (n : ℕ) (b : Bool) → n ≡ bit b → Decodes m_bool (n ∷ []) (v_
 of_bool n true e = record { typed = is_bool; encoded = ap (λ (k : ℕ). k ∷ []) (sym e) }
 of_bool n false e = record { typed = is_bool; encoded = ap (λ (k : ℕ). k ∷ []) (sym e) }
 
-pub decodes : (t : MonoTree) (words : List ℕ) (v : Value) → decoded t words ≡ Some v → Decodes t words v
+pub decodes : (t : MonoTree) (words : List ℕ) (v : Value) → value_of_words t words ≡ Some v → Decodes t words v
 decodes m_word [] v e = cc
-decodes m_word (n ∷ []) v e = let m = mapped v_word (read_word n) v e in let r = read_word_is n m.of m.was in as_is m.is (record { typed = is_word r.1; encoded = ap (λ (k : ℕ). k ∷ []) (sym r.0) })
+decodes m_word (n ∷ []) v e = let m = mapped v_word (word_of_number n) v e in let r = read_word_is n m.of m.was in as_is m.is (record { typed = is_word r.1; encoded = ap (λ (k : ℕ). k ∷ []) (sym r.0) })
 decodes m_word (n ∷ m ∷ words) v e = cc
 decodes m_bool [] v e = cc
-decodes m_bool (n ∷ []) v e = let m = mapped v_bool (read_bool n) v e in as_is m.is (of_bool n m.of (read_bool_is n m.of m.was))
+decodes m_bool (n ∷ []) v e = let m = mapped v_bool (bool_of_number n) v e in as_is m.is (of_bool n m.of (read_bool_is n m.of m.was))
 decodes m_bool (n ∷ m ∷ words) v e = cc
 decodes m_loc [] v e = cc
-decodes m_loc (n ∷ []) v e = let m = mapped v_loc (read_word n) v e in let r = read_word_is n m.of m.was in as_is m.is (record { typed = is_loc r.1; encoded = ap (λ (k : ℕ). k ∷ []) (sym r.0) })
+decodes m_loc (n ∷ []) v e = let m = mapped v_loc (word_of_number n) v e in let r = read_word_is n m.of m.was in as_is m.is (record { typed = is_loc r.1; encoded = ap (λ (k : ℕ). k ∷ []) (sym r.0) })
 decodes m_loc (n ∷ m ∷ words) v e = cc
 decodes m_unit [] v e = let f : v_unit ≡ v = cc in as_is f (record { typed = is_unit; encoded = refl })
 decodes m_unit (n ∷ words) v e = cc
 decodes (m_pair t u) words v e =
-    let p = paired (decoded t (take (width t) words)) (decoded u (drop (width t) words)) v e in
+    let p = paired (value_of_words t (take (width t) words)) (value_of_words u (drop (width t) words)) v e in
     let l = decodes t (take (width t) words) p.left p.left_was in
     let r = decodes u (drop (width t) words) p.right p.right_was in
     as_is p.is (record { typed = is_pair l.typed r.typed; encoded = (λ j. l.encoded j ++ r.encoded j) ∙ take-append-drop (width t) words })
@@ -80,7 +80,7 @@ drop_front : (xs ys : List ℕ) → drop (length xs) (xs ++ ys) ≡ ys
 drop_front [] ys = refl
 drop_front (x ∷ xs) ys = drop_front xs ys
 
-pub encoding_is_decoded : {v : Value} {t : MonoTree} → HasType v t → decoded t (encoding v) ≡ Some v
+pub encoding_is_decoded : {v : Value} {t : MonoTree} → HasType v t → value_of_words t (encoding v) ≡ Some v
 encoding_is_decoded (is_word {n = n} l) = ap (option_map v_word) (word_is_read n l)
 encoding_is_decoded (is_bool {b = true}) = refl
 encoding_is_decoded (is_bool {b = false}) = refl
@@ -90,4 +90,4 @@ encoding_is_decoded (is_pair {x = x} {y = y} {t = t} {u = u} p q) =
     let w : width t ≡ length (encoding x) = sym (encoding_is_as_wide p) in
     let front : take (width t) (encoding x ++ encoding y) ≡ encoding x = ap (λ (n : ℕ). take n (encoding x ++ encoding y)) w ∙ take_front (encoding x) (encoding y) in
     let back : drop (width t) (encoding x ++ encoding y) ≡ encoding y = ap (λ (n : ℕ). drop n (encoding x ++ encoding y)) w ∙ drop_front (encoding x) (encoding y) in
-    (λ j. pair_of (decoded t (front j)) (decoded u (back j))) ∙ (λ j. pair_of (encoding_is_decoded p j) (encoding_is_decoded q j))
+    (λ j. pair_of (value_of_words t (front j)) (value_of_words u (back j))) ∙ (λ j. pair_of (encoding_is_decoded p j) (encoding_is_decoded q j))

@@ -4,7 +4,7 @@ use Rattle.std.specs.Prelude.{All}
 use Rattle.std.proofs.lemmas.Bool.{cases_eq}
 use Rattle.std.proofs.lemmas.Bool.Decides.{nat_tests}
 use Rattle.htt_values.specs.Values.{IsWord}
-use Rattle.htt_values.specs.Heaps.{Block, Heap, IsHeap, empty, single, IsSame, IsEmpty, IsOnly, Joins, IsJoin}
+use Rattle.htt_values.specs.Heaps.{Block, Heap, IsHeap, empty_heap, single_block, IsSame, IsEmpty, IsOnly, Joins, IsJoin}
 use Rattle.htt_values.specs.HeapLaws.{HeapLaws}
 
 abbrev first_of : Option Block → Option Block → Option Block
@@ -77,7 +77,7 @@ join_crosses {h = h} {a = a} {b = b} {c = c} {d = d} p q =
     let at = λ (l : ℕ). cross_at (h l) (a l) (b l) (c l) (d l) (p.each l) (q.each l) in
     (meet a c, meet a d, meet b c, meet b d, record { each = λ l. (at l).0 }, record { each = λ l. (at l).1 }, record { each = λ l. (at l).2 }, record { each = λ l. (at l).3 })
 
-pub join_of_empty : (h : Heap) → IsJoin h empty h
+pub join_of_empty : (h : Heap) → IsJoin h empty_heap h
 join_of_empty h = record { each = λ l. refl }
 
 pub join_with_empty : {h a b : Heap} → IsJoin h a b → IsEmpty a → IsSame h b
@@ -96,7 +96,7 @@ join_is_heap {h = h} {a = a} {b = b} j i k =
     let down = λ (l : ℕ) (w : Block) (e : h l ≡ Some w). whole_at (h l) (a l) (b l) w (j.each l) e in
     record { above_zero = λ l w e. ⊎_elim (i.above_zero l w) (k.above_zero l w) (down l w e); at_words = λ l w e. ⊎_elim (i.at_words l w) (k.at_words l w) (down l w e); of_words = λ l w e. ⊎_elim (i.of_words l w) (k.of_words l w) (down l w e) }
 
-pub single_is_only : (l : ℕ) (b : Block) → IsOnly (single l b) l b
+pub single_is_only : (l : ℕ) (b : Block) → IsOnly (single_block l b) l b
 single_is_only l b = record { here = grind (arith, nat_tests); others = λ m other. grind (arith, nat_tests) }
 
 some_is_one : {b c : Block} → Some b ≡ Some c → b ≡ c

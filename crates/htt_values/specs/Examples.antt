@@ -2,19 +2,19 @@
 use Rattle.std.specs.Prelude.{◌≡◌, [], ◌∷◌, true, false, Some, None}
 use Rattle.htt_syntax.specs.declared.mono.Op.TheVariants.{Add, Sub, Mul, And, Or, Xor, Shl, Shr, Lt}
 use Rattle.htt_syntax.specs.Trees.{m_word, m_bool, m_loc, m_unit, m_pair}
-use Rattle.htt_values.specs.Values.{v_word, v_bool, v_loc, v_unit, v_pair, width, encoding, decoded, op_value, value_of_op, value_of_eq, value_of_sel, value_of_fst}
-use Rattle.htt_values.specs.Heaps.{empty, single, written, removed}
+use Rattle.htt_values.specs.Values.{v_word, v_bool, v_loc, v_unit, v_pair, width, encoding, value_of_words, op_value, value_of_op, value_of_eq, value_of_sel, value_of_fst}
+use Rattle.htt_values.specs.Heaps.{empty_heap, single_block, with_block, without_block}
 
 pub record WorkedExamples : Type 0 where
   pub pair_width : width (m_pair (m_pair m_word m_unit) (m_pair m_bool m_loc)) ≡ 3
   pub pair_encoding : encoding (v_pair (v_pair (v_word 7) v_unit) (v_pair (v_bool true) (v_loc 9))) ≡ 7 ∷ 1 ∷ 9 ∷ []
-  pub pair_decoded : decoded (m_pair (m_pair m_word m_unit) (m_pair m_bool m_loc)) (7 ∷ 1 ∷ 9 ∷ []) ≡ Some (v_pair (v_pair (v_word 7) v_unit) (v_pair (v_bool true) (v_loc 9)))
-  pub unit_decoded : decoded m_unit [] ≡ Some v_unit
-  pub two_is_no_bool : decoded m_bool (2 ∷ []) ≡ None
-  pub one_word_too_many : decoded m_word (1 ∷ 2 ∷ []) ≡ None
-  pub one_word_too_few : decoded (m_pair m_word m_word) (1 ∷ []) ≡ None
-  pub words_end : decoded m_loc (18446744073709551616 ∷ []) ≡ None
-  pub last_word : decoded m_loc (18446744073709551615 ∷ []) ≡ Some (v_loc 18446744073709551615)
+  pub pair_decoded : value_of_words (m_pair (m_pair m_word m_unit) (m_pair m_bool m_loc)) (7 ∷ 1 ∷ 9 ∷ []) ≡ Some (v_pair (v_pair (v_word 7) v_unit) (v_pair (v_bool true) (v_loc 9)))
+  pub unit_decoded : value_of_words m_unit [] ≡ Some v_unit
+  pub two_is_no_bool : value_of_words m_bool (2 ∷ []) ≡ None
+  pub one_word_too_many : value_of_words m_word (1 ∷ 2 ∷ []) ≡ None
+  pub one_word_too_few : value_of_words (m_pair m_word m_word) (1 ∷ []) ≡ None
+  pub words_end : value_of_words m_loc (18446744073709551616 ∷ []) ≡ None
+  pub last_word : value_of_words m_loc (18446744073709551615 ∷ []) ≡ Some (v_loc 18446744073709551615)
   pub sum_wraps : op_value Add 18446744073709551615 3 ≡ v_word 2
   pub difference_wraps : op_value Sub 2 5 ≡ v_word 18446744073709551613
   pub difference_of_same : op_value Sub 5 5 ≡ v_word 0
@@ -37,9 +37,9 @@ pub record WorkedExamples : Type 0 where
   pub no_eq_of_a_word_and_a_place : value_of_eq m_word (v_word 4) (v_loc 4) ≡ None
   pub first_of_pair : value_of_fst (v_pair (v_word 1) (v_word 2)) ≡ Some (v_word 1)
   pub second_is_chosen : value_of_sel (v_bool false) (v_word 1) (v_word 2) ≡ Some (v_word 2)
-  pub empty_has_nothing : empty 5 ≡ None
-  pub single_here : single 5 (1 ∷ 2 ∷ []) 5 ≡ Some (1 ∷ 2 ∷ [])
-  pub single_elsewhere : single 5 (1 ∷ 2 ∷ []) 6 ≡ None
-  pub last_writing_counts : written (written empty 5 (1 ∷ [])) 5 [] 5 ≡ Some []
-  pub others_stay : removed (written (single 5 (1 ∷ [])) 6 (2 ∷ [])) 5 6 ≡ Some (2 ∷ [])
-  pub removed_is_gone : removed (single 5 (1 ∷ [])) 5 5 ≡ None
+  pub empty_has_nothing : empty_heap 5 ≡ None
+  pub single_here : single_block 5 (1 ∷ 2 ∷ []) 5 ≡ Some (1 ∷ 2 ∷ [])
+  pub single_elsewhere : single_block 5 (1 ∷ 2 ∷ []) 6 ≡ None
+  pub last_writing_counts : with_block (with_block empty_heap 5 (1 ∷ [])) 5 [] 5 ≡ Some []
+  pub others_stay : without_block (with_block (single_block 5 (1 ∷ [])) 6 (2 ∷ [])) 5 6 ≡ Some (2 ∷ [])
+  pub removed_is_gone : without_block (single_block 5 (1 ∷ [])) 5 5 ≡ None

@@ -18,21 +18,21 @@ pub record IsHeap (h : Heap) : Type 0 where
 abbrev pub InUse : Heap → ℕ → Type 0
 InUse h l = (b : Block) × (h l ≡ Some b)
 
-abbrev pub empty : Heap
-empty l = None
+abbrev pub empty_heap : Heap
+empty_heap l = None
 
 -- The heap with this at the location, and elsewhere as it was.
-abbrev pub put : Heap → ℕ → Option Block → Heap
-put h l at_place m = if nat_eq m l then at_place else h m
+abbrev pub with_place : Heap → ℕ → Option Block → Heap
+with_place h l at_place m = if nat_eq m l then at_place else h m
 
-abbrev pub written : Heap → ℕ → Block → Heap
-written h l b = put h l (Some b)
+abbrev pub with_block : Heap → ℕ → Block → Heap
+with_block h l b = with_place h l (Some b)
 
-abbrev pub removed : Heap → ℕ → Heap
-removed h l = put h l None
+abbrev pub without_block : Heap → ℕ → Heap
+without_block h l = with_place h l None
 
-abbrev pub single : ℕ → Block → Heap
-single l b = written empty l b
+abbrev pub single_block : ℕ → Block → Heap
+single_block l b = with_block empty_heap l b
 
 -- Two heaps with the same blocks.
 pub record IsSame (h k : Heap) : Type 0 where

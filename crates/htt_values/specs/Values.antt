@@ -50,24 +50,24 @@ encoding (v_loc n) = n ∷ []
 encoding v_unit = []
 encoding (v_pair x y) = encoding x ++ encoding y
 
-abbrev pub read_word : ℕ → Option ℕ
-read_word n = if nat_lt n (2 ^ 64) then Some n else None
+abbrev pub word_of_number : ℕ → Option ℕ
+word_of_number n = if nat_lt n (2 ^ 64) then Some n else None
 
-abbrev pub read_bool : ℕ → Option Bool
-read_bool n = if nat_eq n 0 then Some false else if nat_eq n 1 then Some true else None
+abbrev pub bool_of_number : ℕ → Option Bool
+bool_of_number n = if nat_eq n 0 then Some false else if nat_eq n 1 then Some true else None
 
 abbrev pub pair_of : Option Value → Option Value → Option Value
 pair_of (Some x) (Some y) = Some (v_pair x y)
 pair_of _ _ = None
 
 -- The value of a monotype that has these words, where one has them.
-abbrev pub decoded : MonoTree → List ℕ → Option Value
-decoded m_word (n ∷ []) = option_map v_word (read_word n)
-decoded m_bool (n ∷ []) = option_map v_bool (read_bool n)
-decoded m_loc (n ∷ []) = option_map v_loc (read_word n)
-decoded m_unit [] = Some v_unit
-decoded (m_pair t u) words = pair_of (decoded t (take (width t) words)) (decoded u (drop (width t) words))
-decoded _ _ = None
+abbrev pub value_of_words : MonoTree → List ℕ → Option Value
+value_of_words m_word (n ∷ []) = option_map v_word (word_of_number n)
+value_of_words m_bool (n ∷ []) = option_map v_bool (bool_of_number n)
+value_of_words m_loc (n ∷ []) = option_map v_loc (word_of_number n)
+value_of_words m_unit [] = Some v_unit
+value_of_words (m_pair t u) words = pair_of (value_of_words t (take (width t) words)) (value_of_words u (drop (width t) words))
+value_of_words _ _ = None
 
 -- What an operation gives for two words.
 abbrev pub op_value : Op → ℕ → ℕ → Value

@@ -1,0 +1,72 @@
+-- What a triple leaves is determined, and a triple that isn't denied is one.
+use Rattle.std.proofs.Common.{◌≡◌, List, [], ◌∷◌, Option, Some, None, refl, sym, subst, arith}
+use Rattle.htt_syntax.specs.Trees.{TermTree, FixTree, CompTree, TripleTree, triple}
+use Rattle.htt_values.specs.Values.{Value}
+use Rattle.htt_values.specs.Heaps.{Heap, Block, IsHeap, IsSame, Joins}
+use Rattle.htt_values.proofs.Joins.{join_commutes, join_cancels, part_is_heap}
+use Rattle.htt_truth.specs.Worlds.{th_value, th_heap}
+use Rattle.htt_truth.specs.Truth.{NotNot, Holds}
+use Rattle.htt_truth.specs.Predicates.{RecTree, recs_of}
+use Rattle.htt_truth.proofs.Stable.{joins_stable, classical}
+use Rattle.htt_meaning.specs.Closures.{Env, RunValue, base, fun_of, all_of, do_of, fix_of, RunResult}
+use Rattle.htt_triple.specs.Triples.{Leaves, MeetsTriple}
+use Rattle.htt_triple.specs.Laws.{TripleLaws}
+
+own_is_one : {table : List RecTree} {spec : TripleTree} {h k g : Heap} {v : RunValue} (a b : Leaves table spec h k v g) → IsSame a.own b.own
+own_is_one a b = join_cancels (join_commutes a.parts) (join_commutes b.parts)
+
+own_is_heap : {table : List RecTree} {spec : TripleTree} {h k g : Heap} {v : RunValue} (a : Leaves table spec h k v g) → IsHeap g → IsHeap a.own
+own_is_heap a i = (part_is_heap a.parts i).0
+
+-- what is left of a block without the other
+abbrev without : Option Block → Option Block → Option Block
+without g None = g
+without g (Some b) = None
+
+own_is_rest : (g own k : Option Block) → Joins g own k → own ≡ without g k
+own_is_rest None None None j = grind arith
+own_is_rest _ _ _ j = grind arith
+
+one_base : {x y : Value} → base x ≡ base y → x ≡ y
+one_base e = cc
+
+no_base_fun : {e : Env} {body : TermTree} {x : Value} → fun_of e body ≡ base x → ⊥
+no_base_fun p = cc
+
+no_base_all : {e : Env} {body : TermTree} {x : Value} → all_of e body ≡ base x → ⊥
+no_base_all p = cc
+
+no_base_do : {e : Env} {comp : CompTree} {x : Value} → do_of e comp ≡ base x → ⊥
+no_base_do p = cc
+
+no_base_fix : {own e : Env} {whole left : FixTree} {x : Value} → fix_of own whole e left ≡ base x → ⊥
+no_base_fix p = cc
+
+-- what is left of a heap without the frame
+abbrev rest : Heap → Heap → Heap
+rest g k l = without (g l) (k l)
+
+own_is : {table : List RecTree} {spec : TripleTree} {h k g : Heap} {v : RunValue} (a : Leaves table spec h k v g) → a.own ≡ rest g k
+own_is {k = k} {g = g} a = λ i l. own_is_rest (g l) (a.own l) (k l) (a.parts.each l) i
+
+leaves_is_stable : (table : List RecTree) (spec : TripleTree) (h k : Heap) (v : RunValue) (g : Heap) → NotNot (Leaves table spec h k v g) → Leaves table spec h k v g
+leaves_is_stable table (triple pre mono post) h k (base x) g n = record {
+  own = rest g k;
+  parts = record { each = λ l. joins_stable (g l) (rest g k l) (k l) (λ deny. n (λ a. deny (subst (λ (o : Heap). Joins (g l) (o l) (k l)) (own_is a) (a.parts.each l)))) };
+  value = x;
+  is_value = refl;
+  post = classical.stable table (th_heap (rest g k) ∷ th_heap h ∷ th_value x ∷ []) post (λ deny. n (λ a. deny (subst (λ (o : Heap). Holds (recs_of table) (th_heap o ∷ th_heap h ∷ th_value x ∷ []) post) (own_is a) (subst (λ (y : Value). Holds (recs_of table) (th_heap a.own ∷ th_heap h ∷ th_value y ∷ []) post) (sym (one_base a.is_value)) a.post))));
+}
+leaves_is_stable table spec h k (fun_of e body) g n = absurd (n (λ a. no_base_fun a.is_value))
+leaves_is_stable table spec h k (all_of e body) g n = absurd (n (λ a. no_base_all a.is_value))
+leaves_is_stable table spec h k (do_of e comp) g n = absurd (n (λ a. no_base_do a.is_value))
+leaves_is_stable table spec h k (fix_of own whole e left) g n = absurd (n (λ a. no_base_fix a.is_value))
+
+triple_is_stable : (table : List RecTree) (spec : TripleTree) (result : Heap → RunResult) (h k : Heap) → NotNot (MeetsTriple table spec result h k) → MeetsTriple table spec result h k
+triple_is_stable table spec result h k n = record {
+  no_fault = λ whole j p e. n (λ m. m.no_fault whole j p e);
+  ends_so = λ whole j p v g rest e. leaves_is_stable table spec h k v g (λ deny. n (λ m. deny (m.ends_so whole j p v g rest e)));
+}
+
+pub triple_laws : TripleLaws
+triple_laws = record { own_is_one = own_is_one; own_is_heap = own_is_heap; leaves_is_stable = leaves_is_stable; triple_is_stable = triple_is_stable }
