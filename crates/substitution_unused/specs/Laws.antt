@@ -1,0 +1,21 @@
+-- What is put for a variable that a canonical tree doesn't hold leaves the tree as it was.
+use Rattle.std.specs.Prelude.{ℕ, List}
+use Rattle.htt_syntax.specs.Trees.{TyTree, TermTree, CompTree, FormulaTree}
+use Rattle.htt_renaming.specs.Renaming.{rename_ty, rename_term, rename_comp, rename_formula}
+use Rattle.canonical_trees.specs.Skeletons.{Skeleton}
+use Rattle.canonical_trees.specs.Contexts.{Standing, Heads}
+use Rattle.canonical_trees.specs.Canonical.{Canonical, CanonicalComp, CanonicalTy, CanonicalFormula}
+use Rattle.substitution.specs.Substitution.{SubTerm, SubComp, SubTy, SubFormula}
+use Rattle.substitution_unused.specs.Opening.{opening}
+
+abbrev pub UnusedInTerm : Type 0
+UnusedInTerm = (heads : Heads) (g : List Standing) (new : TermTree) (s : Skeleton) (x : ℕ) (term : TermTree) (t : Skeleton) → Canonical heads g term t → SubTerm new s x (rename_term (opening x) term) term
+
+abbrev pub UnusedInComputation : Type 0
+UnusedInComputation = (heads : Heads) (g : List Standing) (new : TermTree) (s : Skeleton) (x : ℕ) (comp : CompTree) → CanonicalComp heads g comp → SubComp new s x (rename_comp (opening x) comp) comp
+
+abbrev pub UnusedInType : Type 0
+UnusedInType = (heads : Heads) (g : List Standing) (new : TermTree) (s : Skeleton) (x : ℕ) (ty : TyTree) → CanonicalTy heads g ty → SubTy new s x (rename_ty (opening x) ty) ty
+
+abbrev pub UnusedInFormula : Type 0
+UnusedInFormula = (heads : Heads) (g : List Standing) (new : TermTree) (s : Skeleton) (x : ℕ) (formula : FormulaTree) → CanonicalFormula heads g formula → SubFormula new s x (rename_formula (opening x) formula) formula

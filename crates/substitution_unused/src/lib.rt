@@ -1,0 +1,13 @@
+//! Substitution for a variable that a tree doesn't hold. A function without a body states laws by
+//! its contract.
+#![tactic(auto)]
+
+ghost use Rattle.substitution_unused.specs.Laws.{UnusedInComputation, UnusedInFormula, UnusedInTerm, UnusedInType};
+
+/// What is put for a variable that a canonical tree doesn't hold leaves the tree as it was.
+pub fn unused_variable_leaves_the_tree()
+    ensures terms { UnusedInTerm }
+    ensures computations { UnusedInComputation }
+    ensures types { UnusedInType }
+    ensures formulas { UnusedInFormula }
+{}
