@@ -47,3 +47,22 @@ MonotypeInType = (heads : Heads) (mono : MonoTree) (x : ℕ) (g whole : List Sta
 
 abbrev pub MonotypeInFormula : Type 0
 MonotypeInFormula = (heads : Heads) (mono : MonoTree) (x : ℕ) (g whole : List Standing) → MayFill mono x g whole → (formula : FormulaTree) → CanonicalFormula heads whole formula → CanonicalFormula heads g (put_mono_formula mono x formula)
+
+-- Each result is canonical, since there is one at most.
+abbrev pub TermResult : Type 0
+TermResult = (heads : Heads) (new : TermTree) (s : Skeleton) (x : ℕ) (g whole : List Standing) → MayBePut heads new s x g whole → (term r : TermTree) (t : Skeleton) → Canonical heads whole term t → SubTerm new s x term r → Canonical heads g r t
+
+abbrev pub ComputationResult : Type 0
+ComputationResult = (heads : Heads) (new : TermTree) (s : Skeleton) (x : ℕ) (g whole : List Standing) → MayBePut heads new s x g whole → (comp r : CompTree) → CanonicalComp heads whole comp → SubComp new s x comp r → CanonicalComp heads g r
+
+abbrev pub TypeResult : Type 0
+TypeResult = (heads : Heads) (new : TermTree) (s : Skeleton) (x : ℕ) (g whole : List Standing) → MayBePut heads new s x g whole → (ty r : TyTree) → CanonicalTy heads whole ty → SubTy new s x ty r → CanonicalTy heads g r
+
+abbrev pub FormulaResult : Type 0
+FormulaResult = (heads : Heads) (new : TermTree) (s : Skeleton) (x : ℕ) (g whole : List Standing) → MayBePut heads new s x g whole → (formula r : FormulaTree) → CanonicalFormula heads whole formula → SubFormula new s x formula r → CanonicalFormula heads g r
+
+abbrev pub ApplicationResult : Type 0
+ApplicationResult = (heads : Heads) (g : List Standing) (function argument r : TermTree) (s t : Skeleton) → Canonical heads g function (sk_arrow s t) → Canonical heads g argument s → App function s argument r → Canonical heads g r t
+
+abbrev pub BindingResult : Type 0
+BindingResult = (heads : Heads) (g : List Standing) (comp others r : CompTree) → CanonicalComp heads g comp → CanonicalComp heads (as_term sk_o ∷ g) others → Bind comp others r → CanonicalComp heads g r

@@ -3,7 +3,7 @@
 //! A function without a body states laws by its contract.
 #![tactic(auto)]
 
-ghost use Rattle.substitution_total.specs.Laws.{ApplicationGivesCanonical, BindingGivesCanonical, MonotypeInComputation, MonotypeInFormula, MonotypeInTerm, MonotypeInType, TermInComputation, TermInFormula, TermInTerm, TermInType};
+ghost use Rattle.substitution_total.specs.Laws.{ApplicationGivesCanonical, ApplicationResult, BindingGivesCanonical, BindingResult, ComputationResult, FormulaResult, MonotypeInComputation, MonotypeInFormula, MonotypeInTerm, MonotypeInType, TermInComputation, TermInFormula, TermInTerm, TermInType, TermResult, TypeResult};
 
 /// A canonical term that is put for a variable of its skeleton gives a canonical tree.
 pub fn terms_give_canonical()
@@ -29,4 +29,14 @@ pub fn monotypes_give_canonical()
     ensures computations { MonotypeInComputation }
     ensures types { MonotypeInType }
     ensures formulas { MonotypeInFormula }
+{}
+
+/// Whatever a substitution in canonical trees gives is canonical.
+pub fn results_are_canonical()
+    ensures terms { TermResult }
+    ensures computations { ComputationResult }
+    ensures types { TypeResult }
+    ensures formulas { FormulaResult }
+    ensures applications { ApplicationResult }
+    ensures bindings { BindingResult }
 {}
