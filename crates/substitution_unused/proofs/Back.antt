@@ -12,13 +12,13 @@ use Rattle.substitution_unused.specs.Opening.{opening}
 use Rattle.htt_renaming.proofs.Composition.{mono_joins}
 use Rattle.htt_renaming.proofs.Identity.{mono_stays}
 
-closes : (x n : ℕ) → closing x (opening x n) ≡ n
+pub closes : (x n : ℕ) → closing x (opening x n) ≡ n
 unfolding closing opening lift
 closes zero n = refl
 closes (suc x) zero = refl
 closes (suc x) (suc n) = ap suc (closes x n)
 
-misses : (x n : ℕ) → opening x n ≢ x
+pub misses : (x n : ℕ) → opening x n ≢ x
 unfolding opening lift
 misses zero n e = omega (arith, e)
 misses (suc x) zero e = omega (arith, e)
@@ -27,7 +27,7 @@ misses (suc x) (suc n) e = misses x n (omega (arith, e))
 mono_back : (x : ℕ) (mono : MonoTree) → rename_mono (closing x) (rename_mono (opening x) mono) ≡ mono
 mono_back x mono = mono_joins (closing x) (opening x) (λ n. n) (closes x) mono ∙ mono_stays (λ n. n) (λ n. refl) mono
 
-not_folded : {t : TermTree} → folded t ≡ None → fold t ≡ t
+pub not_folded : {t : TermTree} → folded t ≡ None → fold t ≡ t
 not_folded {t = t} e = ap (λ o. or_itself o t) e
 
 term_moved : {new : TermTree} {s : Skeleton} {x : ℕ} {t r q : TermTree} → r ≡ q → SubTerm new s x t r → SubTerm new s x t q

@@ -2,7 +2,7 @@
 //! its contract.
 #![tactic(auto)]
 
-ghost use Rattle.substitution_unused.specs.Laws.{UnusedInComputation, UnusedInFormula, UnusedInTerm, UnusedInType};
+ghost use Rattle.substitution_unused.specs.Laws.{UnusedInComputation, UnusedInFormula, UnusedInTerm, UnusedInType, UnusedMonotypeInComputation, UnusedMonotypeInFormula, UnusedMonotypeInTerm, UnusedMonotypeInType};
 
 /// What is put for a variable that a canonical tree doesn't hold leaves the tree as it was.
 pub fn unused_variable_leaves_the_tree()
@@ -10,4 +10,12 @@ pub fn unused_variable_leaves_the_tree()
     ensures computations { UnusedInComputation }
     ensures types { UnusedInType }
     ensures formulas { UnusedInFormula }
+{}
+
+/// A monotype that is put for a variable that a canonical tree doesn't hold leaves the tree as it was.
+pub fn unused_monotype_leaves_the_tree()
+    ensures terms { UnusedMonotypeInTerm }
+    ensures computations { UnusedMonotypeInComputation }
+    ensures types { UnusedMonotypeInType }
+    ensures formulas { UnusedMonotypeInFormula }
 {}
