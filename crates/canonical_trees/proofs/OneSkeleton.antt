@@ -3,7 +3,7 @@ use Rattle.std.proofs.Common.{◌≡◌, ℕ, List, refl, ◌∙◌, sym}
 use Rattle.htt_syntax.specs.Trees.{TermTree, FixTree}
 use Rattle.canonical_trees.specs.Skeletons.{Skeleton, sk_arrow, sk_all}
 use Rattle.canonical_trees.specs.Contexts.{Standing, as_term, Stands, here, open_term, there, Heads, HasSkeleton, first_head, later_head}
-use Rattle.canonical_trees.specs.Canonical.{Neutral, CanonicalFix, n_param, n_body, e_var, e_val, e_made, e_fix, e_app, e_inst}
+use Rattle.canonical_trees.specs.Canonical.{IsNeutral, IsCanonicalFix, n_param, n_body, e_var, e_val, e_made, e_fix, e_app, e_inst}
 
 entry_once : {g : List Standing} {n : ℕ} {s t : Skeleton} → Stands g n (as_term s) → Stands g n (as_term t) → s ≡ t
 entry_once here here = refl
@@ -14,7 +14,7 @@ head_once : {list : List Skeleton} {n : ℕ} {s t : Skeleton} → HasSkeleton li
 head_once first_head first_head = refl
 head_once (later_head d) (later_head e) = head_once d e
 
-fix_once : {heads : Heads} {g h : List Standing} {fix : FixTree} {whole over s t : Skeleton} → CanonicalFix heads g whole fix s → CanonicalFix heads h over fix t → s ≡ t
+fix_once : {heads : Heads} {g h : List Standing} {fix : FixTree} {whole over s t : Skeleton} → IsCanonicalFix heads g whole fix s → IsCanonicalFix heads h over fix t → s ≡ t
 fix_once (n_param d p e) (n_param a q b) = λ j. sk_arrow ((sym p ∙ q) j) (fix_once e b j)
 fix_once (n_body d e) (n_body a b) = refl
 
@@ -24,7 +24,7 @@ arrow_right e = cc
 all_body : {s t : Skeleton} → sk_all s ≡ sk_all t → s ≡ t
 all_body e = cc
 
-pub neutral_once : {heads : Heads} {g : List Standing} {term : TermTree} {s t : Skeleton} → Neutral heads g term s → Neutral heads g term t → s ≡ t
+pub neutral_once : {heads : Heads} {g : List Standing} {term : TermTree} {s t : Skeleton} → IsNeutral heads g term s → IsNeutral heads g term t → s ≡ t
 neutral_once (e_var d) (e_var e) = entry_once d e
 neutral_once (e_val d) (e_val e) = head_once d e
 neutral_once (e_made d a) (e_made e b) = head_once d e

@@ -5,9 +5,9 @@ use Rattle.htt_syntax.specs.declared.mono.Op.TheVariants.{Lt}
 use Rattle.htt_syntax.specs.Trees.{MonoTree, TyTree, TripleTree, TermTree, FixTree, CompTree, StepTree, FormulaTree, TermTrees, m_word, m_bool, m_loc, y_mono, y_fun, y_all, y_hoare, y_at, t_word, t_bool, t_loc, t_pair, t_fst, t_snd, t_not, t_bin, t_eq, t_sel}
 use Rattle.htt_renaming.specs.Renaming.{Map, lift, rename_mono, rename_ty, rename_triple, rename_term, rename_fix, rename_comp, rename_step, rename_formula, rename_terms}
 use Rattle.canonical_trees.specs.Skeletons.{Skeleton, sk_o, sk_arrow, sk_all, skeleton}
-use Rattle.canonical_trees.specs.Folding.{folded, op_literal}
+use Rattle.canonical_trees.specs.Folding.{contractum, op_literal}
 use Rattle.canonical_trees.specs.Contexts.{Standing, as_mono, as_heap, as_term, Stands, here, open_mono, open_heap, open_term, there, Heads, Keeps}
-use Rattle.canonical_trees.specs.Canonical.{Canonical, Neutral, CanonicalTerms, CanonicalFix, CanonicalComp, CanonicalStep, CanonicalTy, CanonicalTriple, CanonicalFormula, CanonicalMono, n_m_word, n_m_bool, n_m_loc, n_m_unit, n_m_pair, n_m_var, n_word, n_bool, n_loc, n_unit, n_pair, n_fst, n_snd, n_not, n_bin, n_eq, n_sel, n_lam, n_lam_t, n_do, n_neutral, e_var, e_val, e_made, e_fix, e_app, e_inst, n_no_terms, n_more_terms, n_param, n_body, n_ret, n_step, n_run, n_alloc, n_get, n_set, n_free, n_if, n_mono, n_fun, n_all, n_hoare, n_triple, n_tt, n_ff, n_and, n_or, n_imp, n_all_t, n_ex_t, n_all_h, n_ex_h, n_emp, n_cell, n_block, n_join, n_same, n_equal, n_rec}
+use Rattle.canonical_trees.specs.Canonical.{IsCanonical, IsNeutral, IsCanonicalTerms, IsCanonicalFix, IsCanonicalComp, IsCanonicalStep, IsCanonicalTy, IsCanonicalTriple, IsCanonicalFormula, IsCanonicalMono, n_m_word, n_m_bool, n_m_loc, n_m_unit, n_m_pair, n_m_var, n_word, n_bool, n_loc, n_unit, n_pair, n_fst, n_snd, n_not, n_bin, n_eq, n_sel, n_lam, n_lam_t, n_do, n_neutral, e_var, e_val, e_made, e_fix, e_app, e_inst, n_no_terms, n_more_terms, n_param, n_body, n_ret, n_step, n_run, n_alloc, n_get, n_set, n_free, n_if, n_mono, n_fun, n_all, n_hoare, n_triple, n_tt, n_ff, n_and, n_or, n_imp, n_all_t, n_ex_t, n_all_h, n_ex_h, n_emp, n_cell, n_block, n_join, n_same, n_equal, n_rec}
 
 lift_stands : {m : Map} {g h : List Standing} (entry : Standing) (n : ℕ) (found : Standing) → Keeps m g h → Stands (entry ∷ g) n found → Stands (entry ∷ h) (lift m n) found
 unfolding lift
@@ -37,8 +37,8 @@ literal_stays m Lt x y = refl
 literal_stays m _ x y = refl
 
 -- Folding and renaming may be done in either order.
-pub folded_renamed : (m : Map) (t : TermTree) → folded (rename_term m t) ≡ option_map (rename_term m) (folded t)
-unfolding folded rename_term rename_mono
+pub folded_renamed : (m : Map) (t : TermTree) → contractum (rename_term m t) ≡ option_map (rename_term m) (contractum t)
+unfolding contractum rename_term rename_mono
 folded_renamed m (t_bin op (t_word x) (t_word y)) = ap Some (literal_stays m op x y)
 folded_renamed m (t_not (t_bool x)) = refl
 folded_renamed m (t_eq m_word (t_word x) (t_word y)) = refl
@@ -50,10 +50,10 @@ folded_renamed m (t_sel mono (t_bool true) on_true on_false) = refl
 folded_renamed m (t_sel mono (t_bool false) on_true on_false) = refl
 folded_renamed m _ = refl
 
-stays_unfolded : (m : Map) (t : TermTree) → folded t ≡ None → folded (rename_term m t) ≡ None
+stays_unfolded : (m : Map) (t : TermTree) → contractum t ≡ None → contractum (rename_term m t) ≡ None
 stays_unfolded m t e = folded_renamed m t ∙ ap (option_map (rename_term m)) e
 
-pub mono_renamed : {t : MonoTree} {m : Map} {g h : List Standing} → CanonicalMono g t → Keeps m g h → CanonicalMono h (rename_mono m t)
+pub mono_renamed : {t : MonoTree} {m : Map} {g h : List Standing} → IsCanonicalMono g t → Keeps m g h → IsCanonicalMono h (rename_mono m t)
 unfolding rename_mono
 mono_renamed n_m_word k = n_m_word
 mono_renamed n_m_bool k = n_m_bool
@@ -65,7 +65,7 @@ mono_renamed (n_m_var {index = index} d0) k = n_m_var (k.at index as_mono d0)
 mutual
   unfolding rename_term
 
-  pub term_renamed : {heads : Heads} {t : TermTree} {s : Skeleton} {m : Map} {g h : List Standing} → Canonical heads g t s → Keeps m g h → Canonical heads h (rename_term m t) s
+  pub term_renamed : {heads : Heads} {t : TermTree} {s : Skeleton} {m : Map} {g h : List Standing} → IsCanonical heads g t s → Keeps m g h → IsCanonical heads h (rename_term m t) s
   term_renamed n_word k = n_word
   term_renamed n_bool k = n_bool
   term_renamed n_loc k = n_loc
@@ -82,7 +82,7 @@ mutual
   term_renamed (n_do d0) k = n_do (comp_renamed d0 k)
   term_renamed (n_neutral d0) k = n_neutral (neutral_renamed d0 k)
 
-  pub neutral_renamed : {heads : Heads} {t : TermTree} {s : Skeleton} {m : Map} {g h : List Standing} → Neutral heads g t s → Keeps m g h → Neutral heads h (rename_term m t) s
+  pub neutral_renamed : {heads : Heads} {t : TermTree} {s : Skeleton} {m : Map} {g h : List Standing} → IsNeutral heads g t s → Keeps m g h → IsNeutral heads h (rename_term m t) s
   neutral_renamed (e_var {index = index} {s = s} d0) k = e_var (k.at index (as_term s) d0)
   neutral_renamed (e_val d0) k = e_val d0
   neutral_renamed (e_made d0 d1) k = e_made d0 (terms_renamed d1 k)
@@ -90,19 +90,19 @@ mutual
   neutral_renamed (e_app d0 d1) k = e_app (neutral_renamed d0 k) (term_renamed d1 k)
   neutral_renamed (e_inst d0 d1) k = e_inst (neutral_renamed d0 k) (mono_renamed d1 k)
 
-  pub terms_renamed : {heads : Heads} {t : TermTrees} {m : Map} {g h : List Standing} → CanonicalTerms heads g t → Keeps m g h → CanonicalTerms heads h (rename_terms m t)
+  pub terms_renamed : {heads : Heads} {t : TermTrees} {m : Map} {g h : List Standing} → IsCanonicalTerms heads g t → Keeps m g h → IsCanonicalTerms heads h (rename_terms m t)
   terms_renamed n_no_terms k = n_no_terms
   terms_renamed (n_more_terms d0 d1) k = n_more_terms (term_renamed d0 k) (terms_renamed d1 k)
 
-  pub fix_renamed : {heads : Heads} {t : FixTree} {whole s : Skeleton} {m : Map} {g h : List Standing} → CanonicalFix heads g whole t s → Keeps m g h → CanonicalFix heads h whole (rename_fix m t) s
+  pub fix_renamed : {heads : Heads} {t : FixTree} {whole s : Skeleton} {m : Map} {g h : List Standing} → IsCanonicalFix heads g whole t s → Keeps m g h → IsCanonicalFix heads h whole (rename_fix m t) s
   fix_renamed {m = m} (n_param {s = s} {ty = ty} d0 d1 d2) k = n_param (ty_renamed d0 k) (skeleton_stays m ty ∙ d1) (fix_renamed d2 (keeps_lift (as_term s) k))
   fix_renamed (n_body {whole = whole} d0 d1) k = n_body (triple_renamed d0 k) (comp_renamed d1 (keeps_lift (as_term whole) k))
 
-  pub comp_renamed : {heads : Heads} {t : CompTree} {m : Map} {g h : List Standing} → CanonicalComp heads g t → Keeps m g h → CanonicalComp heads h (rename_comp m t)
+  pub comp_renamed : {heads : Heads} {t : CompTree} {m : Map} {g h : List Standing} → IsCanonicalComp heads g t → Keeps m g h → IsCanonicalComp heads h (rename_comp m t)
   comp_renamed (n_ret d0) k = n_ret (term_renamed d0 k)
   comp_renamed (n_step d0 d1) k = n_step (step_renamed d0 k) (comp_renamed d1 (keeps_lift (as_term sk_o) k))
 
-  pub step_renamed : {heads : Heads} {t : StepTree} {m : Map} {g h : List Standing} → CanonicalStep heads g t → Keeps m g h → CanonicalStep heads h (rename_step m t)
+  pub step_renamed : {heads : Heads} {t : StepTree} {m : Map} {g h : List Standing} → IsCanonicalStep heads g t → Keeps m g h → IsCanonicalStep heads h (rename_step m t)
   step_renamed (n_run d0 d1) k = n_run (neutral_renamed d0 k) (mono_renamed d1 k)
   step_renamed (n_alloc d0 d1) k = n_alloc (mono_renamed d0 k) (term_renamed d1 k)
   step_renamed (n_get d0 d1) k = n_get (mono_renamed d0 k) (term_renamed d1 k)
@@ -110,16 +110,16 @@ mutual
   step_renamed (n_free d0 d1) k = n_free (mono_renamed d0 k) (term_renamed d1 k)
   step_renamed (n_if d0 d1 d2 d3) k = n_if (mono_renamed d0 k) (term_renamed d1 k) (comp_renamed d2 k) (comp_renamed d3 k)
 
-  pub ty_renamed : {heads : Heads} {t : TyTree} {m : Map} {g h : List Standing} → CanonicalTy heads g t → Keeps m g h → CanonicalTy heads h (rename_ty m t)
+  pub ty_renamed : {heads : Heads} {t : TyTree} {m : Map} {g h : List Standing} → IsCanonicalTy heads g t → Keeps m g h → IsCanonicalTy heads h (rename_ty m t)
   ty_renamed (n_mono d0) k = n_mono (mono_renamed d0 k)
   ty_renamed {m = m} (n_fun {argument = argument} {s = s} d0 d1 d2) k = n_fun (ty_renamed d0 k) (skeleton_stays m argument ∙ d1) (ty_renamed d2 (keeps_lift (as_term s) k))
   ty_renamed (n_all d0) k = n_all (ty_renamed d0 (keeps_lift as_mono k))
   ty_renamed (n_hoare d0) k = n_hoare (triple_renamed d0 k)
 
-  pub triple_renamed : {heads : Heads} {t : TripleTree} {m : Map} {g h : List Standing} → CanonicalTriple heads g t → Keeps m g h → CanonicalTriple heads h (rename_triple m t)
+  pub triple_renamed : {heads : Heads} {t : TripleTree} {m : Map} {g h : List Standing} → IsCanonicalTriple heads g t → Keeps m g h → IsCanonicalTriple heads h (rename_triple m t)
   triple_renamed (n_triple d0 d1 d2) k = n_triple (formula_renamed d0 (keeps_lift as_heap k)) (mono_renamed d1 k) (formula_renamed d2 (keeps_lift as_heap (keeps_lift as_heap (keeps_lift (as_term sk_o) k))))
 
-  pub formula_renamed : {heads : Heads} {t : FormulaTree} {m : Map} {g h : List Standing} → CanonicalFormula heads g t → Keeps m g h → CanonicalFormula heads h (rename_formula m t)
+  pub formula_renamed : {heads : Heads} {t : FormulaTree} {m : Map} {g h : List Standing} → IsCanonicalFormula heads g t → Keeps m g h → IsCanonicalFormula heads h (rename_formula m t)
   formula_renamed n_tt k = n_tt
   formula_renamed n_ff k = n_ff
   formula_renamed (n_and d0 d1) k = n_and (formula_renamed d0 k) (formula_renamed d1 k)

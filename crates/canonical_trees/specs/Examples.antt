@@ -3,9 +3,9 @@ use Rattle.std.specs.Prelude.{◌≡◌, [], ◌∷◌, true, false, Some, None}
 use Rattle.htt_syntax.specs.declared.mono.Op.TheVariants.{Add, Sub, Xor, Shl, Shr, Lt}
 use Rattle.htt_syntax.specs.Trees.{TyTree, m_word, m_bool, m_loc, m_var, y_mono, y_fun, y_all, y_hoare, triple, t_var, t_val, t_app, t_inst, t_lam, t_lam_t, t_do, t_word, t_bool, t_loc, t_unit, t_pair, t_fst, t_snd, t_not, t_bin, t_eq, t_sel, c_ret, c_step, s_run, f_tt}
 use Rattle.canonical_trees.specs.Skeletons.{sk_o, sk_c, sk_arrow, sk_all, skeleton}
-use Rattle.canonical_trees.specs.Folding.{folded, fold}
+use Rattle.canonical_trees.specs.Folding.{contractum, folding}
 use Rattle.canonical_trees.specs.Contexts.{as_term, as_open, Heads}
-use Rattle.canonical_trees.specs.Canonical.{Canonical}
+use Rattle.canonical_trees.specs.Canonical.{IsCanonical}
 use Rattle.canonical_trees.specs.Eta.{eta}
 
 abbrev pub word_to_word : TyTree
@@ -23,31 +23,31 @@ pub record TheSkeletons : Type 0 where
   pub of_runner : skeleton runner ≡ sk_all (sk_arrow sk_o sk_c)
 
 pub record TheFoldings : Type 0 where
-  pub sum : fold (t_bin Add (t_word 2) (t_word 3)) ≡ t_word 5
-  pub sum_that_wraps : fold (t_bin Add (t_word 18446744073709551615) (t_word 2)) ≡ t_word 1
-  pub difference_that_wraps : fold (t_bin Sub (t_word 0) (t_word 1)) ≡ t_word 18446744073709551615
-  pub bits : fold (t_bin Xor (t_word 6) (t_word 3)) ≡ t_word 5
+  pub sum : folding (t_bin Add (t_word 2) (t_word 3)) ≡ t_word 5
+  pub sum_that_wraps : folding (t_bin Add (t_word 18446744073709551615) (t_word 2)) ≡ t_word 1
+  pub difference_that_wraps : folding (t_bin Sub (t_word 0) (t_word 1)) ≡ t_word 18446744073709551615
+  pub bits : folding (t_bin Xor (t_word 6) (t_word 3)) ≡ t_word 5
   -- a count of 65 counts as 1
-  pub moved_up : fold (t_bin Shl (t_word 3) (t_word 65)) ≡ t_word 6
-  pub moved_down : fold (t_bin Shr (t_word 7) (t_word 1)) ≡ t_word 3
-  pub order : fold (t_bin Lt (t_word 2) (t_word 3)) ≡ t_bool true
-  pub negation : fold (t_not (t_bool true)) ≡ t_bool false
-  pub equal_words : fold (t_eq m_word (t_word 2) (t_word 2)) ≡ t_bool true
-  pub other_places : fold (t_eq m_loc (t_loc 2) (t_loc 3)) ≡ t_bool false
-  pub equal_truths : fold (t_eq m_bool (t_bool false) (t_bool false)) ≡ t_bool true
-  pub part : fold (t_snd (t_pair (t_word 2) t_unit)) ≡ t_unit
-  pub choice : fold (t_sel m_word (t_bool false) (t_word 2) (t_var 0)) ≡ t_var 0
+  pub moved_up : folding (t_bin Shl (t_word 3) (t_word 65)) ≡ t_word 6
+  pub moved_down : folding (t_bin Shr (t_word 7) (t_word 1)) ≡ t_word 3
+  pub order : folding (t_bin Lt (t_word 2) (t_word 3)) ≡ t_bool true
+  pub negation : folding (t_not (t_bool true)) ≡ t_bool false
+  pub equal_words : folding (t_eq m_word (t_word 2) (t_word 2)) ≡ t_bool true
+  pub other_places : folding (t_eq m_loc (t_loc 2) (t_loc 3)) ≡ t_bool false
+  pub equal_truths : folding (t_eq m_bool (t_bool false) (t_bool false)) ≡ t_bool true
+  pub part : folding (t_snd (t_pair (t_word 2) t_unit)) ≡ t_unit
+  pub choice : folding (t_sel m_word (t_bool false) (t_word 2) (t_var 0)) ≡ t_var 0
 
 -- What isn't folded: zero added, literals at another monotype, parts of what isn't a pair, a choice
 -- between equals, a pair of the parts of one.
 pub record NoFoldings : Type 0 where
-  pub zero_added : folded (t_bin Add (t_var 0) (t_word 0)) ≡ None
-  pub at_a_variable : folded (t_eq (m_var 0) (t_word 2) (t_word 2)) ≡ None
-  pub at_another : folded (t_eq m_loc (t_word 2) (t_word 2)) ≡ None
-  pub part_of_a_word : folded (t_fst (t_word 2)) ≡ None
-  pub choice_of_one : folded (t_sel m_word (t_var 0) (t_word 2) (t_word 2)) ≡ None
-  pub twice_negated : folded (t_not (t_not (t_var 0))) ≡ None
-  pub pair_of_parts : folded (t_pair (t_fst (t_var 0)) (t_snd (t_var 0))) ≡ None
+  pub zero_added : contractum (t_bin Add (t_var 0) (t_word 0)) ≡ None
+  pub at_a_variable : contractum (t_eq (m_var 0) (t_word 2) (t_word 2)) ≡ None
+  pub at_another : contractum (t_eq m_loc (t_word 2) (t_word 2)) ≡ None
+  pub part_of_a_word : contractum (t_fst (t_word 2)) ≡ None
+  pub choice_of_one : contractum (t_sel m_word (t_var 0) (t_word 2) (t_word 2)) ≡ None
+  pub twice_negated : contractum (t_not (t_not (t_var 0))) ≡ None
+  pub pair_of_parts : contractum (t_pair (t_fst (t_var 0)) (t_snd (t_var 0))) ≡ None
 
 pub record TheExpansions : Type 0 where
   pub at_a_word : eta (t_var 3) (y_mono m_word) ≡ t_var 3
@@ -59,13 +59,13 @@ pub record TheExpansions : Type 0 where
   pub of_a_functional : eta (t_var 0) (y_fun word_to_word (y_mono m_word)) ≡ t_lam (t_app (t_var 1) (t_lam (t_app (t_var 1) (t_var 0))))
 
 pub record TheCanonical : Type 0 where
-  pub identity : Canonical no_heads [] (t_lam (t_var 0)) (sk_arrow sk_o sk_o)
-  pub part_of_a_word : Canonical no_heads [] (t_fst (t_word 2)) sk_o
-  pub open_variable : Canonical no_heads (as_open ∷ []) (t_eq (m_var 0) (t_var 0) (t_var 0)) sk_o
-  pub no_sum : Canonical no_heads [] (t_bin Add (t_word 2) (t_word 3)) sk_o → ⊥
-  pub not_long : Canonical no_heads (as_term (sk_arrow sk_o sk_o) ∷ []) (t_var 0) (sk_arrow sk_o sk_o) → ⊥
-  pub no_entry : Canonical no_heads [] (t_var 0) sk_o → ⊥
-  pub no_redex : Canonical no_heads [] (t_app (t_lam (t_var 0)) (t_word 2)) sk_o → ⊥
+  pub identity : IsCanonical no_heads [] (t_lam (t_var 0)) (sk_arrow sk_o sk_o)
+  pub part_of_a_word : IsCanonical no_heads [] (t_fst (t_word 2)) sk_o
+  pub open_variable : IsCanonical no_heads (as_open ∷ []) (t_eq (m_var 0) (t_var 0) (t_var 0)) sk_o
+  pub no_sum : IsCanonical no_heads [] (t_bin Add (t_word 2) (t_word 3)) sk_o → ⊥
+  pub not_long : IsCanonical no_heads (as_term (sk_arrow sk_o sk_o) ∷ []) (t_var 0) (sk_arrow sk_o sk_o) → ⊥
+  pub no_entry : IsCanonical no_heads [] (t_var 0) sk_o → ⊥
+  pub no_redex : IsCanonical no_heads [] (t_app (t_lam (t_var 0)) (t_word 2)) sk_o → ⊥
   -- a variable of a function's argument is no monotype
-  pub no_monotype : Canonical no_heads [] (t_lam (t_eq (m_var 0) (t_word 2) (t_word 2))) (sk_arrow sk_o sk_o) → ⊥
-  pub no_val : Canonical no_heads [] (t_val 0) sk_o → ⊥
+  pub no_monotype : IsCanonical no_heads [] (t_lam (t_eq (m_var 0) (t_word 2) (t_word 2))) (sk_arrow sk_o sk_o) → ⊥
+  pub no_val : IsCanonical no_heads [] (t_val 0) sk_o → ⊥

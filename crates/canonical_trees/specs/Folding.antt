@@ -21,22 +21,22 @@ same_truth true y = y
 same_truth false y = not y
 
 -- What a term is folded to, if it is folded.
-unfoldable pub folded : TermTree → Option TermTree
-folded (t_bin op (t_word x) (t_word y)) = Some (op_literal op x y)
-folded (t_not (t_bool x)) = Some (t_bool (not x))
-folded (t_eq m_word (t_word x) (t_word y)) = Some (t_bool (nat_eq x y))
-folded (t_eq m_bool (t_bool x) (t_bool y)) = Some (t_bool (same_truth x y))
-folded (t_eq m_loc (t_loc x) (t_loc y)) = Some (t_bool (nat_eq x y))
-folded (t_fst (t_pair left right)) = Some left
-folded (t_snd (t_pair left right)) = Some right
-folded (t_sel mono (t_bool true) on_true on_false) = Some on_true
-folded (t_sel mono (t_bool false) on_true on_false) = Some on_false
-folded _ = None
+unfoldable pub contractum : TermTree → Option TermTree
+contractum (t_bin op (t_word x) (t_word y)) = Some (op_literal op x y)
+contractum (t_not (t_bool x)) = Some (t_bool (not x))
+contractum (t_eq m_word (t_word x) (t_word y)) = Some (t_bool (nat_eq x y))
+contractum (t_eq m_bool (t_bool x) (t_bool y)) = Some (t_bool (same_truth x y))
+contractum (t_eq m_loc (t_loc x) (t_loc y)) = Some (t_bool (nat_eq x y))
+contractum (t_fst (t_pair left right)) = Some left
+contractum (t_snd (t_pair left right)) = Some right
+contractum (t_sel mono (t_bool true) on_true on_false) = Some on_true
+contractum (t_sel mono (t_bool false) on_true on_false) = Some on_false
+contractum _ = None
 
 abbrev pub or_itself : Option TermTree → TermTree → TermTree
-or_itself (Some folding) term = folding
+or_itself (Some result) term = result
 or_itself None term = term
 
 -- The term, folded if it can be.
-abbrev pub fold : TermTree → TermTree
-fold term = or_itself (folded term) term
+abbrev pub folding : TermTree → TermTree
+folding term = or_itself (contractum term) term

@@ -4,18 +4,18 @@ use Rattle.htt_syntax.specs.declared.mono.Op.TheVariants.{Add}
 use Rattle.htt_syntax.specs.Trees.{TermTree, m_word, y_mono, t_var, t_word, t_bin, t_ann}
 use Rattle.htt_renaming.specs.Renaming.{lift, rename_mono, rename_term}
 use Rattle.canonical_trees.specs.Skeletons.{Skeleton, sk_o}
-use Rattle.canonical_trees.specs.Folding.{folded, fold}
+use Rattle.canonical_trees.specs.Folding.{contractum, folding}
 use Rattle.substitution.specs.Closing.{closing}
 use Rattle.substitution.specs.Monotypes.{fill_mono, next_filling, fill_term, put_mono}
 use Rattle.substitution.specs.Substitution.{SubTerm, k_var, k_val, k_fix, k_app, r_var, r_app, r_inst, applied, u_kept, u_reduced, u_word, u_pair, u_fst, u_bin, u_eq, u_sel, u_lam, u_x_param, u_x_body, u_ret, u_step, u_spliced, b_ret, b_step, u_run, u_s_set, u_y_mono, u_triple, u_f_tt, u_f_all_h, u_f_cell}
 use Rattle.substitution.specs.Examples.{Applications, Terms, Monotypes, Computations, Others, plus}
 
 -- a sum with a literal
-added : {new t r : TermTree} {s : Skeleton} {x : ℕ} (n : ℕ) → SubTerm new s x t r → SubTerm new s x (plus t n) (fold (t_bin Add r (t_word n)))
+added : {new t r : TermTree} {s : Skeleton} {x : ℕ} (n : ℕ) → SubTerm new s x t r → SubTerm new s x (plus t n) (folding (t_bin Add r (t_word n)))
 added n d = u_bin d u_word
 
 pub applications : Applications
-unfolding folded rename_term closing lift
+unfolding contractum rename_term closing lift
 applications = record { once = applied (u_lam (u_reduced (r_app (r_var refl) (u_reduced (r_app (r_var refl) (u_kept (k_var (λ e. omega (arith, e)))) (applied (added 1 (u_reduced (r_var refl)))))) (applied (added 1 (u_reduced (r_var refl))))))); again = applied (u_lam (u_reduced (r_app (r_var refl) (u_reduced (r_app (r_var refl) (u_kept (k_var (λ e. omega (arith, e)))) (applied (added 1 (added 1 (u_reduced (r_var refl))))))) (applied (added 1 (added 1 (u_reduced (r_var refl)))))))); at_zero = applied (added 1 (added 1 (added 1 (added 1 (u_reduced (r_var refl)))))); no_function = λ r d. elim d [ ] }
 
 no_annotation : (r : TermTree) → SubTerm (t_word 2) sk_o 0 (t_ann (t_var 0) (y_mono m_word)) r → ⊥
@@ -23,17 +23,17 @@ no_annotation r (u_kept k) = elim k [ ]
 no_annotation r (u_reduced d) = elim d [ ]
 
 pub terms : Terms
-unfolding folded rename_term rename_mono closing lift fill_term fill_mono next_filling put_mono
+unfolding contractum rename_term rename_mono closing lift fill_term fill_mono next_filling put_mono
 terms = record { head = u_reduced (r_app (r_var refl) u_word (applied (added 1 (u_reduced (r_var refl))))); gap_closed = u_pair (u_kept (k_var (λ e. omega (arith, e)))) (u_pair (u_reduced (r_var refl)) (u_kept (k_var (λ e. omega (arith, e))))); no_capture = u_lam (u_bin (u_kept (k_var (λ e. omega (arith, e)))) (u_reduced (r_var refl))); zero_added = added 0 (u_reduced (r_var refl)); choice = u_sel (u_reduced (r_var refl)) u_word (u_kept (k_var (λ e. omega (arith, e)))); part = u_fst (u_reduced (r_var refl)); other_monotype = u_eq (u_reduced (r_var refl)) u_word; instance = u_reduced (r_app (r_inst (r_var refl)) u_word (applied (u_eq (u_reduced (r_var refl)) u_word))); no_annotation = no_annotation }
 
 pub monotypes : Monotypes
-unfolding folded rename_mono closing lift fill_term fill_mono next_filling put_mono
+unfolding contractum rename_mono closing lift fill_term fill_mono next_filling put_mono
 monotypes = record { folded_at_words = refl; unfolded_at_places = refl; identity = refl; variable = refl; gap_closed = refl; no_capture = refl }
 
 pub computations : Computations
-unfolding folded rename_term rename_mono closing lift
+unfolding contractum rename_term rename_mono closing lift
 computations = record { returned = b_ret (u_ret (added 1 (u_reduced (r_var refl)))); read_and_written = b_step (b_ret (u_step (u_s_set (u_kept (k_var (λ e. omega (arith, e)))) (u_reduced (r_var refl))) (u_ret (u_kept (k_var (λ e. omega (arith, e))))))); spliced = u_spliced (r_var refl) (u_ret (u_fst (u_kept (k_var (λ e. omega (arith, e)))))) (b_step (b_ret (u_ret (u_fst (u_reduced (r_var refl)))))); called = u_step (u_run (k_app k_val (u_reduced (r_var refl)))) (u_ret (u_reduced (r_var refl))) }
 
 pub others : Others
-unfolding folded rename_term rename_mono closing lift
+unfolding contractum rename_term rename_mono closing lift
 others = record { recursion_stays = u_step (u_run (k_app (k_fix (u_x_param u_y_mono (u_x_body (u_triple u_f_tt u_f_tt) (u_ret (u_kept (k_var (λ e. omega (arith, e)))))))) (u_reduced (r_var refl)))) (u_ret (u_kept (k_var (λ e. omega (arith, e))))); formula = u_f_all_h (u_f_cell (u_kept (k_var (λ e. omega (arith, e)))) (u_reduced (r_var refl))) }

@@ -3,7 +3,7 @@ use Rattle.std.proofs.Common.{◌≡◌, ℕ, zero, option_map, refl, ap}
 use Rattle.htt_syntax.specs.Trees.{TyTree, TripleTree, TermTree, FixTree, CompTree, StepTree, FormulaTree, TermTrees, y_fun, y_all, y_hoare, triple, t_app, t_inst, t_lam, t_lam_t, t_do, t_fix, t_pair, t_fst, t_snd, t_not, t_bin, t_eq, t_sel, t_made, x_param, x_body, c_ret, c_step, s_run, s_alloc, s_get, s_set, s_free, s_if, f_and, f_or, f_imp, f_all_t, f_ex_t, f_all_h, f_ex_h, f_cell, f_block, f_eq, f_rec, more_terms}
 use Rattle.htt_renaming.specs.Renaming.{rename_mono}
 use Rattle.canonical_trees.specs.Skeletons.{Skeleton, sk_arrow, sk_all}
-use Rattle.canonical_trees.specs.Folding.{fold}
+use Rattle.canonical_trees.specs.Folding.{folding}
 use Rattle.substitution.specs.Closing.{closing}
 use Rattle.substitution.specs.Monotypes.{put_mono_term}
 use Rattle.substitution.specs.Substitution.{Kept, Reduced, App, SubTerm, SubTerms, SubFix, SubComp, Bind, SubStep, SubTy, SubTriple, SubFormula, k_var, k_val, k_made, k_fix, k_app, k_inst, r_var, r_app, r_inst, applied, u_kept, u_reduced, u_word, u_bool, u_loc, u_unit, u_pair, u_fst, u_snd, u_not, u_bin, u_eq, u_sel, u_lam, u_lam_t, u_do, u_no_terms, u_more_terms, u_x_param, u_x_body, u_ret, u_step, u_spliced, b_ret, b_step, u_run, u_s_alloc, u_s_get, u_s_set, u_s_free, u_s_if, u_y_mono, u_y_fun, u_y_all, u_y_hoare, u_triple, u_f_tt, u_f_ff, u_f_and, u_f_or, u_f_imp, u_f_all_t, u_f_ex_t, u_f_all_h, u_f_ex_h, u_f_emp, u_f_cell, u_f_block, u_f_join, u_f_same, u_f_eq, u_f_rec}
@@ -90,32 +90,32 @@ mutual
   term_once (u_pair p0 p1) (u_reduced r) = elim r [ ]
   term_once (u_kept k) (u_pair p0 p1) = elim k [ ]
   term_once (u_reduced r) (u_pair p0 p1) = elim r [ ]
-  term_once (u_fst p0) (u_fst q0) = λ j. fold (t_fst (term_once p0 q0 j))
+  term_once (u_fst p0) (u_fst q0) = λ j. folding (t_fst (term_once p0 q0 j))
   term_once (u_fst p0) (u_kept k) = elim k [ ]
   term_once (u_fst p0) (u_reduced r) = elim r [ ]
   term_once (u_kept k) (u_fst p0) = elim k [ ]
   term_once (u_reduced r) (u_fst p0) = elim r [ ]
-  term_once (u_snd p0) (u_snd q0) = λ j. fold (t_snd (term_once p0 q0 j))
+  term_once (u_snd p0) (u_snd q0) = λ j. folding (t_snd (term_once p0 q0 j))
   term_once (u_snd p0) (u_kept k) = elim k [ ]
   term_once (u_snd p0) (u_reduced r) = elim r [ ]
   term_once (u_kept k) (u_snd p0) = elim k [ ]
   term_once (u_reduced r) (u_snd p0) = elim r [ ]
-  term_once (u_not p0) (u_not q0) = λ j. fold (t_not (term_once p0 q0 j))
+  term_once (u_not p0) (u_not q0) = λ j. folding (t_not (term_once p0 q0 j))
   term_once (u_not p0) (u_kept k) = elim k [ ]
   term_once (u_not p0) (u_reduced r) = elim r [ ]
   term_once (u_kept k) (u_not p0) = elim k [ ]
   term_once (u_reduced r) (u_not p0) = elim r [ ]
-  term_once (u_bin {op = op} p0 p1) (u_bin q0 q1) = λ j. fold (t_bin op (term_once p0 q0 j) (term_once p1 q1 j))
+  term_once (u_bin {op = op} p0 p1) (u_bin q0 q1) = λ j. folding (t_bin op (term_once p0 q0 j) (term_once p1 q1 j))
   term_once (u_bin p0 p1) (u_kept k) = elim k [ ]
   term_once (u_bin p0 p1) (u_reduced r) = elim r [ ]
   term_once (u_kept k) (u_bin p0 p1) = elim k [ ]
   term_once (u_reduced r) (u_bin p0 p1) = elim r [ ]
-  term_once {x = x} (u_eq {mono = mono} p0 p1) (u_eq q0 q1) = λ j. fold (t_eq (rename_mono (closing x) mono) (term_once p0 q0 j) (term_once p1 q1 j))
+  term_once {x = x} (u_eq {mono = mono} p0 p1) (u_eq q0 q1) = λ j. folding (t_eq (rename_mono (closing x) mono) (term_once p0 q0 j) (term_once p1 q1 j))
   term_once (u_eq p0 p1) (u_kept k) = elim k [ ]
   term_once (u_eq p0 p1) (u_reduced r) = elim r [ ]
   term_once (u_kept k) (u_eq p0 p1) = elim k [ ]
   term_once (u_reduced r) (u_eq p0 p1) = elim r [ ]
-  term_once {x = x} (u_sel {mono = mono} p0 p1 p2) (u_sel q0 q1 q2) = λ j. fold (t_sel (rename_mono (closing x) mono) (term_once p0 q0 j) (term_once p1 q1 j) (term_once p2 q2 j))
+  term_once {x = x} (u_sel {mono = mono} p0 p1 p2) (u_sel q0 q1 q2) = λ j. folding (t_sel (rename_mono (closing x) mono) (term_once p0 q0 j) (term_once p1 q1 j) (term_once p2 q2 j))
   term_once (u_sel p0 p1 p2) (u_kept k) = elim k [ ]
   term_once (u_sel p0 p1 p2) (u_reduced r) = elim r [ ]
   term_once (u_kept k) (u_sel p0 p1 p2) = elim k [ ]

@@ -3,7 +3,7 @@
 use Rattle.std.specs.Prelude.{ℕ, zero, suc, option_map, nat_eq, if◌then◌else◌}
 use Rattle.htt_syntax.specs.Trees.{MonoTree, TyTree, TripleTree, TermTree, FixTree, CompTree, StepTree, FormulaTree, TermTrees, m_word, m_bool, m_loc, m_unit, m_pair, m_var, y_mono, y_fun, y_all, y_hoare, y_at, triple, t_var, t_val, t_def, t_app, t_inst, t_lam, t_lam_t, t_do, t_fix, t_word, t_bool, t_loc, t_unit, t_pair, t_fst, t_snd, t_not, t_bin, t_eq, t_sel, t_ann, t_made, t_at, x_param, x_body, c_ret, c_step, s_run, s_alloc, s_get, s_set, s_free, s_if, s_claim, f_tt, f_ff, f_and, f_or, f_imp, f_all_t, f_ex_t, f_all_h, f_ex_h, f_emp, f_cell, f_block, f_join, f_same, f_eq, f_at, f_rec, no_terms, more_terms}
 use Rattle.htt_renaming.specs.Renaming.{Map, lift, rename_mono}
-use Rattle.canonical_trees.specs.Folding.{fold}
+use Rattle.canonical_trees.specs.Folding.{folding}
 use Rattle.substitution.specs.Closing.{closing}
 
 -- What each monotype variable becomes.
@@ -47,12 +47,12 @@ unfoldable mutual
   fill_term f m (t_loc place) = t_loc place
   fill_term f m t_unit = t_unit
   fill_term f m (t_pair left right) = t_pair (fill_term f m left) (fill_term f m right)
-  fill_term f m (t_fst pair) = fold (t_fst (fill_term f m pair))
-  fill_term f m (t_snd pair) = fold (t_snd (fill_term f m pair))
-  fill_term f m (t_not term) = fold (t_not (fill_term f m term))
-  fill_term f m (t_bin op left right) = fold (t_bin op (fill_term f m left) (fill_term f m right))
-  fill_term f m (t_eq mono left right) = fold (t_eq (fill_mono f mono) (fill_term f m left) (fill_term f m right))
-  fill_term f m (t_sel mono test on_true on_false) = fold (t_sel (fill_mono f mono) (fill_term f m test) (fill_term f m on_true) (fill_term f m on_false))
+  fill_term f m (t_fst pair) = folding (t_fst (fill_term f m pair))
+  fill_term f m (t_snd pair) = folding (t_snd (fill_term f m pair))
+  fill_term f m (t_not term) = folding (t_not (fill_term f m term))
+  fill_term f m (t_bin op left right) = folding (t_bin op (fill_term f m left) (fill_term f m right))
+  fill_term f m (t_eq mono left right) = folding (t_eq (fill_mono f mono) (fill_term f m left) (fill_term f m right))
+  fill_term f m (t_sel mono test on_true on_false) = folding (t_sel (fill_mono f mono) (fill_term f m test) (fill_term f m on_true) (fill_term f m on_false))
   fill_term f m (t_lam body) = t_lam (fill_term (next_filling f) (lift m) body)
   fill_term f m (t_lam_t body) = t_lam_t (fill_term (next_filling f) (lift m) body)
   fill_term f m (t_do comp) = t_do (fill_comp f m comp)

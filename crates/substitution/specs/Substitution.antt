@@ -6,7 +6,7 @@ use Rattle.htt_syntax.specs.declared.mono.Op.{Op}
 use Rattle.htt_syntax.specs.Trees.{MonoTree, TyTree, TripleTree, TermTree, FixTree, CompTree, StepTree, FormulaTree, TermTrees, y_mono, y_fun, y_all, y_hoare, triple, t_var, t_val, t_app, t_inst, t_lam, t_lam_t, t_do, t_fix, t_word, t_bool, t_loc, t_unit, t_pair, t_fst, t_snd, t_not, t_bin, t_eq, t_sel, t_made, x_param, x_body, c_ret, c_step, s_run, s_alloc, s_get, s_set, s_free, s_if, f_tt, f_ff, f_and, f_or, f_imp, f_all_t, f_ex_t, f_all_h, f_ex_h, f_emp, f_cell, f_block, f_join, f_same, f_eq, f_rec, no_terms, more_terms}
 use Rattle.htt_renaming.specs.Renaming.{lift, rename_mono, rename_comp}
 use Rattle.canonical_trees.specs.Skeletons.{Skeleton, sk_o, sk_c, sk_arrow, sk_all}
-use Rattle.canonical_trees.specs.Folding.{fold}
+use Rattle.canonical_trees.specs.Folding.{folding}
 use Rattle.substitution.specs.Closing.{closing, up}
 use Rattle.substitution.specs.Monotypes.{put_mono_term}
 
@@ -39,12 +39,12 @@ mutual
     u_loc : {new : TermTree} {s : Skeleton} {x : ℕ} {place : ℕ} → SubTerm new s x (t_loc place) (t_loc place)
     u_unit : {new : TermTree} {s : Skeleton} {x : ℕ} → SubTerm new s x t_unit t_unit
     u_pair : {new : TermTree} {s : Skeleton} {x : ℕ} {left left' right right' : TermTree} → SubTerm new s x left left' → SubTerm new s x right right' → SubTerm new s x (t_pair left right) (t_pair left' right')
-    u_fst : {new : TermTree} {s : Skeleton} {x : ℕ} {pair pair' : TermTree} → SubTerm new s x pair pair' → SubTerm new s x (t_fst pair) (fold (t_fst pair'))
-    u_snd : {new : TermTree} {s : Skeleton} {x : ℕ} {pair pair' : TermTree} → SubTerm new s x pair pair' → SubTerm new s x (t_snd pair) (fold (t_snd pair'))
-    u_not : {new : TermTree} {s : Skeleton} {x : ℕ} {term term' : TermTree} → SubTerm new s x term term' → SubTerm new s x (t_not term) (fold (t_not term'))
-    u_bin : {new : TermTree} {s : Skeleton} {x : ℕ} {op : Op} {left left' right right' : TermTree} → SubTerm new s x left left' → SubTerm new s x right right' → SubTerm new s x (t_bin op left right) (fold (t_bin op left' right'))
-    u_eq : {new : TermTree} {s : Skeleton} {x : ℕ} {mono : MonoTree} {left left' right right' : TermTree} → SubTerm new s x left left' → SubTerm new s x right right' → SubTerm new s x (t_eq mono left right) (fold (t_eq (rename_mono (closing x) mono) left' right'))
-    u_sel : {new : TermTree} {s : Skeleton} {x : ℕ} {mono : MonoTree} {test test' on_true on_true' on_false on_false' : TermTree} → SubTerm new s x test test' → SubTerm new s x on_true on_true' → SubTerm new s x on_false on_false' → SubTerm new s x (t_sel mono test on_true on_false) (fold (t_sel (rename_mono (closing x) mono) test' on_true' on_false'))
+    u_fst : {new : TermTree} {s : Skeleton} {x : ℕ} {pair pair' : TermTree} → SubTerm new s x pair pair' → SubTerm new s x (t_fst pair) (folding (t_fst pair'))
+    u_snd : {new : TermTree} {s : Skeleton} {x : ℕ} {pair pair' : TermTree} → SubTerm new s x pair pair' → SubTerm new s x (t_snd pair) (folding (t_snd pair'))
+    u_not : {new : TermTree} {s : Skeleton} {x : ℕ} {term term' : TermTree} → SubTerm new s x term term' → SubTerm new s x (t_not term) (folding (t_not term'))
+    u_bin : {new : TermTree} {s : Skeleton} {x : ℕ} {op : Op} {left left' right right' : TermTree} → SubTerm new s x left left' → SubTerm new s x right right' → SubTerm new s x (t_bin op left right) (folding (t_bin op left' right'))
+    u_eq : {new : TermTree} {s : Skeleton} {x : ℕ} {mono : MonoTree} {left left' right right' : TermTree} → SubTerm new s x left left' → SubTerm new s x right right' → SubTerm new s x (t_eq mono left right) (folding (t_eq (rename_mono (closing x) mono) left' right'))
+    u_sel : {new : TermTree} {s : Skeleton} {x : ℕ} {mono : MonoTree} {test test' on_true on_true' on_false on_false' : TermTree} → SubTerm new s x test test' → SubTerm new s x on_true on_true' → SubTerm new s x on_false on_false' → SubTerm new s x (t_sel mono test on_true on_false) (folding (t_sel (rename_mono (closing x) mono) test' on_true' on_false'))
     u_lam : {new : TermTree} {s : Skeleton} {x : ℕ} {body body' : TermTree} → SubTerm (up new) s (suc x) body body' → SubTerm new s x (t_lam body) (t_lam body')
     u_lam_t : {new : TermTree} {s : Skeleton} {x : ℕ} {body body' : TermTree} → SubTerm (up new) s (suc x) body body' → SubTerm new s x (t_lam_t body) (t_lam_t body')
     u_do : {new : TermTree} {s : Skeleton} {x : ℕ} {comp comp' : CompTree} → SubComp new s x comp comp' → SubTerm new s x (t_do comp) (t_do comp')

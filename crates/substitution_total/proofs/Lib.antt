@@ -2,3 +2,4 @@ pub mod Folded
 pub mod Filled
 pub mod Places
 pub mod Total
+pub mod Results

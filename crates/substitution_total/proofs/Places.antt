@@ -4,7 +4,7 @@ use Rattle.htt_syntax.specs.Trees.{MonoTree}
 use Rattle.htt_renaming.specs.Renaming.{lift, rename_mono}
 use Rattle.canonical_trees.specs.Skeletons.{Skeleton}
 use Rattle.canonical_trees.specs.Contexts.{Standing, as_mono, as_heap, as_term, Stands, here, open_mono, open_heap, open_term, there}
-use Rattle.canonical_trees.specs.Canonical.{CanonicalMono, n_m_word, n_m_bool, n_m_loc, n_m_unit, n_m_pair, n_m_var}
+use Rattle.canonical_trees.specs.Canonical.{IsCanonicalMono, n_m_word, n_m_bool, n_m_loc, n_m_unit, n_m_pair, n_m_var}
 use Rattle.substitution.specs.Closing.{closing}
 use Rattle.substitution.specs.Monotypes.{put_mono}
 use Rattle.substitution_total.specs.Insertion.{Inserted, ins_here, ins_next}
@@ -34,7 +34,7 @@ mono_stays i d = elim (place_of i d) [ inl (p, q) ↦ elim q [ ] | inr (p, b) �
 pub heap_stays : {x n : ℕ} {s : Skeleton} {g whole : List Standing} → Inserted x (as_term s) g whole → Stands whole n as_heap → Stands g (closing x n) as_heap
 heap_stays i d = elim (place_of i d) [ inl (p, q) ↦ elim q [ ] | inr (p, b) ↦ b ]
 
-pub mono_closed : {t : MonoTree} {x : ℕ} {s : Skeleton} {g whole : List Standing} → CanonicalMono whole t → Inserted x (as_term s) g whole → CanonicalMono g (rename_mono (closing x) t)
+pub mono_closed : {t : MonoTree} {x : ℕ} {s : Skeleton} {g whole : List Standing} → IsCanonicalMono whole t → Inserted x (as_term s) g whole → IsCanonicalMono g (rename_mono (closing x) t)
 unfolding rename_mono
 mono_closed n_m_word i = n_m_word
 mono_closed n_m_bool i = n_m_bool
@@ -43,13 +43,13 @@ mono_closed n_m_unit i = n_m_unit
 mono_closed (n_m_pair d e) i = n_m_pair (mono_closed d i) (mono_closed e i)
 mono_closed (n_m_var d) i = n_m_var (mono_stays i d)
 
-put_at : {x n : ℕ} {mono : MonoTree} {g : List Standing} → n ≡ x → CanonicalMono g mono → CanonicalMono g (put_mono mono x n)
+put_at : {x n : ℕ} {mono : MonoTree} {g : List Standing} → n ≡ x → IsCanonicalMono g mono → IsCanonicalMono g (put_mono mono x n)
 unfolding put_mono
 put_at {x = x} {n = n} {mono = mono} {g = g} p d = let e : nat_eq n x ≡ true = grind arith in rw e d
 
-put_beside : {x n : ℕ} {g : List Standing} (mono : MonoTree) → n ≢ x → Stands g (closing x n) as_mono → CanonicalMono g (put_mono mono x n)
+put_beside : {x n : ℕ} {g : List Standing} (mono : MonoTree) → n ≢ x → Stands g (closing x n) as_mono → IsCanonicalMono g (put_mono mono x n)
 unfolding put_mono
 put_beside {x = x} {n = n} mono p d = let e : nat_eq n x ≡ false = grind arith in rw e (n_m_var d)
 
-pub put_fills : {x : ℕ} {mono : MonoTree} {g whole : List Standing} → Inserted x as_mono g whole → CanonicalMono g mono → Fills (put_mono mono x) (closing x) whole g
+pub put_fills : {x : ℕ} {mono : MonoTree} {g whole : List Standing} → Inserted x as_mono g whole → IsCanonicalMono g mono → Fills (put_mono mono x) (closing x) whole g
 put_fills {mono = mono} i d = record { monos = λ n a. elim (place_of i a) [ inl (p, q) ↦ put_at p d | inr (p, b) ↦ put_beside mono p b ]; heaps = λ n a. elim (place_of i a) [ inl (p, q) ↦ elim q [ ] | inr (p, b) ↦ b ]; terms = λ n s a. elim (place_of i a) [ inl (p, q) ↦ elim q [ ] | inr (p, b) ↦ b ] }
