@@ -1,6 +1,6 @@
 -- Contexts and what stands in them, the environment of a phrase, and what a phrase owes.
-use Rattle.std.specs.Prelude.{◌≡◌, ℕ, zero, suc, List, [], ◌∷◌}
-use Rattle.htt_syntax.specs.Trees.{MonoTree, TyTree, TermTree, FormulaTree, m_word, m_bool, m_loc, m_unit, m_pair, m_var, y_mono, y_all, y_fun, y_hoare, triple, TripleTree}
+use Rattle.std.specs.Prelude.{ℕ, zero, suc, List, ◌∷◌}
+use Rattle.htt_syntax.specs.Trees.{MonoTree, TyTree, TermTree, FormulaTree, m_word, m_bool, m_loc, m_unit, m_pair, m_var, y_all, y_fun, y_hoare}
 use Rattle.htt_renaming.specs.Renaming.{rename_ty}
 use Rattle.htt_truth.specs.Predicates.{RecTree}
 

@@ -3,8 +3,8 @@ use Rattle.std.specs.Prelude.{◌≡◌, ℕ, ◌≤◌, List, [], ◌∷◌, le
 use Rattle.htt_syntax.specs.Trees.{MonoTree, TyTree, TermTree, FormulaTree, m_word, y_mono}
 use Rattle.htt_truth.specs.Predicates.{RecTree}
 use Rattle.htt_truth.specs.Atoms.{IsFoundedTable}
-use Rattle.htt_typing.specs.Contexts.{EntryTree, en_mono, en_heap, en_term, Context, Environment, FormsMono, Obligation, EndsInHoare}
-use Rattle.htt_typing.specs.Typing.{Mode, in_program, FormsTy, FormsFormula, Fits}
+use Rattle.htt_typing.specs.Contexts.{en_mono, en_heap, en_term, Context, Environment, FormsMono, Obligation, EndsInHoare}
+use Rattle.htt_typing.specs.Typing.{in_program, FormsTy, FormsFormula, Fits}
 
 -- formed and canonical: its own canonical form
 abbrev pub IsFormedTy : Environment → Context → TyTree → Type 0

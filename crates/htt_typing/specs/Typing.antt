@@ -10,14 +10,14 @@ use Rattle.htt_syntax.specs.Trees.{MonoTree, TyTree, TripleTree, TermTree, FixTr
 use Rattle.htt_renaming.specs.Renaming.{rename_mono, rename_ty, rename_triple}
 use Rattle.htt_values.specs.Values.{op_mono}
 use Rattle.htt_truth.specs.Predicates.{RecTree}
-use Rattle.htt_states.specs.States.{Move, move_alloc, move_get, move_set, move_free, move_run, move_claim, start, owed, after, branch, finish, merge, last}
+use Rattle.htt_states.specs.States.{move_alloc, move_get, move_set, move_free, move_run, move_claim, start, owed, after, branch, finish, merge, last}
 use Rattle.canonical_trees.specs.Skeletons.{sk_o, skeleton}
 use Rattle.canonical_trees.specs.Folding.{fold}
 use Rattle.canonical_trees.specs.Eta.{eta}
 use Rattle.substitution.specs.Monotypes.{put_mono_term, put_mono_ty}
 use Rattle.substitution.specs.Substitution.{SubTerm, SubTy, SubComp, Bind}
 use Rattle.htt_typing.specs.Places.{plain_ty}
-use Rattle.htt_typing.specs.Contexts.{EntryTree, en_mono, en_heap, en_term, Context, Environment, IsHeap, HasEntryType, FormsMono, Obligation, IsComparable}
+use Rattle.htt_typing.specs.Contexts.{en_mono, en_heap, en_term, Context, Environment, IsHeap, HasEntryType, FormsMono, Obligation, IsComparable}
 
 -- where a term is written
 pub data Mode : Type 0 where
