@@ -7,7 +7,7 @@ use Rattle.htt_renaming.specs.Renaming.{rename_mono, rename_ty, rename_triple}
 use Rattle.htt_truth.specs.Predicates.{RecTree}
 use Rattle.htt_states.specs.States.{move_alloc, move_get, move_set, move_free, move_run, move_claim, start, owed, after, branch, finish, merge, last}
 use Rattle.canonical_trees.specs.Skeletons.{Skeleton, sk_o, skeleton}
-use Rattle.canonical_trees.specs.Folding.{fold}
+use Rattle.canonical_trees.specs.Folding.{folding}
 use Rattle.canonical_trees.specs.Eta.{eta}
 use Rattle.substitution.specs.Monotypes.{put_mono_term, put_mono_ty}
 use Rattle.substitution.specs.Substitution.{SubTerm, SubTy, SubComp, Bind}
@@ -147,12 +147,12 @@ module _ (env : Environment) where
     gives_once e (gives_inst {mono = mono} k f) (gives_inst k2 f2) = let x = gives_once e k k2 in (ap (put_mono_ty mono zero) (all_body x.0), ap (put_mono_term mono zero) (lam_t_body x.1), x.2)
     gives_once e (gives_ann a b) (gives_ann c d) = let x = ty_formed_once e a c in let y = fits_once e x b d in (x, y.0, y.1)
     gives_once e (gives_pair a b) (gives_pair c d) = let x = gives_once e a c in let y = gives_once e b d in ((λ j. y_mono (m_pair (mono_of x.0 j) (mono_of y.0 j))), (λ j. t_pair (x.1 j) (y.1 j)), λ j. x.2 j ++ y.2 j)
-    gives_once e (gives_fst a) (gives_fst c) = let x = gives_once e a c in (ap y_mono (pair_left (mono_of x.0)), (λ j. fold (t_fst (x.1 j))), x.2)
-    gives_once e (gives_snd a) (gives_snd c) = let x = gives_once e a c in (ap y_mono (pair_right (mono_of x.0)), (λ j. fold (t_snd (x.1 j))), x.2)
-    gives_once e (gives_bin {op = op} a b) (gives_bin c d) = let x = fits_once e refl a c in let y = fits_once e refl b d in (refl, (λ j. fold (t_bin op (x.0 j) (y.0 j))), λ j. x.1 j ++ y.1 j)
-    gives_once e (gives_not a) (gives_not c) = let x = fits_once e refl a c in (refl, (λ j. fold (t_not (x.0 j))), x.1)
-    gives_once e (gives_eq {mono = mono} m i a b) (gives_eq n k c d) = let x = fits_once e refl a c in let y = fits_once e refl b d in (refl, (λ j. fold (t_eq mono (x.0 j) (y.0 j))), λ j. x.1 j ++ y.1 j)
-    gives_once e (gives_sel {mono = mono} m a b c) (gives_sel n d f i) = let x = fits_once e refl a d in let y = fits_once e refl b f in let z = fits_once e refl c i in (refl, (λ j. fold (t_sel mono (x.0 j) (y.0 j) (z.0 j))), λ j. x.1 j ++ y.1 j ++ z.1 j)
+    gives_once e (gives_fst a) (gives_fst c) = let x = gives_once e a c in (ap y_mono (pair_left (mono_of x.0)), (λ j. folding (t_fst (x.1 j))), x.2)
+    gives_once e (gives_snd a) (gives_snd c) = let x = gives_once e a c in (ap y_mono (pair_right (mono_of x.0)), (λ j. folding (t_snd (x.1 j))), x.2)
+    gives_once e (gives_bin {op = op} a b) (gives_bin c d) = let x = fits_once e refl a c in let y = fits_once e refl b d in (refl, (λ j. folding (t_bin op (x.0 j) (y.0 j))), λ j. x.1 j ++ y.1 j)
+    gives_once e (gives_not a) (gives_not c) = let x = fits_once e refl a c in (refl, (λ j. folding (t_not (x.0 j))), x.1)
+    gives_once e (gives_eq {mono = mono} m i a b) (gives_eq n k c d) = let x = fits_once e refl a c in let y = fits_once e refl b d in (refl, (λ j. folding (t_eq mono (x.0 j) (y.0 j))), λ j. x.1 j ++ y.1 j)
+    gives_once e (gives_sel {mono = mono} m a b c) (gives_sel n d f i) = let x = fits_once e refl a d in let y = fits_once e refl b f in let z = fits_once e refl c i in (refl, (λ j. folding (t_sel mono (x.0 j) (y.0 j) (z.0 j))), λ j. x.1 j ++ y.1 j ++ z.1 j)
     gives_once e (gives_fix {at = at} a b) (gives_fix c d) = let x = header_once e a c in let y = fix_once e x x b d in (x, (λ j. eta (t_fix at (y.0 j)) (x j)), y.1)
     gives_once e (gives_at a) (gives_at c) = gives_once e a c
 

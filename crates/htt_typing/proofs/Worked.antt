@@ -4,8 +4,8 @@ use Rattle.htt_syntax.specs.Trees.{TyTree, TermTree, CompTree, m_word, m_pair, t
 use Rattle.htt_renaming.specs.Renaming.{lift, lifts, rename_mono, rename_term}
 use Rattle.htt_states.specs.States.{past, at_heap, start, some_values, within, ending, finish, last}
 use Rattle.canonical_trees.specs.Skeletons.{skeleton}
-use Rattle.canonical_trees.specs.Folding.{folded}
-use Rattle.canonical_trees.specs.Eta.{expanded}
+use Rattle.canonical_trees.specs.Folding.{contractum}
+use Rattle.canonical_trees.specs.Eta.{expansion}
 use Rattle.substitution.specs.Closing.{closing}
 use Rattle.substitution.specs.Substitution.{u_y_mono, u_bin, u_reduced, u_word, r_var}
 use Rattle.htt_typing.specs.Places.{plain_ty}
@@ -29,7 +29,7 @@ no_equation_of_pairs : (M N R : TermTree) (A : TyTree) (o : List Obligation) →
 no_equation_of_pairs M N R A o (gives_eq f c a b) = no_comparison_of_pairs c
 
 pub worked : WorkedTyping
-unfolding lift lifts rename_mono rename_term past at_heap start some_values within ending finish last skeleton folded expanded closing plain_ty
+unfolding lift lifts rename_mono rename_term past at_heap start some_values within ending finish last skeleton contractum expansion closing plain_ty
 worked = record {
   sum = fits_body (runs_ret (fits_given tt (gives_bin (fits_given tt gives_word refl) (fits_given tt gives_word refl)) refl));
   placed = fits_at (fits_given tt gives_bool refl);

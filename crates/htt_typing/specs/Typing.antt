@@ -12,7 +12,7 @@ use Rattle.htt_values.specs.Values.{op_mono}
 use Rattle.htt_truth.specs.Predicates.{RecTree}
 use Rattle.htt_states.specs.States.{move_alloc, move_get, move_set, move_free, move_run, move_claim, start, owed, after, branch, finish, merge, last}
 use Rattle.canonical_trees.specs.Skeletons.{sk_o, skeleton}
-use Rattle.canonical_trees.specs.Folding.{fold}
+use Rattle.canonical_trees.specs.Folding.{folding}
 use Rattle.canonical_trees.specs.Eta.{eta}
 use Rattle.substitution.specs.Monotypes.{put_mono_term, put_mono_ty}
 use Rattle.substitution.specs.Substitution.{SubTerm, SubTy, SubComp, Bind}
@@ -104,12 +104,12 @@ mutual
     gives_inst : {m : Mode} {g : Context} {function : TermTree} {ty : TyTree} {inner : TermTree} {o : List Obligation} {mono : MonoTree} → Gives env m g function (y_all ty) (t_lam_t inner) o → FormsMono g mono → Gives env m g (t_inst function mono) (put_mono_ty mono zero ty) (put_mono_term mono zero inner) o
     gives_ann : {g : Context} {ty ty' : TyTree} {m : Mode} {term term' : TermTree} {o : List Obligation} → FormsTy env g ty ty' → Fits env m g term ty' term' o → Gives env m g (t_ann term ty) ty' term' o
     gives_pair : {m : Mode} {g : Context} {first : TermTree} {left_mono : MonoTree} {first' : TermTree} {o : List Obligation} {second : TermTree} {right_mono : MonoTree} {second' : TermTree} {p : List Obligation} → Gives env m g first (y_mono left_mono) first' o → Gives env m g second (y_mono right_mono) second' p → Gives env m g (t_pair first second) (y_mono (m_pair left_mono right_mono)) (t_pair first' second') (o ++ p)
-    gives_fst : {m : Mode} {g : Context} {term : TermTree} {left_mono right_mono : MonoTree} {term' : TermTree} {o : List Obligation} → Gives env m g term (y_mono (m_pair left_mono right_mono)) term' o → Gives env m g (t_fst term) (y_mono left_mono) (fold (t_fst term')) o
-    gives_snd : {m : Mode} {g : Context} {term : TermTree} {left_mono right_mono : MonoTree} {term' : TermTree} {o : List Obligation} → Gives env m g term (y_mono (m_pair left_mono right_mono)) term' o → Gives env m g (t_snd term) (y_mono right_mono) (fold (t_snd term')) o
-    gives_bin : {m : Mode} {g : Context} {first first' : TermTree} {o : List Obligation} {second second' : TermTree} {p : List Obligation} {op : Op} → Fits env m g first (y_mono m_word) first' o → Fits env m g second (y_mono m_word) second' p → Gives env m g (t_bin op first second) (y_mono (op_mono op)) (fold (t_bin op first' second')) (o ++ p)
-    gives_not : {m : Mode} {g : Context} {term term' : TermTree} {o : List Obligation} → Fits env m g term (y_mono m_bool) term' o → Gives env m g (t_not term) (y_mono m_bool) (fold (t_not term')) o
-    gives_eq : {g : Context} {mono : MonoTree} {m : Mode} {first first' : TermTree} {o : List Obligation} {second second' : TermTree} {p : List Obligation} → FormsMono g mono → IsComparable mono → Fits env m g first (y_mono mono) first' o → Fits env m g second (y_mono mono) second' p → Gives env m g (t_eq mono first second) (y_mono m_bool) (fold (t_eq mono first' second')) (o ++ p)
-    gives_sel : {g : Context} {mono : MonoTree} {m : Mode} {first first' : TermTree} {o : List Obligation} {second second' : TermTree} {p : List Obligation} {third third' : TermTree} {q : List Obligation} → FormsMono g mono → Fits env m g first (y_mono m_bool) first' o → Fits env m g second (y_mono mono) second' p → Fits env m g third (y_mono mono) third' q → Gives env m g (t_sel mono first second third) (y_mono mono) (fold (t_sel mono first' second' third')) (o ++ p ++ q)
+    gives_fst : {m : Mode} {g : Context} {term : TermTree} {left_mono right_mono : MonoTree} {term' : TermTree} {o : List Obligation} → Gives env m g term (y_mono (m_pair left_mono right_mono)) term' o → Gives env m g (t_fst term) (y_mono left_mono) (folding (t_fst term')) o
+    gives_snd : {m : Mode} {g : Context} {term : TermTree} {left_mono right_mono : MonoTree} {term' : TermTree} {o : List Obligation} → Gives env m g term (y_mono (m_pair left_mono right_mono)) term' o → Gives env m g (t_snd term) (y_mono right_mono) (folding (t_snd term')) o
+    gives_bin : {m : Mode} {g : Context} {first first' : TermTree} {o : List Obligation} {second second' : TermTree} {p : List Obligation} {op : Op} → Fits env m g first (y_mono m_word) first' o → Fits env m g second (y_mono m_word) second' p → Gives env m g (t_bin op first second) (y_mono (op_mono op)) (folding (t_bin op first' second')) (o ++ p)
+    gives_not : {m : Mode} {g : Context} {term term' : TermTree} {o : List Obligation} → Fits env m g term (y_mono m_bool) term' o → Gives env m g (t_not term) (y_mono m_bool) (folding (t_not term')) o
+    gives_eq : {g : Context} {mono : MonoTree} {m : Mode} {first first' : TermTree} {o : List Obligation} {second second' : TermTree} {p : List Obligation} → FormsMono g mono → IsComparable mono → Fits env m g first (y_mono mono) first' o → Fits env m g second (y_mono mono) second' p → Gives env m g (t_eq mono first second) (y_mono m_bool) (folding (t_eq mono first' second')) (o ++ p)
+    gives_sel : {g : Context} {mono : MonoTree} {m : Mode} {first first' : TermTree} {o : List Obligation} {second second' : TermTree} {p : List Obligation} {third third' : TermTree} {q : List Obligation} → FormsMono g mono → Fits env m g first (y_mono m_bool) first' o → Fits env m g second (y_mono mono) second' p → Fits env m g third (y_mono mono) third' q → Gives env m g (t_sel mono first second third) (y_mono mono) (folding (t_sel mono first' second' third')) (o ++ p ++ q)
     gives_fix : {g : Context} {fix : FixTree} {ty : TyTree} {fix' : FixTree} {o : List Obligation} {at : ℕ} → FormsHeader env g fix ty → FitsFix env g ty fix ty fix' o → Gives env in_program g (t_fix at fix) ty (eta (t_fix at fix') ty) o
     gives_at : {m : Mode} {g : Context} {term : TermTree} {ty : TyTree} {term' : TermTree} {o : List Obligation} {at : ℕ} → Gives env m g term ty term' o → Gives env m g (t_at at term) ty term' o
 

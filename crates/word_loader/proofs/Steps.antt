@@ -6,7 +6,7 @@ use Rattle.word_loader.specs.declared.code.Code.{Code}
 use Rattle.word_loader.specs.declared.code.Function.{Function}
 use Rattle.word_loader.specs.declared.code.Instr.{Instr}
 use Rattle.word_loader.specs.declared.code.Instr.TheVariants.{Const, Mov, Op, Sel, Alloc, Get, Set, Free, Jump, Jz, Call, Ret, Tail}
-use Rattle.word_loader.specs.Machine.{Machine, Stack, bottom, above, going, halted, faulted, asking, step, after_steps, machine_after, started, stepped, fetched, effect, called, replaced, returned, with_block, with_choice, is_fresh, top, words_at}
+use Rattle.word_loader.specs.Machine.{Machine, Stack, bottom, above, going, halted, faulted, asking, step, after_steps, machine_after, started, stepped, fetched, effect, called, replaced, returned, at_block, with_choice, is_fresh, top, words_at}
 use Rattle.word_loader.specs.Laws.{IsOver, OverIsFinal, with_more, Asks, ChoicesAreHandedOn}
 
 over_step : (code : Code) (m : Machine) → IsOver m → step code m ≡ m
@@ -29,7 +29,7 @@ if_more : (b : Bool) (x y u v : Machine) (more : List ℕ) → u ≡ with_more x
 if_more true x y u v more p q = p
 if_more false x y u v more p q = q
 
-block_more : (kind : Kind) (l : ℕ) (o : Option Block) (n : ℕ) (f g : Block → Machine) (more : List ℕ) → ((b : Block) → g b ≡ with_more (f b) more) → with_block kind l o n g ≡ with_more (with_block kind l o n f) more
+block_more : (kind : Kind) (l : ℕ) (o : Option Block) (n : ℕ) (f g : Block → Machine) (more : List ℕ) → ((b : Block) → g b ≡ with_more (f b) more) → at_block kind l o n g ≡ with_more (at_block kind l o n f) more
 block_more kind l None n f g more p = refl
 block_more kind l (Some b) n f g more p = if_more (nat_eq (length b) n) (f b) (faulted kind l) (g b) (faulted kind l) more (p b) refl
 

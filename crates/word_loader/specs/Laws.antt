@@ -1,7 +1,7 @@
 -- The laws of the machine, and small runs.
 use Rattle.std.specs.Prelude.{ℕ, zero, suc, ◌≡◌, ◌≢◌, ◌+◌, ◌^◌, ◌-◌, List, [], ◌∷◌, ◌++◌, Option, Some, None}
 use Rattle.htt_words.specs.declared.words.Kind.TheVariants as kind
-use Rattle.htt_values.specs.Heaps.{Heap, empty, single, written}
+use Rattle.htt_values.specs.Heaps.{Heap, empty_heap, single_block, with_block}
 use Rattle.word_loader.specs.declared.code.Code.{Code}
 use Rattle.word_loader.specs.declared.code.Instr.{Instr}
 use Rattle.word_loader.specs.declared.code.Instr.TheVariants.{Const, Mov, Op, Sel, Alloc, Get, Set, Free, Jump, Jz, Call, Ret, Tail}
@@ -43,23 +43,23 @@ with_difference body =
 
 pub record WorkedRuns : Type 0 where
   -- the halting return is a step
-  pub two_steps : machine_after (single_function 1 1 (Const 0 5 ∷ Ret 0 ∷ [])) empty [] 2 ≡ halted (5 ∷ []) empty
+  pub two_steps : machine_after (single_function 1 1 (Const 0 5 ∷ Ret 0 ∷ [])) empty_heap [] 2 ≡ halted (5 ∷ []) empty_heap
   -- a subtraction below 0 wraps; all words of a mov are read before any is written
-  pub wraps : machine_after (single_function 3 3 (Const 0 1 ∷ Const 1 2 ∷ Op 2 1 0 1 ∷ Mov 0 1 2 ∷ Ret 0 ∷ [])) empty [] 5 ≡ halted (2 ∷ 18446744073709551615 ∷ 18446744073709551615 ∷ []) empty
+  pub wraps : machine_after (single_function 3 3 (Const 0 1 ∷ Const 1 2 ∷ Op 2 1 0 1 ∷ Mov 0 1 2 ∷ Ret 0 ∷ [])) empty_heap [] 5 ≡ halted (2 ∷ 18446744073709551615 ∷ 18446744073709551615 ∷ []) empty_heap
   -- the first choice is taken, and the block stands there
-  pub allocates : machine_after (single_function 2 1 (Const 0 7 ∷ Alloc 1 0 1 ∷ Ret 1 ∷ [])) empty (9 ∷ 4 ∷ []) 3 ≡ halted (9 ∷ []) (written empty 9 (7 ∷ []))
+  pub allocates : machine_after (single_function 2 1 (Const 0 7 ∷ Alloc 1 0 1 ∷ Ret 1 ∷ [])) empty_heap (9 ∷ 4 ∷ []) 3 ≡ halted (9 ∷ []) (with_block empty_heap 9 (7 ∷ []))
   -- no choice, 0, and a location in use ask
-  pub no_choice : machine_after (single_function 1 0 (Alloc 0 0 1 ∷ Ret 0 ∷ [])) empty [] 1 ≡ asking
-  pub zero_choice : machine_after (single_function 1 0 (Alloc 0 0 1 ∷ Ret 0 ∷ [])) empty (0 ∷ []) 1 ≡ asking
-  pub used_choice : machine_after (single_function 1 0 (Alloc 0 0 1 ∷ Ret 0 ∷ [])) (single 3 (8 ∷ [])) (3 ∷ []) 1 ≡ asking
+  pub no_choice : machine_after (single_function 1 0 (Alloc 0 0 1 ∷ Ret 0 ∷ [])) empty_heap [] 1 ≡ asking
+  pub zero_choice : machine_after (single_function 1 0 (Alloc 0 0 1 ∷ Ret 0 ∷ [])) empty_heap (0 ∷ []) 1 ≡ asking
+  pub used_choice : machine_after (single_function 1 0 (Alloc 0 0 1 ∷ Ret 0 ∷ [])) (single_block 3 (8 ∷ [])) (3 ∷ []) 1 ≡ asking
   -- a get of a block of another length faults, and so does one at 0
-  pub other_length : machine_after (single_function 2 0 (Const 0 3 ∷ Get 0 0 2 ∷ Ret 0 ∷ [])) (single 3 (8 ∷ [])) [] 2 ≡ faulted kind.Get 3
-  pub at_null : machine_after (single_function 2 0 (Get 0 0 1 ∷ Ret 0 ∷ [])) (single 3 (8 ∷ [])) [] 1 ≡ faulted kind.Get 0
+  pub other_length : machine_after (single_function 2 0 (Const 0 3 ∷ Get 0 0 2 ∷ Ret 0 ∷ [])) (single_block 3 (8 ∷ [])) [] 2 ≡ faulted kind.Get 3
+  pub at_null : machine_after (single_function 2 0 (Get 0 0 1 ∷ Ret 0 ∷ [])) (single_block 3 (8 ∷ [])) [] 1 ≡ faulted kind.Get 0
   -- a call's result goes to its place below: 9 - 4, with the parameters from place 1
-  pub calls : machine_after (with_difference (Const 1 9 ∷ Const 2 4 ∷ Call 1 1 3 ∷ Ret 3 ∷ [])) empty [] 6 ≡ halted (5 ∷ []) empty
+  pub calls : machine_after (with_difference (Const 1 9 ∷ Const 2 4 ∷ Call 1 1 3 ∷ Ret 3 ∷ [])) empty_heap [] 6 ≡ halted (5 ∷ []) empty_heap
   -- a tail call's result is the bottom frame's own
-  pub tail_calls : machine_after (with_difference (Const 1 9 ∷ Const 2 4 ∷ Tail 1 1 ∷ [])) empty [] 5 ≡ halted (5 ∷ []) empty
+  pub tail_calls : machine_after (with_difference (Const 1 9 ∷ Const 2 4 ∷ Tail 1 1 ∷ [])) empty_heap [] 5 ≡ halted (5 ∷ []) empty_heap
   -- a jump on 0 is taken at 0 alone
-  pub jumps : machine_after (single_function 1 1 (Jz 0 2 ∷ Ret 0 ∷ Const 0 6 ∷ Jump 1 ∷ [])) empty [] 4 ≡ halted (6 ∷ []) empty
+  pub jumps : machine_after (single_function 1 1 (Jz 0 2 ∷ Ret 0 ∷ Const 0 6 ∷ Jump 1 ∷ [])) empty_heap [] 4 ≡ halted (6 ∷ []) empty_heap
   -- not gives 1 exactly for 0; a shift takes its count modulo 64
-  pub shifts : machine_after (single_function 2 1 (Op 0 10 1 1 ∷ Const 1 65 ∷ Op 0 6 0 1 ∷ Ret 0 ∷ [])) empty [] 4 ≡ halted (2 ∷ []) empty
+  pub shifts : machine_after (single_function 2 1 (Op 0 10 1 1 ∷ Const 1 65 ∷ Op 0 6 0 1 ∷ Ret 0 ∷ [])) empty_heap [] 4 ≡ halted (2 ∷ []) empty_heap

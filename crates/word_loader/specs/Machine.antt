@@ -5,7 +5,7 @@ use Rattle.htt_words.specs.declared.words.Kind.TheVariants as kind
 use Rattle.htt_syntax.specs.declared.mono.Op.{Op as Operation}
 use Rattle.htt_syntax.specs.declared.mono.Op.TheVariants as ops
 use Rattle.htt_values.specs.Values.{Value, v_word, v_bool, op_value}
-use Rattle.htt_values.specs.Heaps.{Heap, Block, written, removed}
+use Rattle.htt_values.specs.Heaps.{Heap, Block, with_block, without_block}
 use Rattle.word_loader.specs.declared.code.Code.{Code}
 use Rattle.word_loader.specs.declared.code.Function.{Function}
 use Rattle.word_loader.specs.declared.code.Instr.{Instr}
@@ -94,9 +94,9 @@ with_choice h [] then_go = asking
 with_choice h (l ∷ choices) then_go = if is_fresh h l then then_go l choices else asking
 
 -- the machine that has a block of length n at a location
-abbrev pub with_block : Kind → ℕ → Option Block → ℕ → (Block → Machine) → Machine
-with_block kind l None n then_go = faulted kind l
-with_block kind l (Some block) n then_go = if nat_eq (length block) n then then_go block else faulted kind l
+abbrev pub at_block : Kind → ℕ → Option Block → ℕ → (Block → Machine) → Machine
+at_block kind l None n then_go = faulted kind l
+at_block kind l (Some block) n then_go = if nat_eq (length block) n then then_go block else faulted kind l
 
 -- a return of these words
 abbrev pub returned : Heap → Stack → List ℕ → List ℕ → Machine
@@ -137,10 +137,10 @@ effect code f i h stack choices = row i
     row (Mov d s n) = becomes d (words_at locals s n)
     row (Op d o a b) = becomes d (operation_result o (word_at locals a) (word_at locals b) ∷ [])
     row (Sel d c a b n) = becomes d (if nat_eq (word_at locals c) 0 then words_at locals b n else words_at locals a n)
-    row (Alloc d s n) = with_choice h choices (λ l left. going (written h l (words_at locals s n)) (goes_on stack next (with_words locals d (l ∷ []))) left)
-    row (Get d p n) = with_block kind.Get (word_at locals p) (h (word_at locals p)) n (λ block. becomes d block)
-    row (Set p s n) = with_block kind.Set (word_at locals p) (h (word_at locals p)) n (λ block. leaves (written h (word_at locals p) (words_at locals s n)))
-    row (Free p n) = with_block kind.Free (word_at locals p) (h (word_at locals p)) n (λ block. leaves (removed h (word_at locals p)))
+    row (Alloc d s n) = with_choice h choices (λ l left. going (with_block h l (words_at locals s n)) (goes_on stack next (with_words locals d (l ∷ []))) left)
+    row (Get d p n) = at_block kind.Get (word_at locals p) (h (word_at locals p)) n (λ block. becomes d block)
+    row (Set p s n) = at_block kind.Set (word_at locals p) (h (word_at locals p)) n (λ block. leaves (with_block h (word_at locals p) (words_at locals s n)))
+    row (Free p n) = at_block kind.Free (word_at locals p) (h (word_at locals p)) n (λ block. leaves (without_block h (word_at locals p)))
     row (Jump target) = jumps target
     row (Jz c target) = if nat_eq (word_at locals c) 0 then jumps target else leaves h
     row (Call g a d) = called (slice_get code.functions g) h stack g choices a d
