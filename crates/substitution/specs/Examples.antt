@@ -70,6 +70,3 @@ pub record Others : Type 0 where
   pub recursion_stays : SubComp (t_word 3) sk_o 0 (c_step (s_run (t_app recursive (t_var 0)) (Some m_word)) (c_ret (t_var 0))) (c_step (s_run (t_app recursive (t_word 3)) (Some m_word)) (c_ret (t_var 0)))
   -- all h : heap . Cell[word](h, y, x), where 3 is put for x
   pub formula : SubFormula (t_word 3) sk_o 0 (f_all_h (f_cell m_word 0 (t_var 2) (t_var 1))) (f_all_h (f_cell m_word 0 (t_var 1) (t_word 3)))
-
-abbrev pub ExamplesOfSubstitution : Type 0
-ExamplesOfSubstitution = Applications × Terms × Monotypes × Computations × Others

@@ -1,14 +1,30 @@
--- The laws of substitution.
+-- The laws of substitution: each relation has at most one result, and skeletons are kept.
 use Rattle.std.specs.Prelude.{◌≡◌, ℕ}
-use Rattle.htt_syntax.specs.Trees.{TyTree, TermTree, CompTree, FormulaTree}
-use Rattle.canonical_trees.specs.Skeletons.{Skeleton}
+use Rattle.htt_syntax.specs.Trees.{MonoTree, TyTree, TermTree, CompTree, FormulaTree}
+use Rattle.canonical_trees.specs.Skeletons.{Skeleton, skeleton}
+use Rattle.substitution.specs.Monotypes.{put_mono_ty}
 use Rattle.substitution.specs.Substitution.{SubTerm, SubComp, SubTy, SubFormula, App, Bind}
 
-abbrev pub SubstitutionGivesOne : Type 0
-SubstitutionGivesOne = (new : TermTree) (s : Skeleton) (x : ℕ) → ((term r q : TermTree) → SubTerm new s x term r → SubTerm new s x term q → r ≡ q) × ((comp r q : CompTree) → SubComp new s x comp r → SubComp new s x comp q → r ≡ q) × ((ty r q : TyTree) → SubTy new s x ty r → SubTy new s x ty q → r ≡ q) × ((formula r q : FormulaTree) → SubFormula new s x formula r → SubFormula new s x formula q → r ≡ q)
+abbrev pub OneTerm : Type 0
+OneTerm = (new : TermTree) (s : Skeleton) (x : ℕ) (term r q : TermTree) → SubTerm new s x term r → SubTerm new s x term q → r ≡ q
 
-abbrev pub ApplicationGivesOne : Type 0
-ApplicationGivesOne = (function argument r q : TermTree) (s : Skeleton) → App function s argument r → App function s argument q → r ≡ q
+abbrev pub OneComputation : Type 0
+OneComputation = (new : TermTree) (s : Skeleton) (x : ℕ) (comp r q : CompTree) → SubComp new s x comp r → SubComp new s x comp q → r ≡ q
 
-abbrev pub BindingGivesOne : Type 0
-BindingGivesOne = (comp others r q : CompTree) → Bind comp others r → Bind comp others q → r ≡ q
+abbrev pub OneType : Type 0
+OneType = (new : TermTree) (s : Skeleton) (x : ℕ) (ty r q : TyTree) → SubTy new s x ty r → SubTy new s x ty q → r ≡ q
+
+abbrev pub OneFormula : Type 0
+OneFormula = (new : TermTree) (s : Skeleton) (x : ℕ) (formula r q : FormulaTree) → SubFormula new s x formula r → SubFormula new s x formula q → r ≡ q
+
+abbrev pub OneApplication : Type 0
+OneApplication = (function argument r q : TermTree) (s : Skeleton) → App function s argument r → App function s argument q → r ≡ q
+
+abbrev pub OneBinding : Type 0
+OneBinding = (comp others r q : CompTree) → Bind comp others r → Bind comp others q → r ≡ q
+
+abbrev pub SubstitutedSkeleton : Type 0
+SubstitutedSkeleton = (new : TermTree) (s : Skeleton) (x : ℕ) (ty r : TyTree) → SubTy new s x ty r → skeleton r ≡ skeleton ty
+
+abbrev pub FilledSkeleton : Type 0
+FilledSkeleton = (mono : MonoTree) (x : ℕ) (ty : TyTree) → skeleton (put_mono_ty mono x ty) ≡ skeleton ty

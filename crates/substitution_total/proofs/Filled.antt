@@ -1,13 +1,14 @@
 -- Monotypes that are put for monotype variables leave a canonical tree canonical.
-use Rattle.std.proofs.Common.{◌≡◌, ℕ, suc, List, ◌∷◌, refl, ◌∙◌}
-use Rattle.htt_syntax.specs.Trees.{MonoTree, TyTree, TripleTree, TermTree, FixTree, CompTree, StepTree, FormulaTree, TermTrees, y_mono, y_fun, y_all, y_hoare, y_at}
+use Rattle.std.proofs.Common.{ℕ, suc, List, ◌∷◌, ◌∙◌}
+use Rattle.htt_syntax.specs.Trees.{MonoTree, TyTree, TripleTree, TermTree, FixTree, CompTree, StepTree, FormulaTree, TermTrees}
 use Rattle.htt_renaming.specs.Renaming.{Map, lift}
-use Rattle.canonical_trees.specs.Skeletons.{Skeleton, sk_o, sk_arrow, sk_all, skeleton}
+use Rattle.canonical_trees.specs.Skeletons.{Skeleton, sk_o}
 use Rattle.canonical_trees.specs.Contexts.{Standing, as_mono, as_heap, as_term, Stands, here, open_mono, open_heap, open_term, there, Heads}
 use Rattle.canonical_trees.specs.Canonical.{Canonical, Neutral, CanonicalTerms, CanonicalFix, CanonicalComp, CanonicalStep, CanonicalTy, CanonicalTriple, CanonicalFormula, CanonicalMono, n_m_word, n_m_bool, n_m_loc, n_m_unit, n_m_pair, n_m_var, n_word, n_bool, n_loc, n_unit, n_pair, n_fst, n_snd, n_not, n_bin, n_eq, n_sel, n_lam, n_lam_t, n_do, n_neutral, e_var, e_val, e_made, e_fix, e_app, e_inst, n_no_terms, n_more_terms, n_param, n_body, n_ret, n_step, n_run, n_alloc, n_get, n_set, n_free, n_if, n_mono, n_fun, n_all, n_hoare, n_triple, n_tt, n_ff, n_and, n_or, n_imp, n_all_t, n_ex_t, n_all_h, n_ex_h, n_emp, n_cell, n_block, n_join, n_same, n_equal, n_rec}
 use Rattle.substitution.specs.Monotypes.{Filling, fill_mono, next_filling, fill_ty, fill_triple, fill_term, fill_fix, fill_comp, fill_step, fill_formula, fill_terms}
 use Rattle.canonical_trees.proofs.Renamed.{keeps_suc, mono_renamed}
 use Rattle.substitution_total.proofs.Folded.{fst_folded, snd_folded, not_folded, bin_folded, eq_folded, sel_folded}
+use Rattle.substitution.proofs.Skeletons.{skeleton_filled}
 
 -- What a filling and a map are to give for the variables of the one context in the other.
 pub record Fills (f : Filling) (m : Map) (g h : List Standing) : Type 0 where
@@ -35,14 +36,6 @@ next_terms entry (suc n) s k (there d) = there (k.terms n s d)
 
 pub fills_next : {f : Filling} {m : Map} {g h : List Standing} (entry : Standing) → Fills f m g h → Fills (next_filling f) (lift m) (entry ∷ g) (entry ∷ h)
 fills_next entry k = record { monos = λ n d. next_monos entry n k d; heaps = λ n d. next_heaps entry n k d; terms = λ n s d. next_terms entry n s k d }
-
-pub skeleton_filled : (f : Filling) (m : Map) (ty : TyTree) → skeleton (fill_ty f m ty) ≡ skeleton ty
-unfolding skeleton fill_ty
-skeleton_filled f m (y_mono mono) = refl
-skeleton_filled f m (y_fun argument answer) = λ j. sk_arrow (skeleton_filled f m argument j) (skeleton_filled (next_filling f) (lift m) answer j)
-skeleton_filled f m (y_all body) = λ j. sk_all (skeleton_filled (next_filling f) (lift m) body j)
-skeleton_filled f m (y_hoare spec) = refl
-skeleton_filled f m (y_at at ty) = skeleton_filled f m ty
 
 pub mono_filled : {t : MonoTree} {f : Filling} {m : Map} {g h : List Standing} → CanonicalMono g t → Fills f m g h → CanonicalMono h (fill_mono f t)
 unfolding fill_mono

@@ -1,9 +1,9 @@
 -- A canonical term that is put into a canonical tree gives a canonical tree: by the size of its skeleton,
 -- and then by the tree.
-use Rattle.std.proofs.Common.{◌≡◌, ◌≢◌, ℕ, zero, suc, ◌+◌, ◌<◌, ◌≤◌, List, [], ◌∷◌, Option, Some, ◌⊎◌, inl, inr, refl, ◌∙◌, subst, arith}
+use Rattle.std.proofs.Common.{◌≡◌, ◌≢◌, ℕ, zero, suc, ◌+◌, ◌<◌, ◌≤◌, List, [], ◌∷◌, Option, Some, ◌⊎◌, inl, inr, ◌∙◌, subst, arith}
 use Rattle.htt_syntax.specs.Trees.{MonoTree, TyTree, TripleTree, TermTree, FixTree, CompTree, StepTree, FormulaTree, TermTrees, y_mono, y_fun, y_all, y_hoare, triple, t_var, t_val, t_app, t_inst, t_lam, t_lam_t, t_do, t_fix, t_word, t_bool, t_loc, t_unit, t_pair, t_fst, t_snd, t_not, t_bin, t_eq, t_sel, t_made, x_param, x_body, c_ret, c_step, s_run, f_tt, f_ff, f_and, f_or, f_imp, f_all_t, f_ex_t, f_all_h, f_ex_h, f_emp, f_cell, f_block, f_join, f_same, f_eq, f_rec, no_terms, more_terms}
 use Rattle.htt_renaming.specs.Renaming.{rename_mono}
-use Rattle.canonical_trees.specs.Skeletons.{Skeleton, sk_o, sk_c, sk_arrow, sk_all, skeleton}
+use Rattle.canonical_trees.specs.Skeletons.{Skeleton, sk_o, sk_c, sk_arrow, sk_all}
 use Rattle.canonical_trees.specs.Folding.{fold}
 use Rattle.canonical_trees.specs.Contexts.{Standing, as_mono, as_heap, as_term, Stands, Heads}
 use Rattle.canonical_trees.specs.Canonical.{Canonical, Neutral, CanonicalTerms, CanonicalFix, CanonicalComp, CanonicalStep, CanonicalTy, CanonicalTriple, CanonicalFormula, CanonicalMono, n_word, n_bool, n_loc, n_unit, n_pair, n_fst, n_snd, n_not, n_bin, n_eq, n_sel, n_lam, n_lam_t, n_do, n_neutral, e_var, e_val, e_made, e_fix, e_app, e_inst, n_no_terms, n_more_terms, n_param, n_body, n_ret, n_step, n_run, n_alloc, n_get, n_set, n_free, n_if, n_mono, n_fun, n_all, n_hoare, n_triple, n_tt, n_ff, n_and, n_or, n_imp, n_all_t, n_ex_t, n_all_h, n_ex_h, n_emp, n_cell, n_block, n_join, n_same, n_equal, n_rec}
@@ -11,6 +11,7 @@ use Rattle.substitution.specs.Closing.{closing, up}
 use Rattle.substitution.specs.Monotypes.{put_mono_term}
 use Rattle.substitution.specs.Substitution.{Kept, Reduced, App, SubTerm, SubTerms, SubFix, SubComp, Bind, SubStep, SubTy, SubTriple, SubFormula, k_var, k_val, k_made, k_fix, k_app, k_inst, r_var, r_app, r_inst, applied, u_kept, u_reduced, u_word, u_bool, u_loc, u_unit, u_pair, u_fst, u_snd, u_not, u_bin, u_eq, u_sel, u_lam, u_lam_t, u_do, u_no_terms, u_more_terms, u_x_param, u_x_body, u_ret, u_step, u_spliced, b_ret, b_step, u_run, u_s_alloc, u_s_get, u_s_set, u_s_free, u_s_if, u_y_mono, u_y_fun, u_y_all, u_y_hoare, u_triple, u_f_tt, u_f_ff, u_f_and, u_f_or, u_f_imp, u_f_all_t, u_f_ex_t, u_f_all_h, u_f_ex_h, u_f_emp, u_f_cell, u_f_block, u_f_join, u_f_same, u_f_eq, u_f_rec}
 use Rattle.substitution_total.specs.Insertion.{Inserted, ins_here, ins_next}
+use Rattle.substitution.proofs.Skeletons.{skeleton_kept}
 use Rattle.canonical_trees.proofs.Renamed.{keeps_lift, keeps_suc, term_renamed, comp_renamed}
 use Rattle.substitution_total.proofs.Filled.{term_filled}
 use Rattle.substitution_total.proofs.Folded.{fst_folded, snd_folded, not_folded, bin_folded, eq_folded, sel_folded}
@@ -53,13 +54,6 @@ inst_head {x = x} {mono = mono} (reduces r d (n_lam_t {body = body} e) le) m = r
 next_run : {heads : Heads} {x : ℕ} {s : Skeleton} {g : List Standing} {new term : TermTree} {mono : MonoTree} → Head heads g new s x term sk_c → CanonicalMono g (rename_mono (closing x) mono) → Next heads g new s x (s_run term (Some mono))
 next_run (stays r d e) m = steps (u_run d) (n_run e m)
 next_run (reduces r d (n_do e) le) m = runs d e le
-
-skeleton_kept : {new : TermTree} {s : Skeleton} {x : ℕ} {ty r : TyTree} → SubTy new s x ty r → skeleton r ≡ skeleton ty
-unfolding skeleton
-skeleton_kept u_y_mono = refl
-skeleton_kept (u_y_fun d e) = λ j. sk_arrow (skeleton_kept d j) (skeleton_kept e j)
-skeleton_kept (u_y_all d) = λ j. sk_all (skeleton_kept d j)
-skeleton_kept (u_y_hoare d) = refl
 
 module _ (heads : Heads) (k : ℕ) (ih : Smaller heads k) where
   pub spliced : {g : List Standing} {comp others : CompTree} → 0 < k → CanonicalComp heads g comp → CanonicalComp heads (as_term sk_o ∷ g) others → (r : CompTree) × Bind comp others r × CanonicalComp heads g r

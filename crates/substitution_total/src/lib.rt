@@ -1,13 +1,16 @@
 //! Hereditary substitution gives a tree wherever the trees that it is given are canonical at the
 //! skeletons in question, and that tree is canonical. With at most one result this is exactly one.
-//! A function without a body states a law by its contract.
+//! A function without a body states laws by its contract.
 #![tactic(auto)]
 
-ghost use Rattle.substitution_total.specs.Laws.{ApplicationGivesCanonical, BindingGivesCanonical, MonotypesGiveCanonical, TermsGiveCanonical};
+ghost use Rattle.substitution_total.specs.Laws.{ApplicationGivesCanonical, BindingGivesCanonical, MonotypeInComputation, MonotypeInFormula, MonotypeInTerm, MonotypeInType, TermInComputation, TermInFormula, TermInTerm, TermInType};
 
 /// A canonical term that is put for a variable of its skeleton gives a canonical tree.
 pub fn terms_give_canonical()
-    ensures law { TermsGiveCanonical }
+    ensures terms { TermInTerm }
+    ensures computations { TermInComputation }
+    ensures types { TermInType }
+    ensures formulas { TermInFormula }
 {}
 
 /// A canonical function applied to a canonical argument gives a canonical term.
@@ -22,5 +25,8 @@ pub fn binding_gives_canonical()
 
 /// A canonical monotype that is put for a monotype variable leaves a tree canonical.
 pub fn monotypes_give_canonical()
-    ensures law { MonotypesGiveCanonical }
+    ensures terms { MonotypeInTerm }
+    ensures computations { MonotypeInComputation }
+    ensures types { MonotypeInType }
+    ensures formulas { MonotypeInFormula }
 {}

@@ -2,4 +2,4 @@ use Rattle.substitution.proofs.Examples.{applications, terms, monotypes, computa
 use Rattle.substitution.proofs.examples_of_substitution.Goals as goal
 
 pub returns : goal.returns
-returns c = record { examples = (applications, terms, monotypes, computations, others) }
+returns c = record { applications = applications; terms = terms; monotypes = monotypes; computations = computations; others = others }

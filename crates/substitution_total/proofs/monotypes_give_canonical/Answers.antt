@@ -3,4 +3,4 @@ use Rattle.substitution_total.proofs.Places.{put_fills}
 use Rattle.substitution_total.proofs.monotypes_give_canonical.Goals as goal
 
 pub returns : goal.returns
-returns c = record { law = λ heads x g whole mono i m. ((λ t s d. term_filled d (put_fills i m)), (λ t d. comp_filled d (put_fills i m)), (λ t d. ty_filled d (put_fills i m)), (λ t d. formula_filled d (put_fills i m))) }
+returns c = record { terms = λ heads mono x g whole p t s d. term_filled d (put_fills p.inserted p.canonical); computations = λ heads mono x g whole p t d. comp_filled d (put_fills p.inserted p.canonical); types = λ heads mono x g whole p t d. ty_filled d (put_fills p.inserted p.canonical); formulas = λ heads mono x g whole p t d. formula_filled d (put_fills p.inserted p.canonical) }
