@@ -1,0 +1,5 @@
+pub mod Places
+pub mod Contexts
+pub mod Typing
+pub mod Environments
+pub mod Laws

@@ -1,0 +1,16 @@
+//! The typing rules on the logic side: formation of types and formulas, terms that give or fit a
+//! type, computations against triples, and formed environments. A function without a body states a
+//! law by its contract.
+#![tactic(auto)]
+
+ghost use Rattle.htt_typing.specs.Laws.{TypingGivesOne, WorkedTyping};
+
+/// A phrase has at most one type, one canonical form and one list of obligations.
+pub fn typing_gives_one()
+    ensures { TypingGivesOne }
+{}
+
+/// Small derivations, and phrases that have none, worked out by hand.
+pub fn worked_typing()
+    ensures { WorkedTyping }
+{}
