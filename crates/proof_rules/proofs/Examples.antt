@@ -16,17 +16,17 @@ use Rattle.proof_rules.specs.Sequents.{SameFormula, putting, raised_term, terms_
 use Rattle.proof_rules.specs.Rules.{Infers, Proves, ProvesBlock, infers_hyp, infers_first, infers_second, infers_axiom, infers_at_zero, infers_at_next, infers_at, proves_left, proves_right, proves_give_heap, proves_refl_term, proves_case, proves_rewrite_term, proves_induct, proves_inferred, proves_block, proves_at, block_end, block_intro, block_gen_term, block_open_heap, block_at}
 use Rattle.proof_rules.specs.Examples.{env, with_word, is_five, TheStatements, TheForms, TheUnfoldings}
 
-kept : {new : TermTree} (x n : ℕ) → (n ≡ x → ⊥) → SubTerm new sk_o x (t_var n) (t_var (closing x n))
+pub kept : {new : TermTree} (x n : ℕ) → (n ≡ x → ⊥) → SubTerm new sk_o x (t_var n) (t_var (closing x n))
 kept x n e = u_kept (k_var e)
 
-put : {new : TermTree} (x : ℕ) → SubTerm new sk_o x (t_var x) new
+pub put : {new : TermTree} (x : ℕ) → SubTerm new sk_o x (t_var x) new
 put x = u_reduced (r_var refl)
 
 different : f_tt ≡ is_five → ⊥
 different e = cc
 
 module _ {g : Context} {hs : List FormulaTree} where
-  hyp_of : {number : ℕ} {G : FormulaTree} → Proves env g hs (p_hyp number) G → (F : FormulaTree) × (slice_get hs number ≡ Some F) × SameFormula F G
+  pub hyp_of : {number : ℕ} {G : FormulaTree} → Proves env g hs (p_hyp number) G → (F : FormulaTree) × (slice_get hs number ≡ Some F) × SameFormula F G
   hyp_of (proves_inferred (infers_hyp {F = F} e) s) = (F, e, s)
 
   first_of_hyp : {number : ℕ} {G : FormulaTree} → Proves env g hs (p_first (p_hyp number)) G → (A : FormulaTree) × (B : FormulaTree) × (slice_get hs number ≡ Some (f_and A B)) × SameFormula A G

@@ -13,7 +13,7 @@ use Rattle.logic_axioms.specs.Table.{ArgSort, heap_sort, term_sort, shape_of, fo
 use Rattle.logic_axioms.proofs.Texts.{one_name}
 use Rattle.proof_rules.specs.Sequents.{putting, put_heap, PutArgs, put_none, put_term_first, put_heap_first, terms_of, FitsArgs, fits_no_args, fits_heap_arg, fits_term_arg, below_greatest, both_ways}
 use Rattle.proof_rules.specs.Rules.{Infers, infers_hyp, infers_first, infers_second, infers_app, infers_inst_term, infers_inst_heap, infers_axiom, infers_lem, infers_the, infers_at_zero, infers_at_next, infers_at}
-use Rattle.proof_rules.specs.Laws.{OneInferred}
+use Rattle.proof_rules.specs.Laws.{OneInferred, OnePut, OneFit}
 
 found_once : {A : Type 0} {o p : Option A} {x y : A} → o ≡ p → o ≡ Some x → p ≡ Some y → x ≡ y
 found_once e f g = cc
@@ -102,3 +102,9 @@ inferred_once (infers_at d) (infers_at e) = inferred_once d e
 
 pub one_inferred : OneInferred
 one_inferred env g hs p F G d e = inferred_once d e
+
+pub one_put : OnePut
+one_put arguments F G H a b = put_from refl a b
+
+pub one_fit : OneFit
+one_fit env g arguments r q sorts a b = args_once refl a b

@@ -4,12 +4,19 @@
 //! by its contract.
 #![tactic(auto)]
 
-ghost use Rattle.proof_rules.specs.Examples.{TheForms, TheStatements, TheUnfoldings};
-ghost use Rattle.proof_rules.specs.Laws.{OneInferred, PositionsInfer, PositionsProve, PositionsState};
+ghost use Rattle.proof_rules.specs.Examples.{TheForms, TheGoals, TheInferences, TheStatements, TheUnfoldings};
+ghost use Rattle.proof_rules.specs.Laws.{OneFit, OneInferred, OnePut, PositionsInfer, PositionsProve, PositionsState};
 
 /// A proof infers at most one formula.
 pub fn proof_infers_one()
     ensures law { OneInferred }
+{}
+
+/// Arguments have at most one canonical form, and give at most one formula where they are put for
+/// variables.
+pub fn arguments_give_one()
+    ensures fitted { OneFit }
+    ensures put { OnePut }
 {}
 
 /// A position around a proof or a statement says nothing.
@@ -24,4 +31,6 @@ pub fn examples_of_proofs()
     ensures statements { TheStatements }
     ensures forms { TheForms }
     ensures unfoldings { TheUnfoldings }
+    ensures inferences { TheInferences }
+    ensures goals { TheGoals }
 {}
