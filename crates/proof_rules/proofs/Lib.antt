@@ -1,0 +1,4 @@
+pub mod Once
+pub mod Positions
+pub mod Examples
+pub mod Forms

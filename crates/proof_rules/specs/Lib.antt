@@ -1,0 +1,4 @@
+pub mod Sequents
+pub mod Rules
+pub mod Laws
+pub mod Examples
