@@ -5,61 +5,61 @@ use Rattle.htt_syntax.specs.declared.mono.Op.TheVariants.{Add, Sub, Mul, And, Or
 use Rattle.htt_syntax.specs.Trees.{MonoTree, TermTree, ArgTree, m_word, m_bool, m_loc, t_word, t_bool, t_loc, t_pair, t_fst, t_snd, t_bin, t_eq, a_heap, a_term}
 use Rattle.canonical_trees.specs.Skeletons.{sk_o}
 use Rattle.canonical_trees.specs.Contexts.{Standing, here, there, Heads}
-use Rattle.canonical_trees.specs.Canonical.{CanonicalMono, Canonical, CanonicalFormula, n_m_word, n_m_bool, n_m_loc, n_m_unit, n_m_pair, n_word, n_bool, n_loc, n_unit, n_pair, n_fst, n_snd, n_bin, n_eq, n_neutral, e_var, n_ff, n_and, n_or, n_imp, n_ex_t, n_ex_h, n_emp, n_cell, n_block, n_join, n_same, n_equal}
-use Rattle.canonical_trees.specs.Folding.{folded, fold, op_literal}
+use Rattle.canonical_trees.specs.Canonical.{IsCanonicalMono, IsCanonical, IsCanonicalFormula, n_m_word, n_m_bool, n_m_loc, n_m_unit, n_m_pair, n_word, n_bool, n_loc, n_unit, n_pair, n_fst, n_snd, n_bin, n_eq, n_neutral, e_var, n_ff, n_and, n_or, n_imp, n_ex_t, n_ex_h, n_emp, n_cell, n_block, n_join, n_same, n_equal}
+use Rattle.canonical_trees.specs.Folding.{contractum, folding, op_literal}
 use Rattle.canonical_trees.proofs.Renamed.{keeps_suc, mono_renamed, term_renamed}
 use Rattle.logic_axioms.specs.Names.{AxiomName, emp_some, emp_one, join_emp, join_comm, join_assoc, join_fun, join_cancel, join_empty, join_cross, cell_block, cell_one, cell_val, cell_make, block_part, block_sep, block_null, block_emp, block_word, block_place, block_width, add_comm, mul_comm, add_assoc, mul_assoc, add_zero, mul_one, mul_zero, mul_add, sub_add, add_sub, lt_irrefl, lt_zero, lt_trans, lt_total, lt_step, lt_gap, lt_pred, eq_yes, eq_no, bool_or, bool_ne, pair_eta, unit_eta, and_zero, or_zero, xor_self, shl_one}
 use Rattle.logic_axioms.specs.Table.{formula_of, up, up_mono}
 use Rattle.logic_axioms.specs.Laws.{AreCanonicalMonos, AreCanonicalArgs}
 
-mono_up : {g : List Standing} {entry : Standing} {t : MonoTree} → CanonicalMono g t → CanonicalMono (entry ∷ g) (up_mono t)
+mono_up : {g : List Standing} {entry : Standing} {t : MonoTree} → IsCanonicalMono g t → IsCanonicalMono (entry ∷ g) (up_mono t)
 mono_up {g = g} {entry = entry} d = mono_renamed d (keeps_suc entry g)
 
-term_up : {heads : Heads} {g : List Standing} {entry : Standing} {t : TermTree} → Canonical heads g t sk_o → Canonical heads (entry ∷ g) (up t) sk_o
+term_up : {heads : Heads} {g : List Standing} {entry : Standing} {t : TermTree} → IsCanonical heads g t sk_o → IsCanonical heads (entry ∷ g) (up t) sk_o
 term_up {g = g} {entry = entry} d = term_renamed d (keeps_suc entry g)
 
-literal_canonical : {heads : Heads} {g : List Standing} (op : Op) (x y : ℕ) → Canonical heads g (op_literal op x y) sk_o
+literal_canonical : {heads : Heads} {g : List Standing} (op : Op) (x y : ℕ) → IsCanonical heads g (op_literal op x y) sk_o
 literal_canonical Lt x y = n_bool
 literal_canonical _ x y = n_word
 
-op_folds : {heads : Heads} {g : List Standing} (op : Op) (x y : TermTree) → Canonical heads g x sk_o → Canonical heads g y sk_o → Canonical heads g (fold (t_bin op x y)) sk_o
-unfolding folded
+op_folds : {heads : Heads} {g : List Standing} (op : Op) (x y : TermTree) → IsCanonical heads g x sk_o → IsCanonical heads g y sk_o → IsCanonical heads g (folding (t_bin op x y)) sk_o
+unfolding contractum
 op_folds op (t_word x) (t_word y) d e = literal_canonical op x y
 op_folds op _ _ d e = n_bin d e refl
 
-op_form : {heads : Heads} {g : List Standing} (op : Op) {x y : TermTree} → Canonical heads g x sk_o → Canonical heads g y sk_o → Canonical heads g (fold (t_bin op x y)) sk_o
+op_form : {heads : Heads} {g : List Standing} (op : Op) {x y : TermTree} → IsCanonical heads g x sk_o → IsCanonical heads g y sk_o → IsCanonical heads g (folding (t_bin op x y)) sk_o
 op_form op {x = x} {y = y} d e = op_folds op x y d e
 
-eq_folds : {heads : Heads} {g : List Standing} (t : MonoTree) (x y : TermTree) → CanonicalMono g t → Canonical heads g x sk_o → Canonical heads g y sk_o → Canonical heads g (fold (t_eq t x y)) sk_o
-unfolding folded
+eq_folds : {heads : Heads} {g : List Standing} (t : MonoTree) (x y : TermTree) → IsCanonicalMono g t → IsCanonical heads g x sk_o → IsCanonical heads g y sk_o → IsCanonical heads g (folding (t_eq t x y)) sk_o
+unfolding contractum
 eq_folds m_word (t_word x) (t_word y) m d e = n_bool
 eq_folds m_bool (t_bool x) (t_bool y) m d e = n_bool
 eq_folds m_loc (t_loc x) (t_loc y) m d e = n_bool
 eq_folds _ _ _ m d e = n_eq m d e refl
 
-eq_form : {heads : Heads} {g : List Standing} {t : MonoTree} {x y : TermTree} → CanonicalMono g t → Canonical heads g x sk_o → Canonical heads g y sk_o → Canonical heads g (fold (t_eq t x y)) sk_o
+eq_form : {heads : Heads} {g : List Standing} {t : MonoTree} {x y : TermTree} → IsCanonicalMono g t → IsCanonical heads g x sk_o → IsCanonical heads g y sk_o → IsCanonical heads g (folding (t_eq t x y)) sk_o
 eq_form {t = t} {x = x} {y = y} m d e = eq_folds t x y m d e
 
 -- a pair isn't neutral
-fst_folds : {heads : Heads} {g : List Standing} (x : TermTree) → Canonical heads g x sk_o → Canonical heads g (fold (t_fst x)) sk_o
-unfolding folded
+fst_folds : {heads : Heads} {g : List Standing} (x : TermTree) → IsCanonical heads g x sk_o → IsCanonical heads g (folding (t_fst x)) sk_o
+unfolding contractum
 fst_folds (t_pair left right) (n_pair d e) = d
 fst_folds (t_pair left right) (n_neutral d) = elim d [ ]
 fst_folds _ d = n_fst d refl
 
-fst_form : {heads : Heads} {g : List Standing} {x : TermTree} → Canonical heads g x sk_o → Canonical heads g (fold (t_fst x)) sk_o
+fst_form : {heads : Heads} {g : List Standing} {x : TermTree} → IsCanonical heads g x sk_o → IsCanonical heads g (folding (t_fst x)) sk_o
 fst_form {x = x} d = fst_folds x d
 
-snd_folds : {heads : Heads} {g : List Standing} (x : TermTree) → Canonical heads g x sk_o → Canonical heads g (fold (t_snd x)) sk_o
-unfolding folded
+snd_folds : {heads : Heads} {g : List Standing} (x : TermTree) → IsCanonical heads g x sk_o → IsCanonical heads g (folding (t_snd x)) sk_o
+unfolding contractum
 snd_folds (t_pair left right) (n_pair d e) = e
 snd_folds (t_pair left right) (n_neutral d) = elim d [ ]
 snd_folds _ d = n_snd d refl
 
-snd_form : {heads : Heads} {g : List Standing} {x : TermTree} → Canonical heads g x sk_o → Canonical heads g (fold (t_snd x)) sk_o
+snd_form : {heads : Heads} {g : List Standing} {x : TermTree} → IsCanonical heads g x sk_o → IsCanonical heads g (folding (t_snd x)) sk_o
 snd_form {x = x} d = snd_folds x d
 
-pub instance_canonical : (heads : Heads) (g : List Standing) (axiom_name : AxiomName) (monos : List MonoTree) (arguments : List ArgTree) → AreCanonicalMonos g monos → AreCanonicalArgs heads g arguments → IfSome (formula_of axiom_name monos arguments) (CanonicalFormula heads g)
+pub instance_canonical : (heads : Heads) (g : List Standing) (axiom_name : AxiomName) (monos : List MonoTree) (arguments : List ArgTree) → AreCanonicalMonos g monos → AreCanonicalArgs heads g arguments → IfSome (formula_of axiom_name monos arguments) (IsCanonicalFormula heads g)
 unfolding formula_of
 instance_canonical heads context emp_some [] [] _ _ = n_ex_h (n_emp here)
 instance_canonical heads context emp_one [] (a_heap h ∷ a_heap k ∷ []) _ (dh, (dk, _)) = n_imp (n_emp dh) (n_imp (n_emp dk) (n_same dh dk))

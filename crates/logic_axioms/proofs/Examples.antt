@@ -2,12 +2,12 @@
 use Rattle.std.proofs.Common.{◌≡◌, ℕ, refl, arith}
 use Rattle.htt_syntax.specs.Trees.{m_word, m_loc, m_unit, m_pair, m_var}
 use Rattle.htt_renaming.specs.Renaming.{rename_mono, rename_term}
-use Rattle.canonical_trees.specs.Folding.{folded}
+use Rattle.canonical_trees.specs.Folding.{contractum}
 use Rattle.logic_axioms.specs.Table.{formula_of, count_of_words, uses_of, SideCondition, SameWidth}
 use Rattle.logic_axioms.specs.Examples.{TheWordInstances, TheHeapInstances, TheSideConditions, TheRefusals}
 
 pub word_instances : TheWordInstances
-unfolding formula_of folded
+unfolding formula_of contractum
 word_instances = record { nothing_is_below_zero = refl; sum_of_literals = refl; sum_of_a_variable = refl; zero_stays = refl; difference_wraps = refl; before_zero = refl; moved_up = refl; equal_words = refl; parts_of_a_pair = refl }
 
 pub heap_instances : TheHeapInstances

@@ -5,7 +5,7 @@ use Rattle.htt_syntax.specs.declared.mono.Op.TheVariants.{Add, Sub, Mul, And, Or
 use Rattle.htt_syntax.specs.Trees.{MonoTree, TermTree, ArgTree, m_word, m_bool, m_loc, t_word, t_bool, t_loc, t_pair, t_fst, t_snd, t_not, t_bin, t_eq, t_sel, a_heap, a_term}
 use Rattle.htt_renaming.specs.Scoped.{ScopedMono, ScopedTerm, ScopedFormula, in_m_word, in_m_bool, in_m_loc, in_m_unit, in_m_pair, in_t_var, in_t_word, in_t_bool, in_t_loc, in_t_unit, in_t_pair, in_t_fst, in_t_snd, in_t_bin, in_t_eq, in_t_sel, in_f_ff, in_f_and, in_f_or, in_f_imp, in_f_ex_t, in_f_ex_h, in_f_emp, in_f_cell, in_f_block, in_f_join, in_f_same, in_f_eq}
 use Rattle.htt_renaming.proofs.Scoping.{mono_scoped, term_scoped}
-use Rattle.canonical_trees.specs.Folding.{folded, fold, op_literal}
+use Rattle.canonical_trees.specs.Folding.{contractum, folding, op_literal}
 use Rattle.logic_axioms.specs.Names.{AxiomName, emp_some, emp_one, join_emp, join_comm, join_assoc, join_fun, join_cancel, join_empty, join_cross, cell_block, cell_one, cell_val, cell_make, block_part, block_sep, block_null, block_emp, block_word, block_place, block_width, add_comm, mul_comm, add_assoc, mul_assoc, add_zero, mul_one, mul_zero, mul_add, sub_add, add_sub, lt_irrefl, lt_zero, lt_trans, lt_total, lt_step, lt_gap, lt_pred, eq_yes, eq_no, bool_or, bool_ne, pair_eta, unit_eta, and_zero, or_zero, xor_self, shl_one}
 use Rattle.logic_axioms.specs.Table.{formula_of, up, up_mono}
 use Rattle.logic_axioms.specs.Laws.{AreScopedMonos, AreScopedArgs}
@@ -23,8 +23,8 @@ literal_scoped : {n : ℕ} (op : Op) (x y : ℕ) → ScopedTerm n (op_literal op
 literal_scoped Lt x y = in_t_bool
 literal_scoped _ x y = in_t_word
 
-fold_scoped : {n : ℕ} (t : TermTree) → ScopedTerm n t → ScopedTerm n (fold t)
-unfolding folded
+fold_scoped : {n : ℕ} (t : TermTree) → ScopedTerm n t → ScopedTerm n (folding t)
+unfolding contractum
 fold_scoped (t_bin op (t_word x) (t_word y)) d = literal_scoped op x y
 fold_scoped (t_not (t_bool x)) d = in_t_bool
 fold_scoped (t_eq m_word (t_word x) (t_word y)) d = in_t_bool
@@ -36,16 +36,16 @@ fold_scoped (t_sel mono (t_bool true) on_true on_false) (in_t_sel t b d e) = d
 fold_scoped (t_sel mono (t_bool false) on_true on_false) (in_t_sel t b d e) = e
 fold_scoped _ d = d
 
-op_scope : {n : ℕ} (op : Op) {x y : TermTree} → ScopedTerm n x → ScopedTerm n y → ScopedTerm n (fold (t_bin op x y))
+op_scope : {n : ℕ} (op : Op) {x y : TermTree} → ScopedTerm n x → ScopedTerm n y → ScopedTerm n (folding (t_bin op x y))
 op_scope op {x = x} {y = y} d e = fold_scoped (t_bin op x y) (in_t_bin d e)
 
-eq_scope : {n : ℕ} {t : MonoTree} {x y : TermTree} → ScopedMono n t → ScopedTerm n x → ScopedTerm n y → ScopedTerm n (fold (t_eq t x y))
+eq_scope : {n : ℕ} {t : MonoTree} {x y : TermTree} → ScopedMono n t → ScopedTerm n x → ScopedTerm n y → ScopedTerm n (folding (t_eq t x y))
 eq_scope {t = t} {x = x} {y = y} m d e = fold_scoped (t_eq t x y) (in_t_eq m d e)
 
-fst_scope : {n : ℕ} {x : TermTree} → ScopedTerm n x → ScopedTerm n (fold (t_fst x))
+fst_scope : {n : ℕ} {x : TermTree} → ScopedTerm n x → ScopedTerm n (folding (t_fst x))
 fst_scope {x = x} d = fold_scoped (t_fst x) (in_t_fst d)
 
-snd_scope : {n : ℕ} {x : TermTree} → ScopedTerm n x → ScopedTerm n (fold (t_snd x))
+snd_scope : {n : ℕ} {x : TermTree} → ScopedTerm n x → ScopedTerm n (folding (t_snd x))
 snd_scope {x = x} d = fold_scoped (t_snd x) (in_t_snd d)
 
 pub instance_scoped : (n : ℕ) (axiom_name : AxiomName) (monos : List MonoTree) (arguments : List ArgTree) → AreScopedMonos n monos → AreScopedArgs n arguments → IfSome (formula_of axiom_name monos arguments) (ScopedFormula n)

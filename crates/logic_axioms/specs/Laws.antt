@@ -4,7 +4,7 @@ use Rattle.htt_syntax.specs.Trees.{MonoTree, ArgTree, a_heap, a_term}
 use Rattle.htt_renaming.specs.Scoped.{ScopedMono, ScopedTerm, ScopedFormula}
 use Rattle.canonical_trees.specs.Skeletons.{sk_o}
 use Rattle.canonical_trees.specs.Contexts.{Standing, as_heap, Stands, Heads}
-use Rattle.canonical_trees.specs.Canonical.{CanonicalMono, Canonical, CanonicalFormula}
+use Rattle.canonical_trees.specs.Canonical.{IsCanonicalMono, IsCanonical, IsCanonicalFormula}
 use Rattle.logic_axioms.specs.Names.{AxiomName, text_of}
 use Rattle.logic_axioms.specs.Table.{shape_of, fits_shape, formula_of}
 
@@ -31,13 +31,13 @@ InstanceInScope = (n : ℕ) (axiom_name : AxiomName) (monos : List MonoTree) (ar
 
 abbrev pub AreCanonicalMonos : List Standing → List MonoTree → Type 0
 AreCanonicalMonos g [] = Unit {0}
-AreCanonicalMonos g (mono ∷ others) = CanonicalMono g mono × AreCanonicalMonos g others
+AreCanonicalMonos g (mono ∷ others) = IsCanonicalMono g mono × AreCanonicalMonos g others
 
 abbrev pub AreCanonicalArgs : Heads → List Standing → List ArgTree → Type 0
 AreCanonicalArgs heads g [] = Unit {0}
 AreCanonicalArgs heads g (a_heap heap ∷ others) = Stands g heap as_heap × AreCanonicalArgs heads g others
-AreCanonicalArgs heads g (a_term term ∷ others) = Canonical heads g term sk_o × AreCanonicalArgs heads g others
+AreCanonicalArgs heads g (a_term term ∷ others) = IsCanonical heads g term sk_o × AreCanonicalArgs heads g others
 
 -- An instance at canonical monotypes and arguments is canonical.
 abbrev pub InstanceIsCanonical : Type 0
-InstanceIsCanonical = (heads : Heads) (g : List Standing) (axiom_name : AxiomName) (monos : List MonoTree) (arguments : List ArgTree) → AreCanonicalMonos g monos → AreCanonicalArgs heads g arguments → IfSome (formula_of axiom_name monos arguments) (CanonicalFormula heads g)
+InstanceIsCanonical = (heads : Heads) (g : List Standing) (axiom_name : AxiomName) (monos : List MonoTree) (arguments : List ArgTree) → AreCanonicalMonos g monos → AreCanonicalArgs heads g arguments → IfSome (formula_of axiom_name monos arguments) (IsCanonicalFormula heads g)

@@ -6,7 +6,7 @@ use Rattle.htt_syntax.specs.declared.mono.Op.{Op}
 use Rattle.htt_syntax.specs.declared.mono.Op.TheVariants.{Add, Sub, Mul, And, Or, Xor, Shl, Lt}
 use Rattle.htt_syntax.specs.Trees.{MonoTree, TermTree, FormulaTree, ArgTree, m_word, m_bool, m_loc, m_unit, m_pair, m_var, t_var, t_word, t_bool, t_loc, t_unit, t_pair, t_fst, t_snd, t_bin, t_eq, f_ff, f_and, f_or, f_imp, f_ex_t, f_ex_h, f_emp, f_cell, f_block, f_join, f_same, f_eq, a_heap, a_term}
 use Rattle.htt_renaming.specs.Renaming.{rename_mono, rename_term}
-use Rattle.canonical_trees.specs.Folding.{fold}
+use Rattle.canonical_trees.specs.Folding.{folding}
 use Rattle.logic_axioms.specs.Names.{AxiomName, emp_some, emp_one, join_emp, join_comm, join_assoc, join_fun, join_cancel, join_empty, join_cross, cell_block, cell_one, cell_val, cell_make, block_part, block_sep, block_null, block_emp, block_word, block_place, block_width, add_comm, mul_comm, add_assoc, mul_assoc, add_zero, mul_one, mul_zero, mul_add, sub_add, add_sub, lt_irrefl, lt_zero, lt_trans, lt_total, lt_step, lt_gap, lt_pred, eq_yes, eq_no, bool_or, bool_ne, pair_eta, unit_eta, and_zero, or_zero, xor_self, shl_one}
 
 infixr 20 ◌⇒◌
@@ -122,9 +122,9 @@ SideCondition _ _ = Unit {0}
 abbrev pub ◌⇒◌ : FormulaTree → FormulaTree → FormulaTree
 F ⇒ G = f_imp F G
 
--- An operation, folded where it meets literals.
+-- An operation, contractum where it meets literals.
 abbrev pub op_of : Op → TermTree → TermTree → TermTree
-op_of op x y = fold (t_bin op x y)
+op_of op x y = folding (t_bin op x y)
 
 abbrev pub plus : TermTree → TermTree → TermTree
 plus x y = op_of Add x y
@@ -192,11 +192,11 @@ formula_of lt_total [] (a_term x ∷ a_term y ∷ []) = Some (f_or (less x y tru
 formula_of lt_step [] (a_term x ∷ a_term y ∷ []) = Some (less x y true ⇒ less x (plus x (t_word 1)) true)
 formula_of lt_gap [] (a_term x ∷ a_term y ∷ []) = Some (less x y true ⇒ less y (plus x (t_word 1)) false)
 formula_of lt_pred [] (a_term x ∷ []) = Some ((equal_words x (t_word 0) ⇒ f_ff) ⇒ less (minus x (t_word 1)) x true)
-formula_of eq_yes (t ∷ []) (a_term m ∷ a_term n ∷ []) = Some (f_eq m_bool (fold (t_eq t m n)) (t_bool true) ⇒ f_eq t m n)
-formula_of eq_no (t ∷ []) (a_term m ∷ a_term n ∷ []) = Some (f_eq t m n ⇒ f_eq m_bool (fold (t_eq t m n)) (t_bool true))
+formula_of eq_yes (t ∷ []) (a_term m ∷ a_term n ∷ []) = Some (f_eq m_bool (folding (t_eq t m n)) (t_bool true) ⇒ f_eq t m n)
+formula_of eq_no (t ∷ []) (a_term m ∷ a_term n ∷ []) = Some (f_eq t m n ⇒ f_eq m_bool (folding (t_eq t m n)) (t_bool true))
 formula_of bool_or [] (a_term b ∷ []) = Some (f_or (f_eq m_bool b (t_bool true)) (f_eq m_bool b (t_bool false)))
 formula_of bool_ne [] [] = Some (f_eq m_bool (t_bool true) (t_bool false) ⇒ f_ff)
-formula_of pair_eta (t ∷ s ∷ []) (a_term p ∷ []) = Some (f_eq (m_pair t s) (t_pair (fold (t_fst p)) (fold (t_snd p))) p)
+formula_of pair_eta (t ∷ s ∷ []) (a_term p ∷ []) = Some (f_eq (m_pair t s) (t_pair (folding (t_fst p)) (folding (t_snd p))) p)
 formula_of unit_eta [] (a_term u ∷ []) = Some (f_eq m_unit u t_unit)
 formula_of and_zero [] (a_term x ∷ []) = Some (equal_words (op_of And x (t_word 0)) (t_word 0))
 formula_of or_zero [] (a_term x ∷ []) = Some (equal_words (op_of Or x (t_word 0)) x)

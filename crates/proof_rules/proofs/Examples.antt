@@ -2,9 +2,9 @@
 use Rattle.std.proofs.Common.{◌≡◌, ℕ, List, [], ◌∷◌, ◌++◌, Some, codes, slice_get, refl, ap, ◌∙◌, sym, arith}
 use Rattle.htt_syntax.specs.Trees.{TermTree, FormulaTree, ProofTree, BlockTree, t_var, t_word, f_tt, f_and, f_or, f_imp, a_term, p_hyp, p_first, p_right, p_case, p_axiom, p_block, d_intro, b_then, b_end}
 use Rattle.htt_renaming.specs.Renaming.{rename_formula, rename_mono, lift, lifts}
-use Rattle.canonical_trees.specs.Folding.{folded}
+use Rattle.canonical_trees.specs.Folding.{contractum}
 use Rattle.canonical_trees.specs.Skeletons.{sk_o}
-use Rattle.canonical_trees.specs.Eta.{expanded}
+use Rattle.canonical_trees.specs.Eta.{expansion}
 use Rattle.substitution.specs.Closing.{closing}
 use Rattle.substitution.specs.Substitution.{SubTerm, u_f_eq, u_f_rec, u_no_terms, u_more_terms, u_word, u_bin, u_kept, u_reduced, k_var, r_var}
 use Rattle.htt_typing.specs.Places.{plain_formula}
@@ -79,7 +79,7 @@ statements = record {
 }
 
 pub forms : TheForms
-unfolding plain_formula rename_formula rename_mono closing lift expanded folded formula_of shape_of SideCondition
+unfolding plain_formula rename_formula rename_mono closing lift expansion contractum formula_of shape_of SideCondition
 forms = record {
   cases = proves_case (infers_hyp refl) (proves_right (proves_inferred (infers_hyp refl) refl)) (proves_left (proves_inferred (infers_hyp refl) refl));
   no_crossing = not_crossed;
@@ -90,7 +90,7 @@ forms = record {
 }
 
 pub unfoldings : TheUnfoldings
-unfolding folded closing rename_formula rename_mono lift lifts putting raised_term terms_of
+unfolding contractum closing rename_formula rename_mono lift lifts putting raised_term terms_of
 unfoldings = record {
   at_zero = infers_at_zero refl (fits_heap_arg heap_here (fits_term_arg (fits_given tt gives_word refl) fits_no_args)) (put_term_first (u_f_eq (put 1) u_word) (put_heap_first put_none));
   at_next = infers_at_next refl (fits_heap_arg heap_here (fits_term_arg (fits_given tt gives_word refl) (fits_term_arg (fits_given tt gives_word refl) fits_no_args))) (put_term_first (u_f_rec (put 2) (u_more_terms (u_bin (kept 2 1 (λ e. omega (arith, e))) u_word) u_no_terms)) (put_term_first (u_f_rec u_word (u_more_terms (u_bin (put 1) u_word) u_no_terms)) (put_heap_first put_none)));

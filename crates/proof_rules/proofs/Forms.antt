@@ -3,8 +3,8 @@ use Rattle.std.proofs.Common.{◌≡◌, ℕ, List, [], ◌∷◌, Some, slice_g
 use Rattle.htt_syntax.specs.declared.mono.Op.TheVariants.{Add}
 use Rattle.htt_syntax.specs.Trees.{FormulaTree, BlockTree, m_word, y_mono, t_var, t_word, t_bin, f_tt, f_eq, f_imp, f_ex_t, a_heap, p_hyp, p_app, p_refl, p_give, p_block}
 use Rattle.htt_renaming.specs.Renaming.{rename_formula, rename_mono, lift}
-use Rattle.canonical_trees.specs.Folding.{folded}
-use Rattle.canonical_trees.specs.Eta.{expanded}
+use Rattle.canonical_trees.specs.Folding.{contractum}
+use Rattle.canonical_trees.specs.Eta.{expansion}
 use Rattle.substitution.specs.Closing.{closing}
 use Rattle.substitution.specs.Substitution.{u_f_tt, u_f_eq, u_f_or, u_word, u_bool}
 use Rattle.htt_typing.specs.Places.{plain_formula, plain_term}
@@ -19,14 +19,14 @@ by_hyp : {g : Context} {hs : List FormulaTree} {number : ℕ} {F : FormulaTree} 
 by_hyp e = proves_inferred (infers_hyp e) refl
 
 sum_fits : {g : Context} → Fits env in_formula g (t_bin Add (t_word 2) (t_word 3)) (y_mono m_word) (t_word 5) []
-unfolding folded
+unfolding contractum
 sum_fits = fits_given tt (gives_bin (fits_given tt gives_word refl) (fits_given tt gives_word refl)) refl
 
 sum_formed : FormsFormula env with_word (f_eq m_word (t_bin Add (t_word 2) (t_word 3)) (t_word 5)) five_is_five
 sum_formed = forms_eq forms_word sum_fits (fits_given tt gives_word refl)
 
 five_formed : FormsFormula env with_word is_five is_five
-unfolding expanded rename_formula rename_mono
+unfolding expansion rename_formula rename_mono
 five_formed = forms_eq forms_word (fits_given tt (gives_var type_here) refl) (fits_given tt gives_word refl)
 
 imp_left : {A B C D : FormulaTree} → Some (f_imp A B) ≡ Some (f_imp C D) → A ≡ C
@@ -76,7 +76,7 @@ inferences = record {
 }
 
 pub goals : TheGoals
-unfolding plain_formula rename_formula rename_mono lift closing putting expanded
+unfolding plain_formula rename_formula rename_mono lift closing putting expansion
 goals = record {
   two_parts = proves_both proves_trivial (proves_refl_term refl);
   given = proves_give_term sum_fits (u_f_eq (put 0) u_word) (proves_refl_term refl);

@@ -4,7 +4,7 @@ use Rattle.htt_syntax.specs.Trees.{MonoTree, TermTree, FormulaTree, ArgTree, Pro
 use Rattle.htt_syntax.specs.declared.mono.Op.TheVariants.{Add}
 use Rattle.htt_renaming.specs.Renaming.{lifts, rename_formula}
 use Rattle.canonical_trees.specs.Skeletons.{sk_o}
-use Rattle.canonical_trees.specs.Folding.{fold}
+use Rattle.canonical_trees.specs.Folding.{folding}
 use Rattle.substitution.specs.Substitution.{SubFormula}
 use Rattle.substitution.proofs.Once.{formula_once}
 use Rattle.htt_typing.specs.Contexts.{Context, Environment}
@@ -97,7 +97,7 @@ inferred_once (infers_at_next {number = number} {r = r} {h = h} {m = m} {values 
     let word : m ≡ m' = first_term (others_of arguments) in
     let values : vs ≡ vs' = others_of (others_of arguments) in
     let body = put_once (λ j. a_term (word j) ∷ values j ++ a_heap (heap j) ∷ []) (λ j. (same j).at_next) s u in
-    λ j. f_imp (below_greatest (word j)) (both_ways (f_rec number (heap j) (fold (t_bin Add (word j) (t_word 1))) (terms_of (values j))) (body j))
+    λ j. f_imp (below_greatest (word j)) (both_ways (f_rec number (heap j) (folding (t_bin Add (word j) (t_word 1))) (terms_of (values j))) (body j))
 inferred_once (infers_at d) (infers_at e) = inferred_once d e
 
 pub one_inferred : OneInferred

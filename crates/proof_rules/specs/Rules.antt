@@ -8,7 +8,7 @@ use Rattle.htt_syntax.specs.declared.mono.Op.TheVariants.{Add}
 use Rattle.htt_syntax.specs.Trees.{MonoTree, TermTree, FormulaTree, ArgTree, ProofTree, StmtTree, BlockTree, m_word, m_bool, y_mono, t_var, t_word, t_bool, t_bin, f_tt, f_ff, f_and, f_or, f_imp, f_all_t, f_ex_t, f_all_h, f_ex_h, f_same, f_eq, f_rec, a_heap, a_term, p_hyp, p_trivial, p_refl, p_first, p_second, p_left, p_right, p_absurd, p_both, p_give, p_app, p_inst, p_case, p_rewrite, p_induct, p_split, p_axiom, p_lem, p_the, p_block, p_at, p_unfold, d_intro, d_gen, d_have, d_open, d_at, b_then, b_end}
 use Rattle.htt_renaming.specs.Renaming.{lift, rename_formula}
 use Rattle.canonical_trees.specs.Skeletons.{sk_o}
-use Rattle.canonical_trees.specs.Folding.{fold}
+use Rattle.canonical_trees.specs.Folding.{folding}
 use Rattle.substitution.specs.Substitution.{SubFormula}
 use Rattle.htt_truth.specs.Predicates.{RecTree}
 use Rattle.htt_typing.specs.Contexts.{en_heap, en_term, Context, Environment, IsHeap}
@@ -31,7 +31,7 @@ mutual
     infers_the : {g : Context} {hs : List FormulaTree} {F F' : FormulaTree} {p : ProofTree} → FormsFormula env g F F' → Proves env g hs p F' → Infers env g hs (p_the F p) F'
     -- what a recursive predicate says at 0 of a heap and values, and at the word after m
     infers_at_zero : {g : Context} {hs : List FormulaTree} {number : ℕ} {r : RecTree} {h : ℕ} {arguments values : List ArgTree} {F : FormulaTree} → slice_get env.recs number ≡ Some r → FitsArgs env g arguments (heap_sort ∷ map term_sort r.params) (a_heap h ∷ values) → PutArgs (values ++ a_heap h ∷ []) r.at_zero F → Infers env g hs (p_unfold number 0 arguments) (both_ways (f_rec number h (t_word 0) (terms_of values)) F)
-    infers_at_next : {g : Context} {hs : List FormulaTree} {number : ℕ} {r : RecTree} {h : ℕ} {m : TermTree} {arguments values : List ArgTree} {F : FormulaTree} → slice_get env.recs number ≡ Some r → FitsArgs env g arguments (heap_sort ∷ term_sort m_word ∷ map term_sort r.params) (a_heap h ∷ a_term m ∷ values) → PutArgs (a_term m ∷ values ++ a_heap h ∷ []) r.at_next F → Infers env g hs (p_unfold number 1 arguments) (f_imp (below_greatest m) (both_ways (f_rec number h (fold (t_bin Add m (t_word 1))) (terms_of values)) F))
+    infers_at_next : {g : Context} {hs : List FormulaTree} {number : ℕ} {r : RecTree} {h : ℕ} {m : TermTree} {arguments values : List ArgTree} {F : FormulaTree} → slice_get env.recs number ≡ Some r → FitsArgs env g arguments (heap_sort ∷ term_sort m_word ∷ map term_sort r.params) (a_heap h ∷ a_term m ∷ values) → PutArgs (a_term m ∷ values ++ a_heap h ∷ []) r.at_next F → Infers env g hs (p_unfold number 1 arguments) (f_imp (below_greatest m) (both_ways (f_rec number h (folding (t_bin Add m (t_word 1))) (terms_of values)) F))
     infers_at : {g : Context} {hs : List FormulaTree} {at : ℕ} {p : ProofTree} {F : FormulaTree} → Infers env g hs p F → Infers env g hs (p_at at p) F
 
   -- in this context, from these hypotheses, the proof proves the goal

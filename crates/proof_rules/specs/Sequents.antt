@@ -5,7 +5,7 @@ use Rattle.htt_syntax.specs.declared.mono.Op.TheVariants.{Lt}
 use Rattle.htt_syntax.specs.Trees.{MonoTree, TermTree, TermTrees, FormulaTree, ArgTree, m_bool, y_mono, t_word, t_bool, t_bin, f_and, f_imp, f_eq, a_heap, a_term, no_terms, more_terms}
 use Rattle.htt_renaming.specs.Renaming.{Map, lifts, rename_term, rename_formula}
 use Rattle.canonical_trees.specs.Skeletons.{sk_o}
-use Rattle.canonical_trees.specs.Folding.{fold}
+use Rattle.canonical_trees.specs.Folding.{folding}
 use Rattle.substitution.specs.Substitution.{SubFormula}
 use Rattle.htt_typing.specs.Places.{plain_term, plain_formula}
 use Rattle.htt_typing.specs.Contexts.{Context, Environment, IsHeap, FormsMono}
@@ -60,7 +60,7 @@ pub data FitsArgs (env : Environment) (g : Context) : List ArgTree → List ArgS
 
 -- The word m is not the greatest, as a canonical formula.
 abbrev pub below_greatest : TermTree → FormulaTree
-below_greatest m = f_eq m_bool (fold (t_bin Lt m (t_word 18446744073709551615))) (t_bool true)
+below_greatest m = f_eq m_bool (folding (t_bin Lt m (t_word 18446744073709551615))) (t_bool true)
 
 abbrev pub both_ways : FormulaTree → FormulaTree → FormulaTree
 both_ways F G = f_and (f_imp F G) (f_imp G F)
