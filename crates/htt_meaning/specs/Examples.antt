@@ -57,6 +57,9 @@ pub record WorkedExamples : Type 0 where
   pub one_is_true : ends 0 (only (s_get m_bool (t_loc 5))) (single_block 5 (1 ∷ [])) [] ≡ done (base (v_bool true)) (single_block 5 (1 ∷ [])) []
   pub other_width : ends 0 (only (s_set (m_pair m_word m_word) (t_loc 5) (t_word 1))) (single_block 5 (1 ∷ [])) [] ≡ fault
   pub width_alone_counts : ends 0 (only (s_free m_bool (t_loc 5))) (single_block 5 (7 ∷ [])) [] ≡ done (base v_unit) (without_block (single_block 5 (7 ∷ [])) 5) []
+  pub free_of_another_width : ends 0 (only (s_free (m_pair m_word m_word) (t_loc 5))) (single_block 5 (7 ∷ [])) [] ≡ fault
+  -- l <- alloc[word] 7; _ <- free[word] l; x <- get[word] l; ret x
+  pub use_after_free : ends 0 (c_step (s_alloc m_word (t_word 7)) (c_step (s_free m_word (t_var 0)) (only (s_get m_word (t_var 1))))) empty_heap (5 ∷ []) ≡ fault
   pub nothing_to_free : ends 0 (only (s_free m_word (t_loc 6))) (single_block 5 (7 ∷ [])) [] ≡ fault
   pub branch_takes_no_fuel : ends 0 (only (s_if m_word (t_bool false) (c_ret (t_word 1)) (c_ret (t_word 2)))) empty_heap [] ≡ done (base (v_word 2)) empty_heap []
   pub claim_does_nothing : ends 0 (only (s_claim f_ff)) (single_block 5 []) (6 ∷ []) ≡ done (base v_unit) (single_block 5 []) (6 ∷ [])

@@ -9,6 +9,7 @@ use Rattle.htt_truth.specs.TermValue.{term_value, term_values}
 use Rattle.htt_truth.specs.Truth.{Holds}
 use Rattle.htt_truth.specs.Atoms.{AtomsMeet, IsFounded, IsFoundedTable}
 use Rattle.htt_truth.specs.Predicates.{RecTree, recs_below}
+use Rattle.htt_truth.proofs.Chain.{three_cells_chain}
 use Rattle.htt_truth.specs.Examples.{WorkedExamples, doubles, twice_one}
 
 some_is_not_none : (b : Block) → Some b ≡ None → ⊥
@@ -89,4 +90,5 @@ worked = record {
   two_is_twice_one = refl;
   the_table_is_founded = founded;
   no_such_predicate = λ e. e;
+  three_cells_are_a_chain = three_cells_chain;
 }

@@ -5,3 +5,4 @@ pub mod Cells
 pub mod Stars
 pub mod Unfolding
 pub mod Examples
+pub mod Chain

@@ -1,9 +1,9 @@
 -- Truths that were worked out by hand. Index 0 is a word in w, index 1 a heap, index 2 a monotype.
-use Rattle.std.specs.Prelude.{◌≡◌, [], ◌∷◌, true, false}
+use Rattle.std.specs.Prelude.{◌≡◌, [], ◌∷◌, true, false, ℕ}
 use Rattle.htt_syntax.specs.declared.mono.Op.TheVariants.{Add, Lt}
-use Rattle.htt_syntax.specs.Trees.{m_word, m_bool, m_loc, m_unit, m_pair, m_var, t_var, t_word, t_bool, t_loc, t_pair, t_snd, t_not, t_bin, t_eq, t_sel, t_at, no_terms, more_terms, f_tt, f_or, f_all_t, f_ex_t, f_emp, f_cell, f_block, f_eq, f_rec, t_unit, f_ex_h, f_join, f_same}
-use Rattle.htt_values.specs.Values.{v_word, v_bool}
-use Rattle.htt_values.specs.Heaps.{empty_heap, single_block, Heap, IsHeap}
+use Rattle.htt_syntax.specs.Trees.{m_word, m_bool, m_loc, m_unit, m_pair, m_var, t_var, t_word, t_bool, t_loc, t_pair, t_snd, t_not, t_bin, t_eq, t_sel, t_at, no_terms, more_terms, f_tt, f_or, f_all_t, f_ex_t, f_emp, f_cell, f_block, f_eq, f_rec, t_unit, f_ex_h, f_join, f_same, f_and}
+use Rattle.htt_values.specs.Values.{v_word, v_bool, v_loc}
+use Rattle.htt_values.specs.Heaps.{empty_heap, single_block, Heap, IsHeap, with_block}
 use Rattle.htt_truth.specs.Worlds.{World, th_mono, th_value, th_heap, mono_under}
 use Rattle.htt_truth.specs.TermValue.{term_value}
 use Rattle.htt_truth.specs.Truth.{Recs, Holds}
@@ -32,6 +32,24 @@ twice_one = record {
   at_next = f_tt;
 }
 
+-- a list of n cells from a place: none at null, or one with a word and the next place, and the rest
+abbrev pub chain : RecTree
+chain = record {
+  params = m_loc ∷ [];
+  at_zero = f_and (f_emp 0) (f_eq m_loc (t_var 1) (t_loc 0));
+  at_next = f_ex_t (m_pair m_word m_loc) (f_ex_h (f_ex_h (f_and (f_join 3 1 0) (f_and (f_cell (m_pair m_word m_loc) 1 (t_var 4) (t_var 2)) (f_rec 0 0 (t_var 5) (more_terms (t_snd (t_var 2)) no_terms))))));
+}
+
+-- three cells from place 1: 10 and on to 2, 11 and on to 3, 12 and no further
+abbrev pub last_cell : Heap
+last_cell = with_block empty_heap 3 (12 ∷ 0 ∷ [])
+
+abbrev pub two_cells : Heap
+two_cells = with_block last_cell 2 (11 ∷ 3 ∷ [])
+
+abbrev pub three_cells : Heap
+three_cells = with_block two_cells 1 (10 ∷ 2 ∷ [])
+
 pub record WorkedExamples : Type 0 where
   pub mono_variable : mono_under w (m_pair (m_var 2) m_unit) ≡ m_pair (m_pair m_word m_bool) m_unit
   pub sum_of_variable : term_value w (t_bin Add (t_var 0) (t_word 2)) ≡ v_word 1
@@ -58,3 +76,4 @@ pub record WorkedExamples : Type 0 where
   pub two_is_twice_one : recs_of (doubles ∷ twice_one ∷ []) 1 0 (v_word 2 ∷ []) empty_heap
   pub the_table_is_founded : IsFoundedTable (doubles ∷ twice_one ∷ [])
   pub no_such_predicate : recs_of (doubles ∷ []) 1 0 (v_word 0 ∷ []) empty_heap → ⊥
+  pub three_cells_are_a_chain : recs_of (chain ∷ []) 0 3 (v_loc 1 ∷ []) three_cells
