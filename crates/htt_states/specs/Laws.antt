@@ -65,6 +65,6 @@ pub record WorkedStates : Type 0 where
       ≡ f_ex_t m_word (f_and (f_and f_tt (f_eq m_word (t_var 0) (t_word 2))) (f_eq m_word (t_var 3) (t_bin Add (t_var 0) (t_word 1))))
   -- a claim goes on as its formula, which keeps its heaps and passes the claim's variable
   pub claim_goes_on : after (move_claim (f_and (f_same 0 1) (f_eq m_word (t_var 2) (t_word 9)))) f_tt ≡ f_and (f_same 0 1) (f_eq m_word (t_var 3) (t_word 9))
-  -- `_ <- set[word] l 8` after an alloc of 7: the old block goes, the new cell stands in its place
+  -- `_ <- set[word] l 8`: the old block goes, the new cell stands in its place
   pub set_goes_on : after (move_set m_word (t_var 0) (t_word 8)) f_tt
       ≡ f_ex_h (f_ex_h (f_ex_h (f_ex_h (f_and f_tt (f_and (f_block m_word 2 (t_var 7)) (f_and (f_join 3 2 0) (f_and (f_cell m_word 1 (t_var 7) (t_word 8)) (f_join 4 1 0))))))))

@@ -2,8 +2,8 @@
 use Rattle.std.proofs.Common.{◌≡◌, ℕ, List, [], ◌∷◌, Some, None, refl, sym, ap, ◌∙◌, subst, arith}
 use Rattle.std.specs.Prelude.{Bool, true, false, nat_eq, if◌then◌else◌}
 use Rattle.std.proofs.lemmas.Bool.Decides.{nat_tests}
-use Rattle.htt_values.specs.Values.{Value, v_word, v_unit}
-use Rattle.htt_values.specs.Heaps.{Heap, Block, empty_heap, single_block, with_block, Joins, IsJoin}
+use Rattle.htt_values.specs.Values.{Value, v_word, v_unit, is_word, is_unit}
+use Rattle.htt_values.specs.Heaps.{Heap, Block, IsHeap, empty_heap, single_block, with_block, Joins, IsJoin}
 use Rattle.htt_values.proofs.Joins.{single_is_only, join_of_empty, join_is_one}
 use Rattle.htt_syntax.specs.Trees.{m_word, t_var, t_word, f_eq}
 use Rattle.htt_truth.specs.Worlds.{th_value, th_heap}
@@ -23,15 +23,19 @@ heap_of_end e = cc
 value_of_end : {v u : RunValue} {h g : Heap} {cs ds : List ℕ} → done v h cs ≡ done u g ds → v ≡ u
 value_of_end e = cc
 
+empty_is_heap : IsHeap empty_heap
+empty_is_heap = record { above_zero = λ l b e. cc; at_words = λ l b e. cc; of_words = λ l b e. cc }
+
 five : (k : Heap) → MeetsTriple [] gives_five (run_of_val file 0 1 []) empty_heap k
 unfolding Holds term_value
 five k = record {
-  no_fault = λ whole j p e. no_fault_at_end e;
-  ends_so = λ whole j p v g rest e. record {
+  no_fault = λ whole i j p e. no_fault_at_end e;
+  ends_so = λ whole i j p v g rest e. record {
     own = empty_heap;
     parts = record { each = λ l. ap (λ (h : Heap). h l) (sym (heap_of_end e)) ∙ j.each l };
     value = v_word 5;
     is_value = sym (value_of_end e);
+    typed = is_word (omega arith);
     post = refl;
   };
 }
@@ -45,11 +49,11 @@ six_post x a b e p = let f : 5 ≡ 6 = one_word (e ∙ ap base p) in omega (arit
 
 five_is_not_six : MeetsTriple [] gives_six (run_of_val file 0 1 []) empty_heap empty_heap → ⊥
 unfolding Holds term_value recs_below
-five_is_not_six m = let a = m.ends_so empty_heap (join_of_empty empty_heap) (record { each = λ l. refl }) (base (v_word 5)) empty_heap [] refl in six_post a.value a.own empty_heap a.is_value a.post
+five_is_not_six m = let a = m.ends_so empty_heap empty_is_heap (join_of_empty empty_heap) (record { each = λ l. refl }) (base (v_word 5)) empty_heap [] refl in six_post a.value a.own empty_heap a.is_value a.post
 
 not_from_any : MeetsTriple [] writes_from_any (run_of_val file 1 1 []) empty_heap empty_heap → ⊥
 unfolding Holds
-not_from_any m = m.no_fault empty_heap (join_of_empty empty_heap) tt refl
+not_from_any m = m.no_fault empty_heap empty_is_heap (join_of_empty empty_heap) tt refl
 
 -- two places, of which one may have been written before
 both_places : (b c : Bool) → (b ≡ true → c ≡ true → ⊥) → (x y : Block) → Joins (if b then Some x else (if c then Some y else None)) (if b then Some x else None) (if c then Some y else None)
@@ -82,12 +86,13 @@ ends_at whole j = ap (run_of_val file 1 1 []) (whole_is whole j)
 eight : MeetsTriple [] writes_eight (run_of_val file 1 1 []) (single_block 5 (7 ∷ [])) (single_block 6 (1 ∷ []))
 unfolding Holds term_value
 eight = record {
-  no_fault = λ whole j p e. no_fault_at_end (sym (ends_at whole j) ∙ e);
-  ends_so = λ whole j p v g rest e. record {
+  no_fault = λ whole i j p e. no_fault_at_end (sym (ends_at whole j) ∙ e);
+  ends_so = λ whole i j p v g rest e. record {
     own = single_block 5 (8 ∷ []);
     parts = subst (λ (h : Heap). IsJoin h (single_block 5 (8 ∷ [])) (single_block 6 (1 ∷ []))) (heap_of_end (sym (ends_at whole j) ∙ e)) (record { each = λ l. written_place (nat_eq l 5) (nat_eq l 6) (not_both l) (8 ∷ []) (1 ∷ []) (7 ∷ []) });
     value = v_unit;
     is_value = sym (value_of_end (sym (ends_at whole j) ∙ e));
+    typed = is_unit;
     post = single_is_only 5 (8 ∷ []);
   };
 }

@@ -1,7 +1,9 @@
 -- What a triple leaves is determined, and a triple that isn't denied is one.
-use Rattle.std.proofs.Common.{◌≡◌, List, [], ◌∷◌, Option, Some, None, refl, sym, subst, arith}
-use Rattle.htt_syntax.specs.Trees.{TermTree, FixTree, CompTree, TripleTree, triple}
-use Rattle.htt_values.specs.Values.{Value}
+use Rattle.std.proofs.Common.{◌≡◌, ℕ, List, [], ◌∷◌, Option, Some, None, refl, sym, subst, arith, inl, inr}
+use Rattle.std.specs.Prelude.{◌^◌}
+use Rattle.std.proofs.lemmas.Bool.{cases_lt}
+use Rattle.htt_syntax.specs.Trees.{MonoTree, TermTree, FixTree, CompTree, TripleTree, triple, m_word, m_bool, m_loc, m_unit, m_pair, m_var}
+use Rattle.htt_values.specs.Values.{Value, v_word, v_bool, v_loc, v_unit, v_pair, IsWord, HasType, is_word, is_bool, is_loc, is_unit, is_pair}
 use Rattle.htt_values.specs.Heaps.{Heap, Block, IsHeap, IsSame, Joins}
 use Rattle.htt_values.proofs.Joins.{join_commutes, join_cancels, part_is_heap}
 use Rattle.htt_truth.specs.Worlds.{th_value, th_heap}
@@ -49,12 +51,60 @@ rest g k l = without (g l) (k l)
 own_is : {table : List RecTree} {spec : TripleTree} {h k g : Heap} {v : RunValue} (a : Leaves table spec h k v g) → a.own ≡ rest g k
 own_is {k = k} {g = g} a = λ i l. own_is_rest (g l) (a.own l) (k l) (a.parts.each l) i
 
+word_is_stable : (n : ℕ) → NotNot (IsWord n) → IsWord n
+word_is_stable n h = elim (cases_lt n (2 ^ 64)) [ inl below ↦ below | inr above ↦ absurd (h (λ below. omega (arith, above, below))) ]
+
+word_bound : {n : ℕ} → HasType (v_word n) m_word → IsWord n
+word_bound (is_word p) = p
+
+loc_bound : {n : ℕ} → HasType (v_loc n) m_loc → IsWord n
+loc_bound (is_loc p) = p
+
+left_type : {x y : Value} {t u : MonoTree} → HasType (v_pair x y) (m_pair t u) → HasType x t
+left_type (is_pair p q) = p
+
+right_type : {x y : Value} {t u : MonoTree} → HasType (v_pair x y) (m_pair t u) → HasType y u
+right_type (is_pair p q) = q
+
+type_is_stable : (v : Value) (t : MonoTree) → NotNot (HasType v t) → HasType v t
+type_is_stable (v_word n) m_word h = is_word (word_is_stable n (λ k. h (λ a. k (word_bound a))))
+type_is_stable (v_bool b) m_bool h = is_bool
+type_is_stable (v_loc n) m_loc h = is_loc (word_is_stable n (λ k. h (λ a. k (loc_bound a))))
+type_is_stable v_unit m_unit h = is_unit
+type_is_stable (v_pair x y) (m_pair t u) h = is_pair (type_is_stable x t (λ k. h (λ a. k (left_type a)))) (type_is_stable y u (λ k. h (λ a. k (right_type a))))
+type_is_stable (v_word n) m_bool h = absurd (h (λ a. elim a [ ]))
+type_is_stable (v_word n) m_loc h = absurd (h (λ a. elim a [ ]))
+type_is_stable (v_word n) m_unit h = absurd (h (λ a. elim a [ ]))
+type_is_stable (v_word n) (m_pair t u) h = absurd (h (λ a. elim a [ ]))
+type_is_stable (v_word n) (m_var i) h = absurd (h (λ a. elim a [ ]))
+type_is_stable (v_bool b) m_word h = absurd (h (λ a. elim a [ ]))
+type_is_stable (v_bool b) m_loc h = absurd (h (λ a. elim a [ ]))
+type_is_stable (v_bool b) m_unit h = absurd (h (λ a. elim a [ ]))
+type_is_stable (v_bool b) (m_pair t u) h = absurd (h (λ a. elim a [ ]))
+type_is_stable (v_bool b) (m_var i) h = absurd (h (λ a. elim a [ ]))
+type_is_stable (v_loc n) m_word h = absurd (h (λ a. elim a [ ]))
+type_is_stable (v_loc n) m_bool h = absurd (h (λ a. elim a [ ]))
+type_is_stable (v_loc n) m_unit h = absurd (h (λ a. elim a [ ]))
+type_is_stable (v_loc n) (m_pair t u) h = absurd (h (λ a. elim a [ ]))
+type_is_stable (v_loc n) (m_var i) h = absurd (h (λ a. elim a [ ]))
+type_is_stable v_unit m_word h = absurd (h (λ a. elim a [ ]))
+type_is_stable v_unit m_bool h = absurd (h (λ a. elim a [ ]))
+type_is_stable v_unit m_loc h = absurd (h (λ a. elim a [ ]))
+type_is_stable v_unit (m_pair t u) h = absurd (h (λ a. elim a [ ]))
+type_is_stable v_unit (m_var i) h = absurd (h (λ a. elim a [ ]))
+type_is_stable (v_pair x y) m_word h = absurd (h (λ a. elim a [ ]))
+type_is_stable (v_pair x y) m_bool h = absurd (h (λ a. elim a [ ]))
+type_is_stable (v_pair x y) m_loc h = absurd (h (λ a. elim a [ ]))
+type_is_stable (v_pair x y) m_unit h = absurd (h (λ a. elim a [ ]))
+type_is_stable (v_pair x y) (m_var i) h = absurd (h (λ a. elim a [ ]))
+
 leaves_is_stable : (table : List RecTree) (spec : TripleTree) (h k : Heap) (v : RunValue) (g : Heap) → NotNot (Leaves table spec h k v g) → Leaves table spec h k v g
 leaves_is_stable table (triple pre mono post) h k (base x) g n = record {
   own = rest g k;
   parts = record { each = λ l. joins_stable (g l) (rest g k l) (k l) (λ deny. n (λ a. deny (subst (λ (o : Heap). Joins (g l) (o l) (k l)) (own_is a) (a.parts.each l)))) };
   value = x;
   is_value = refl;
+  typed = type_is_stable x mono (λ deny. n (λ a. deny (subst (λ (y : Value). HasType y mono) (sym (one_base a.is_value)) a.typed)));
   post = classical.stable table (th_heap (rest g k) ∷ th_heap h ∷ th_value x ∷ []) post (λ deny. n (λ a. deny (subst (λ (o : Heap). Holds (recs_of table) (th_heap o ∷ th_heap h ∷ th_value x ∷ []) post) (own_is a) (subst (λ (y : Value). Holds (recs_of table) (th_heap a.own ∷ th_heap h ∷ th_value y ∷ []) post) (sym (one_base a.is_value)) a.post))));
 }
 leaves_is_stable table spec h k (fun_of e body) g n = absurd (n (λ a. no_base_fun a.is_value))
@@ -64,8 +114,8 @@ leaves_is_stable table spec h k (fix_of own whole e left) g n = absurd (n (λ a.
 
 triple_is_stable : (table : List RecTree) (spec : TripleTree) (result : Heap → RunResult) (h k : Heap) → NotNot (MeetsTriple table spec result h k) → MeetsTriple table spec result h k
 triple_is_stable table spec result h k n = record {
-  no_fault = λ whole j p e. n (λ m. m.no_fault whole j p e);
-  ends_so = λ whole j p v g rest e. leaves_is_stable table spec h k v g (λ deny. n (λ m. deny (m.ends_so whole j p v g rest e)));
+  no_fault = λ whole i j p e. n (λ m. m.no_fault whole i j p e);
+  ends_so = λ whole i j p v g rest e. leaves_is_stable table spec h k v g (λ deny. n (λ m. deny (m.ends_so whole i j p v g rest e)));
 }
 
 pub triple_laws : TripleLaws

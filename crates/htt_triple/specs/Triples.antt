@@ -1,9 +1,9 @@
 -- A triple with frame: a run from a heap whose one part makes the precondition true never faults, and
 -- where it ends the other part is unchanged and the rest makes the postcondition true.
 use Rattle.std.specs.Prelude.{◌≡◌, ◌≢◌, ℕ, List, [], ◌∷◌, None}
-use Rattle.htt_syntax.specs.Trees.{TripleTree, CompTree, triple, t_val, t_var, c_ret, c_step, s_run}
-use Rattle.htt_values.specs.Values.{Value}
-use Rattle.htt_values.specs.Heaps.{Heap, IsJoin}
+use Rattle.htt_syntax.specs.Trees.{MonoTree, TripleTree, CompTree, triple, t_val, t_var, c_ret, c_step, s_run}
+use Rattle.htt_values.specs.Values.{Value, HasType}
+use Rattle.htt_values.specs.Heaps.{Heap, IsHeap, IsJoin}
 use Rattle.htt_truth.specs.Worlds.{th_value, th_heap}
 use Rattle.htt_truth.specs.Truth.{Holds}
 use Rattle.htt_truth.specs.Predicates.{RecTree, recs_of}
@@ -18,6 +18,10 @@ PreHolds table (triple pre mono post) h = Holds (recs_of table) (th_heap h ∷ [
 abbrev pub PostHolds : List RecTree → TripleTree → Value → Heap → Heap → Type 0
 PostHolds table (triple pre mono post) v init mem = Holds (recs_of table) (th_heap mem ∷ th_heap init ∷ th_value v ∷ []) post
 
+-- The monotype of the result.
+abbrev pub result_mono : TripleTree → MonoTree
+result_mono (triple pre mono post) = mono
+
 -- A run from h beside the frame k has ended with a value and the heap g: g is the frame and an own
 -- part, of which the postcondition is true.
 pub record Leaves (table : List RecTree) (spec : TripleTree) (h k : Heap) (v : RunValue) (g : Heap) : Type 0 where
@@ -25,12 +29,14 @@ pub record Leaves (table : List RecTree) (spec : TripleTree) (h k : Heap) (v : R
   pub parts : IsJoin g own k
   pub value : Value
   pub is_value : v ≡ base value
+  pub typed : HasType value (result_mono spec)
   pub post : PostHolds table spec value h own
 
--- The triple of a run from h beside the frame k, by what the run comes to from the whole heap.
+-- The triple of a run from h beside the frame k, by what the run comes to from the whole heap. The
+-- triple is a canonical one, and the choices that the run is given are words.
 pub record MeetsTriple (table : List RecTree) (spec : TripleTree) (result : Heap → RunResult) (h k : Heap) : Type 0 where
-  pub no_fault : (whole : Heap) → IsJoin whole h k → PreHolds table spec h → result whole ≢ fault
-  pub ends_so : (whole : Heap) → IsJoin whole h k → PreHolds table spec h → (v : RunValue) (g : Heap) (rest : List ℕ) → result whole ≡ done v g rest → Leaves table spec h k v g
+  pub no_fault : (whole : Heap) → IsHeap whole → IsJoin whole h k → PreHolds table spec h → result whole ≢ fault
+  pub ends_so : (whole : Heap) → IsHeap whole → IsJoin whole h k → PreHolds table spec h → (v : RunValue) (g : Heap) (rest : List ℕ) → result whole ≡ done v g rest → Leaves table spec h k v g
 
 -- x <- main; ret x
 abbrev pub main_comp : ℕ → CompTree

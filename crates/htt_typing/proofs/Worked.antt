@@ -1,5 +1,5 @@
 -- Small derivations, and phrases that have none.
-use Rattle.std.proofs.Common.{List, [], refl}
+use Rattle.std.proofs.Common.{List, [], refl, arith}
 use Rattle.htt_syntax.specs.Trees.{TyTree, TermTree, CompTree, m_word, m_pair, t_lam, t_pair, t_var, t_word, t_do, t_eq}
 use Rattle.htt_renaming.specs.Renaming.{lift, lifts, rename_mono, rename_term}
 use Rattle.htt_states.specs.States.{past, at_heap, start, some_values, within, ending, finish, last}
@@ -31,12 +31,12 @@ no_equation_of_pairs M N R A o (gives_eq f c a b) = no_comparison_of_pairs c
 pub worked : WorkedTyping
 unfolding lift lifts rename_mono rename_term past at_heap start some_values within ending finish last skeleton contractum expansion closing plain_ty
 worked = record {
-  sum = fits_body (runs_ret (fits_given tt (gives_bin (fits_given tt gives_word refl) (fits_given tt gives_word refl)) refl));
+  sum = fits_body (runs_ret (fits_given tt (gives_bin (fits_given tt (gives_word (omega arith)) refl) (fits_given tt (gives_word (omega arith)) refl)) refl));
   placed = fits_at (fits_given tt gives_bool refl);
-  successor = fits_lam (fits_given tt (gives_bin (fits_given tt (gives_var type_here) refl) (fits_given tt gives_word refl)) refl);
+  successor = fits_lam (fits_given tt (gives_bin (fits_given tt (gives_var type_here) refl) (fits_given tt (gives_word (omega arith)) refl)) refl);
   expanded = gives_var type_here;
-  applied = gives_app (gives_ann (forms_fun (forms_mono forms_word) (forms_mono forms_word)) (fits_lam (fits_given tt (gives_bin (fits_given tt (gives_var type_here) refl) (fits_given tt gives_word refl)) refl))) (fits_given tt gives_word refl) u_y_mono (u_bin (u_reduced (r_var refl)) u_word);
-  compared = gives_bin (fits_given tt gives_word refl) (fits_given tt gives_word refl);
+  applied = gives_app (gives_ann (forms_fun (forms_mono forms_word) (forms_mono forms_word)) (fits_lam (fits_given tt (gives_bin (fits_given tt (gives_var type_here) refl) (fits_given tt (gives_word (omega arith)) refl)) refl))) (fits_given tt (gives_word (omega arith)) refl) u_y_mono (u_bin (u_reduced (r_var refl)) u_word);
+  compared = gives_bin (fits_given tt (gives_word (omega arith)) refl) (fits_given tt (gives_word (omega arith)) refl);
   formed = forms_formula_at (forms_ex_t forms_word (forms_eq forms_word (fits_given tt (gives_var type_here) refl) (fits_given tt (gives_var type_here) refl)));
   no_synthesis = no_synthesis_of_functions;
   no_function = no_pair_as_function;

@@ -8,7 +8,7 @@ use Rattle.std.specs.Prelude.{◌≡◌, ℕ, zero, suc, Bool, true, false, List
 use Rattle.htt_syntax.specs.declared.mono.Op.{Op}
 use Rattle.htt_syntax.specs.Trees.{MonoTree, TyTree, TripleTree, TermTree, FixTree, CompTree, StepTree, FormulaTree, TermTrees, m_word, m_bool, m_loc, m_unit, m_pair, y_mono, y_fun, y_all, y_hoare, y_at, triple, t_var, t_val, t_def, t_app, t_inst, t_lam, t_lam_t, t_do, t_fix, t_word, t_bool, t_loc, t_unit, t_pair, t_fst, t_snd, t_not, t_bin, t_eq, t_sel, t_ann, t_at, x_param, x_body, c_ret, c_step, s_run, s_alloc, s_get, s_set, s_free, s_if, s_claim, f_tt, f_ff, f_and, f_or, f_imp, f_all_t, f_ex_t, f_all_h, f_ex_h, f_emp, f_cell, f_block, f_join, f_same, f_eq, f_at, f_rec, no_terms, more_terms}
 use Rattle.htt_renaming.specs.Renaming.{rename_mono, rename_ty, rename_triple}
-use Rattle.htt_values.specs.Values.{op_mono}
+use Rattle.htt_values.specs.Values.{IsWord, op_mono}
 use Rattle.htt_truth.specs.Predicates.{RecTree}
 use Rattle.htt_states.specs.States.{move_alloc, move_get, move_set, move_free, move_run, move_claim, start, owed, after, branch, finish, merge, last}
 use Rattle.canonical_trees.specs.Skeletons.{sk_o, skeleton}
@@ -96,9 +96,9 @@ mutual
     gives_var : {g : Context} {index : ℕ} {ty : TyTree} {m : Mode} → HasEntryType g index ty → Gives env m g (t_var index) ty (eta (t_var index) ty) []
     gives_val : {number : ℕ} {ty : TyTree} {m : Mode} {g : Context} → slice_get env.vals number ≡ Some ty → Gives env m g (t_val number) ty (eta (t_val number) ty) []
     gives_def : {number : ℕ} {definition : TyTree × TermTree} {m : Mode} {g : Context} → slice_get env.defs number ≡ Some definition → Gives env m g (t_def number) (definition.0) (definition.1) []
-    gives_word : {m : Mode} {g : Context} {word : ℕ} → Gives env m g (t_word word) (y_mono m_word) (t_word word) []
+    gives_word : {m : Mode} {g : Context} {word : ℕ} → IsWord word → Gives env m g (t_word word) (y_mono m_word) (t_word word) []
     gives_bool : {m : Mode} {g : Context} {truth : Bool} → Gives env m g (t_bool truth) (y_mono m_bool) (t_bool truth) []
-    gives_loc : {m : Mode} {g : Context} {place_at : ℕ} → Gives env m g (t_loc place_at) (y_mono m_loc) (t_loc place_at) []
+    gives_loc : {m : Mode} {g : Context} {place_at : ℕ} → IsWord place_at → Gives env m g (t_loc place_at) (y_mono m_loc) (t_loc place_at) []
     gives_unit : {m : Mode} {g : Context} → Gives env m g t_unit (y_mono m_unit) t_unit []
     gives_app : {m : Mode} {g : Context} {function : TermTree} {argument answer : TyTree} {inner : TermTree} {o : List Obligation} {value value' : TermTree} {p : List Obligation} {answer' : TyTree} {inner' : TermTree} → Gives env m g function (y_fun argument answer) (t_lam inner) o → Fits env m g value argument value' p → SubTy value' (skeleton argument) zero answer answer' → SubTerm value' (skeleton argument) zero inner inner' → Gives env m g (t_app function value) answer' inner' (o ++ p)
     gives_inst : {m : Mode} {g : Context} {function : TermTree} {ty : TyTree} {inner : TermTree} {o : List Obligation} {mono : MonoTree} → Gives env m g function (y_all ty) (t_lam_t inner) o → FormsMono g mono → Gives env m g (t_inst function mono) (put_mono_ty mono zero ty) (put_mono_term mono zero inner) o

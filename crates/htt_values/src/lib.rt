@@ -9,7 +9,7 @@ ghost use Rattle.htt_values.specs.HeapLaws.{HeapLaws};
 ghost use Rattle.htt_values.specs.ValueLaws.{ValueLaws};
 
 /// A value's encoding is as long as its monotype is wide, tells the value, and is read back exactly;
-/// each operation gives a value of its monotype.
+/// each of the nine operations on words gives a value of its monotype.
 pub fn value_laws()
     ensures laws { ValueLaws }
 {}

@@ -122,7 +122,7 @@ SideCondition _ _ = Unit {0}
 abbrev pub ◌⇒◌ : FormulaTree → FormulaTree → FormulaTree
 F ⇒ G = f_imp F G
 
--- An operation, contractum where it meets literals.
+-- An operation, folded where it meets literals.
 abbrev pub op_of : Op → TermTree → TermTree → TermTree
 op_of op x y = folding (t_bin op x y)
 

@@ -85,13 +85,13 @@ forms = record {
   no_crossing = not_crossed;
   turned = proves_rewrite_term (infers_hyp refl) (forms_eq forms_word (fits_given tt (gives_var type_here) refl) (fits_given tt (gives_var (type_there type_here)) refl)) (u_f_eq (put 0) (kept 0 1 (λ e. omega (arith, e)))) refl (u_f_eq (put 0) (kept 0 1 (λ e. omega (arith, e)))) (proves_refl_term refl);
   by_induction = proves_induct (forms_eq forms_word (fits_given tt (gives_var type_here) refl) (fits_given tt (gives_var type_here) refl)) (fits_given tt (gives_var type_here) refl) (u_f_eq (put 0) (put 0)) refl (u_f_eq (put 0) (put 0)) (proves_refl_term refl) (u_f_eq (put 0) (put 0)) (proves_refl_term refl);
-  of_an_axiom = infers_axiom lt_zero refl forms_no_monos refl tt (fits_term_arg (fits_given tt gives_word refl) fits_no_args) refl;
+  of_an_axiom = infers_axiom lt_zero refl forms_no_monos refl tt (fits_term_arg (fits_given tt (gives_word (omega arith)) refl) fits_no_args) refl;
   no_axiom = no_lt;
 }
 
 pub unfoldings : TheUnfoldings
 unfolding contractum closing rename_formula rename_mono lift lifts putting raised_term terms_of
 unfoldings = record {
-  at_zero = infers_at_zero refl (fits_heap_arg heap_here (fits_term_arg (fits_given tt gives_word refl) fits_no_args)) (put_term_first (u_f_eq (put 1) u_word) (put_heap_first put_none));
-  at_next = infers_at_next refl (fits_heap_arg heap_here (fits_term_arg (fits_given tt gives_word refl) (fits_term_arg (fits_given tt gives_word refl) fits_no_args))) (put_term_first (u_f_rec (put 2) (u_more_terms (u_bin (kept 2 1 (λ e. omega (arith, e))) u_word) u_no_terms)) (put_term_first (u_f_rec u_word (u_more_terms (u_bin (put 1) u_word) u_no_terms)) (put_heap_first put_none)));
+  at_zero = infers_at_zero refl (fits_heap_arg heap_here (fits_term_arg (fits_given tt (gives_word (omega arith)) refl) fits_no_args)) (put_term_first (u_f_eq (put 1) u_word) (put_heap_first put_none));
+  at_next = infers_at_next refl (fits_heap_arg heap_here (fits_term_arg (fits_given tt (gives_word (omega arith)) refl) (fits_term_arg (fits_given tt (gives_word (omega arith)) refl) fits_no_args))) (put_term_first (u_f_rec (put 2) (u_more_terms (u_bin (kept 2 1 (λ e. omega (arith, e))) u_word) u_no_terms)) (put_term_first (u_f_rec u_word (u_more_terms (u_bin (put 1) u_word) u_no_terms)) (put_heap_first put_none)));
 }

@@ -20,14 +20,14 @@ by_hyp e = proves_inferred (infers_hyp e) refl
 
 sum_fits : {g : Context} → Fits env in_formula g (t_bin Add (t_word 2) (t_word 3)) (y_mono m_word) (t_word 5) []
 unfolding contractum
-sum_fits = fits_given tt (gives_bin (fits_given tt gives_word refl) (fits_given tt gives_word refl)) refl
+sum_fits = fits_given tt (gives_bin (fits_given tt (gives_word (omega arith)) refl) (fits_given tt (gives_word (omega arith)) refl)) refl
 
 sum_formed : FormsFormula env with_word (f_eq m_word (t_bin Add (t_word 2) (t_word 3)) (t_word 5)) five_is_five
-sum_formed = forms_eq forms_word sum_fits (fits_given tt gives_word refl)
+sum_formed = forms_eq forms_word sum_fits (fits_given tt (gives_word (omega arith)) refl)
 
 five_formed : FormsFormula env with_word is_five is_five
 unfolding expansion rename_formula rename_mono
-five_formed = forms_eq forms_word (fits_given tt (gives_var type_here) refl) (fits_given tt gives_word refl)
+five_formed = forms_eq forms_word (fits_given tt (gives_var type_here) refl) (fits_given tt (gives_word (omega arith)) refl)
 
 imp_left : {A B C D : FormulaTree} → Some (f_imp A B) ≡ Some (f_imp C D) → A ≡ C
 imp_left e = cc
@@ -67,7 +67,7 @@ unfolding plain_formula rename_formula rename_mono lift closing putting
 inferences = record {
   applied = infers_app (infers_hyp refl) (by_hyp refl);
   not_applied = not_applied;
-  at_a_term = infers_inst_term (infers_hyp refl) (fits_given tt gives_word refl) (u_f_eq (put 0) (kept 0 1 (λ e. omega (arith, e))));
+  at_a_term = infers_inst_term (infers_hyp refl) (fits_given tt (gives_word (omega arith)) refl) (u_f_eq (put 0) (kept 0 1 (λ e. omega (arith, e))));
   at_a_heap = infers_inst_heap (infers_hyp refl) (heap_there heap_here);
   excluded_middle = infers_lem five_formed;
   stated = infers_the sum_formed (proves_refl_term refl);

@@ -49,7 +49,7 @@ pub record TheForms : Type 0 where
   pub turned : Proves env with_word (is_five ∷ []) (p_rewrite (p_hyp 0) (f_eq m_word (t_var 0) (t_var 1)) p_refl) (f_eq m_word (t_word 5) (t_var 0))
   -- induct(z . [z =[word] z], x, refl, y u v . refl)
   pub by_induction : Proves env with_word [] (p_induct (f_eq m_word (t_var 0) (t_var 0)) (t_var 0) p_refl p_refl) (f_eq m_word (t_var 0) (t_var 0))
-  -- axiom lt_zero(3), whose formula is contractum
+  -- axiom lt_zero(3), whose formula is folded
   pub of_an_axiom : Infers env with_word [] (p_axiom (codes "lt_zero") [] (a_term (t_word 3) ∷ [])) (f_eq m_bool (t_bool false) (t_bool false))
   -- no axiom has this name
   pub no_axiom : (F : FormulaTree) → Infers env with_word [] (p_axiom (codes "lt") [] (a_term (t_word 3) ∷ [])) F → ⊥

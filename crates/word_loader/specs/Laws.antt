@@ -59,7 +59,7 @@ pub record WorkedRuns : Type 0 where
   pub calls : machine_after (with_difference (Const 1 9 ∷ Const 2 4 ∷ Call 1 1 3 ∷ Ret 3 ∷ [])) empty_heap [] 6 ≡ halted (5 ∷ []) empty_heap
   -- a tail call's result is the bottom frame's own
   pub tail_calls : machine_after (with_difference (Const 1 9 ∷ Const 2 4 ∷ Tail 1 1 ∷ [])) empty_heap [] 5 ≡ halted (5 ∷ []) empty_heap
-  -- a jump on 0 is taken at 0 alone
+  -- a jump on 0 is taken at 0
   pub jumps : machine_after (single_function 1 1 (Jz 0 2 ∷ Ret 0 ∷ Const 0 6 ∷ Jump 1 ∷ [])) empty_heap [] 4 ≡ halted (6 ∷ []) empty_heap
   -- not gives 1 exactly for 0; a shift takes its count modulo 64
   pub shifts : machine_after (single_function 2 1 (Op 0 10 1 1 ∷ Const 1 65 ∷ Op 0 6 0 1 ∷ Ret 0 ∷ [])) empty_heap [] 4 ≡ halted (2 ∷ []) empty_heap

@@ -147,7 +147,7 @@ effect code f i h stack choices = row i
     row (Ret s) = returned h stack (words_at locals s f.result) choices
     row (Tail g a) = replaced (slice_get code.functions g) h stack g choices a
 
--- the next instruction; valid code always has one
+-- the next instruction; where there is none, the machine asks
 abbrev pub fetched : Code → Function → Option Instr → Heap → Stack → List ℕ → Machine
 fetched code f None h stack choices = asking
 fetched code f (Some i) h stack choices = effect code f i h stack choices
