@@ -1,6 +1,6 @@
 -- A head with its arguments denotes at its skeleton.
 use Rattle.std.proofs.Common.{◌≡◌, ℕ, zero, suc, List, ◌∷◌, refl, ap, subst}
-use Rattle.htt_syntax.specs.Trees.{MonoTree, TermTree, FixTree, t_fix}
+use Rattle.htt_syntax.specs.Trees.{MonoTree, TermTree, FixTree, t_fix, x_param, x_body}
 use Rattle.canonical_trees.specs.Skeletons.{Skeleton, sk_o, sk_arrow, sk_all}
 use Rattle.canonical_trees.specs.Contexts.{Standing, as_mono, as_heap, as_term, Stands, here, there, Heads}
 use Rattle.canonical_trees.specs.Canonical.{IsNeutral, IsCanonicalFix, e_var, e_val, e_made, e_fix, e_app, e_inst, n_param, n_body}
@@ -34,12 +34,18 @@ head_is_of {e = e} {w = w} h f (e_fix {at = at} {fix = fix} d) = subst (λ s. Is
 head_is_of {e = e} {w = w} h f (e_app {argument = argument} d c) = is_applied (term_den e w argument) (head_is_of h f d)
 head_is_of {w = w} h f (e_inst {mono = mono} d c) = is_instance (mono_in w mono) (head_is_of h f d)
 
-pub head_value : {heads : Heads} {g : List Standing} (e : HeadEntries) (w : Valuation) {term : TermTree} → IsNeutral heads g term sk_o → term_den e w term sk_o ≡ value_of_entry (head_den e w term)
+-- a recursive function is no value
+pub fix_value : (e : HeadEntries) (w : Valuation) (at : ℕ) (fix : FixTree) → term_den e w (t_fix at fix) sk_o ≡ value_of_entry (head_den e w (t_fix at fix))
+unfolding term_den fix_skeleton
+fix_value e w at (x_param ty others) = refl
+fix_value e w at (x_body spec comp) = refl
+
+pub head_value : {heads : Heads} {g : List Standing} (e : HeadEntries) (w : Valuation) {term : TermTree} {s : Skeleton} → IsNeutral heads g term s → term_den e w term sk_o ≡ value_of_entry (head_den e w term)
 unfolding term_den
 head_value e w (e_var d) = refl
 head_value e w (e_val d) = refl
 head_value e w (e_made d c) = refl
-head_value e w (e_fix d) = elim d [ ]
+head_value e w (e_fix {at = at} {fix = fix} d) = fix_value e w at fix
 head_value e w (e_app d c) = refl
 head_value e w (e_inst d c) = refl
 
