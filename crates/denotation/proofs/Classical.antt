@@ -6,7 +6,7 @@ use Rattle.htt_truth.specs.Predicates.{recs_of}
 use Rattle.htt_values.specs.Heaps.{Block, Heap, IsOnly}
 use Rattle.htt_truth.proofs.Stable.{Stable, StableRecs, block_stable, joins_stable, value_stable, classical as truth_classical}
 use Rattle.canonical_trees.specs.Skeletons.{sk_o}
-use Rattle.denotation.specs.Valuations.{en_heap, en_term, Valuation, HeadEntries}
+use Rattle.denotation.specs.Valuations.{den_heap, den_term, Valuation, HeadEntries}
 use Rattle.denotation.specs.Satisfaction.{Satisfies}
 use Rattle.denotation.specs.Laws.{SatisfactionIsClassical}
 
@@ -20,9 +20,9 @@ stable R s e f_ff w h = h (λ k. k)
 stable R s e (f_and left right) w h = (stable R s e left w (λ k. h (λ p. k p.0)), stable R s e right w (λ k. h (λ p. k p.1)))
 stable R s e (f_or left right) w h = λ k. h (λ p. p k)
 stable R s e (f_imp left right) w h = λ a. stable R s e right w (λ k. h (λ p. k (p a)))
-stable R s e (f_all_t mono body) w h = λ v typed. stable R s e body (en_term sk_o v ∷ w) (λ k. h (λ p. k (p v typed)))
+stable R s e (f_all_t mono body) w h = λ v typed. stable R s e body (den_term sk_o v ∷ w) (λ k. h (λ p. k (p v typed)))
 stable R s e (f_ex_t mono body) w h = λ k. h (λ p. p k)
-stable R s e (f_all_h body) w h = λ g is. stable R s e body (en_heap g ∷ w) (λ k. h (λ p. k (p g is)))
+stable R s e (f_all_h body) w h = λ g is. stable R s e body (den_heap g ∷ w) (λ k. h (λ p. k (p g is)))
 stable R s e (f_ex_h body) w h = λ k. h (λ p. p k)
 stable R s e (f_emp heap) w h = record { each = λ l. block_stable _ _ (λ k. h (λ p. k (p.each l))) }
 stable R s e (f_cell mono heap place value) w h = only_stable _ _ _ h

@@ -14,7 +14,7 @@ use Rattle.canonical_trees.specs.Canonical.{IsCanonical, IsNeutral, IsCanonicalT
 use Rattle.denotation.specs.Valuations.{entry_at, value_of_entry, mono_of_entry, heap_of_entry, mono_in, heap_in, HeadEntries}
 use Rattle.denotation.specs.Denotation.{term_den, terms_den}
 use Rattle.denotation.specs.Satisfaction.{Satisfies}
-use Rattle.denotation.specs.Fitting.{EndsInRun, ends_c, ends_arrow, ends_all, HeadsRun, OnlyValues, entry_of_thing, valuation_of}
+use Rattle.denotation.specs.Valued.{EndsInRun, ends_c, ends_arrow, ends_all, HeadsRun, OnlyValues, entry_of_thing, valuation_of}
 use Rattle.denotation.specs.Laws.{FirstOrderAgrees}
 
 thing_stands : (w : World) (n : ℕ) → entry_at (valuation_of w) n ≡ entry_of_thing (thing_at w n)

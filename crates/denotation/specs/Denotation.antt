@@ -7,7 +7,7 @@ use Rattle.htt_values.specs.Values.{Value, v_word, v_bool, v_loc, v_unit, v_pair
 use Rattle.htt_truth.specs.TermValue.{value_or_unit}
 use Rattle.canonical_trees.specs.Skeletons.{Skeleton, sk_o, sk_c, sk_arrow, sk_all, skeleton}
 use Rattle.denotation.specs.Outcomes.{Running, ended, then_outcome, alloc_outcome, get_outcome, set_outcome, free_outcome, branch_outcome}
-use Rattle.denotation.specs.Valuations.{Domain, Entry, en_mono, en_term, Valuation, no_entry, nothing_at, entry_at, value_of_entry, running_of_entry, applied_entry, instance_entry, at_skeleton, mono_in, HeadEntries}
+use Rattle.denotation.specs.Valuations.{Domain, Entry, den_mono, den_term, Valuation, no_entry, nothing_at, entry_at, value_of_entry, running_of_entry, applied_entry, instance_entry, at_skeleton, mono_in, HeadEntries}
 use Rattle.denotation.specs.Recursion.{entered, recursion}
 
 -- The skeleton of a recursive function.
@@ -33,8 +33,8 @@ unfoldable mutual
   term_den e w (t_bin op left right) s = at_skeleton (value_or_unit (value_of_op op (term_den e w left sk_o) (term_den e w right sk_o))) s
   term_den e w (t_eq mono left right) s = at_skeleton (value_or_unit (value_of_eq (mono_in w mono) (term_den e w left sk_o) (term_den e w right sk_o))) s
   term_den e w (t_sel mono test on_true on_false) s = at_skeleton (value_or_unit (value_of_sel (term_den e w test sk_o) (term_den e w on_true sk_o) (term_den e w on_false sk_o))) s
-  term_den e w (t_lam body) (sk_arrow s t) = λ d. term_den e (en_term s d ∷ w) body t
-  term_den e w (t_lam_t body) (sk_all s) = λ t. term_den e (en_mono t ∷ w) body s
+  term_den e w (t_lam body) (sk_arrow s t) = λ d. term_den e (den_term s d ∷ w) body t
+  term_den e w (t_lam_t body) (sk_all s) = λ t. term_den e (den_mono t ∷ w) body s
   term_den e w (t_do comp) sk_c = comp_den e w comp
   term_den e w _ s = nothing_at s
 
@@ -48,18 +48,18 @@ unfoldable mutual
   head_den e w (t_made number values) = e.made number (terms_den e w values)
   head_den e w (t_app function argument) = applied_entry (head_den e w function) (term_den e w argument)
   head_den e w (t_inst function mono) = instance_entry (head_den e w function) (mono_in w mono)
-  head_den e w (t_fix at fix) = en_term (fix_skeleton fix) (recursion (fix_skeleton fix) (λ own. fix_den e w (en_term (fix_skeleton fix) own) fix (fix_skeleton fix)))
+  head_den e w (t_fix at fix) = den_term (fix_skeleton fix) (recursion (fix_skeleton fix) (λ own. fix_den e w (den_term (fix_skeleton fix) own) fix (fix_skeleton fix)))
   head_den e w _ = no_entry
 
   -- a recursive function from a parameter on, where its own entry stands inside all of them
   pub fix_den : HeadEntries → Valuation → Entry → FixTree → (s : Skeleton) → Domain s
-  fix_den e w own (x_param ty others) (sk_arrow s t) = λ d. fix_den e (en_term s d ∷ w) own others t
+  fix_den e w own (x_param ty others) (sk_arrow s t) = λ d. fix_den e (den_term s d ∷ w) own others t
   fix_den e w own (x_body spec comp) sk_c = comp_den e (own ∷ w) comp
   fix_den e w own _ s = nothing_at s
 
   pub comp_den : HeadEntries → Valuation → CompTree → Running
   comp_den e w (c_ret term) n h cs = ended (term_den e w term sk_o) h cs
-  comp_den e w (c_step step others) n h cs = then_outcome (step_den e w step n h cs) (λ v k ds. comp_den e (en_term sk_o v ∷ w) others n k ds)
+  comp_den e w (c_step step others) n h cs = then_outcome (step_den e w step n h cs) (λ v k ds. comp_den e (den_term sk_o v ∷ w) others n k ds)
 
   pub step_den : HeadEntries → Valuation → StepTree → Running
   step_den e w (s_run term mono) n h cs = running_of_entry (head_den e w term) n h cs
@@ -84,7 +84,7 @@ abbrev pub heads_of_entries : List Entry → HeadEntries
 heads_of_entries known = record { vals = λ n. entry_or_none (slice_get known n); made = λ n values. no_entry }
 
 abbrev pub val_entry : HeadEntries → ValTree → Entry
-val_entry e v = en_term v.skeleton (entered v.skeleton (term_den e [] v.term v.skeleton))
+val_entry e v = den_term v.skeleton (entered v.skeleton (term_den e [] v.term v.skeleton))
 
 -- Each value of a file knows those before it.
 abbrev pub entries_of_vals : List Entry → List ValTree → List Entry

@@ -7,7 +7,7 @@ use Rattle.htt_values.specs.Heaps.{Heap, empty_heap, single_block, with_block, w
 use Rattle.htt_truth.specs.Predicates.{recs_of}
 use Rattle.canonical_trees.specs.Skeletons.{Skeleton, sk_o, sk_c, sk_arrow, sk_all}
 use Rattle.denotation.specs.Outcomes.{Outcome, ended, out_of_fuel, asking, wrong}
-use Rattle.denotation.specs.Valuations.{Domain, Valuation, en_mono, en_term, HeadEntries}
+use Rattle.denotation.specs.Valuations.{Domain, Valuation, den_mono, den_term, HeadEntries}
 use Rattle.denotation.specs.Denotation.{term_den, comp_den, heads_of_vals}
 use Rattle.denotation.specs.Satisfaction.{Satisfies}
 
@@ -37,7 +37,7 @@ function = sk_arrow sk_o sk_o
 
 -- a function variable, which adds one
 abbrev pub adds_one : Valuation
-adds_one = en_term function (denotes plus_one function) ∷ []
+adds_one = den_term function (denotes plus_one function) ∷ []
 
 -- fix f (n : word) . b <- if n is 0 { ret 0 } { y <- f (n - 1); ret y }; ret b
 abbrev pub count_down : FixTree
@@ -59,7 +59,7 @@ pub record WorkedExamples : Type 0 where
   pub family_at_places : denotes (t_lam_t (t_lam (t_eq (m_var 1) (t_var 0) (t_word 3)))) (sk_all function) m_loc (v_word 3) ≡ v_unit
   pub no_value_of_a_function : denotes plus_one sk_o ≡ v_unit
   pub variable_is_applied : term_den file adds_one (t_app (t_var 0) (t_app (t_var 0) (t_word 3))) sk_o ≡ v_word 5
-  pub instance_of_a_variable : term_den file (en_term (sk_all sk_o) (λ t. v_bool true) ∷ en_mono m_word ∷ []) (t_inst (t_var 0) (m_var 1)) sk_o ≡ v_bool true
+  pub instance_of_a_variable : term_den file (den_term (sk_all sk_o) (λ t. v_bool true) ∷ den_mono m_word ∷ []) (t_inst (t_var 0) (m_var 1)) sk_o ≡ v_bool true
   pub cell_is_used : ends 0 one_cell empty_heap (5 ∷ 9 ∷ []) ≡ ended (v_word 8) (without_block (with_block (single_block 5 (7 ∷ [])) 5 (8 ∷ [])) 5) (9 ∷ [])
   pub no_choice : ends 0 one_cell empty_heap [] ≡ asking
   pub used_is_no_choice : ends 0 one_cell (single_block 5 []) (5 ∷ 6 ∷ []) ≡ asking
@@ -78,6 +78,6 @@ pub record WorkedExamples : Type 0 where
   pub counting_takes_fuel : ends 2 (only (s_run (t_app (t_fix 9 count_down) (t_word 2)) (Some m_word))) empty_heap [] ≡ out_of_fuel
   pub arguments_in_order : ends 1 (only (s_run (t_app (t_app (t_fix 9 both) (t_word 3)) (t_word 4)) (Some (m_pair m_word m_word)))) empty_heap [] ≡ ended (v_pair (v_word 3) (v_word 4)) empty_heap []
   pub lacks_an_argument : ends 1 (only (s_run (t_app (t_fix 9 both) (t_word 3)) (Some (m_pair m_word m_word)))) empty_heap [] ≡ wrong
-  pub computation_variable : comp_den file (en_term sk_c (λ n h cs. ended (v_word n) h cs) ∷ []) (only (s_run (t_var 0) (Some m_word))) 4 empty_heap [] ≡ ended (v_word 4) empty_heap []
+  pub computation_variable : comp_den file (den_term sk_c (λ n h cs. ended (v_word n) h cs) ∷ []) (only (s_run (t_var 0) (Some m_word))) 4 empty_heap [] ≡ ended (v_word 4) empty_heap []
   pub function_in_a_formula : Satisfies (recs_of []) file adds_one (f_all_t m_word (f_eq m_word (t_app (t_var 1) (t_word 3)) (t_word 4)))
   pub other_value : Satisfies (recs_of []) file adds_one (f_eq m_word (t_app (t_var 0) (t_word 3)) (t_word 5)) → ⊥

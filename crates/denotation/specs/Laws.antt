@@ -16,11 +16,11 @@ use Rattle.denotation.specs.Outcomes.{Outcome, ended, out_of_fuel, asking, wrong
 use Rattle.denotation.specs.Valuations.{Valuation, value_of_entry, mono_in, HeadEntries}
 use Rattle.denotation.specs.Denotation.{term_den, head_den}
 use Rattle.denotation.specs.Satisfaction.{Satisfies}
-use Rattle.denotation.specs.Fitting.{IsOf, Fits, FitHeads, HeadsRun, OnlyValues, valuation_of}
+use Rattle.denotation.specs.Valued.{IsOf, ContextValued, HeadsValued, HeadsRun, OnlyValues, valuation_of}
 
 -- A head with its arguments denotes at its skeleton, and of a monotype it denotes the term's value.
 pub record HeadsDenote : Type 0 where
-  pub at_skeleton : (heads : Heads) (e : HeadEntries) (g : List Standing) (w : Valuation) (term : TermTree) (s : Skeleton) → FitHeads heads e → Fits g w → IsNeutral heads g term s → IsOf s (head_den e w term)
+  pub at_skeleton : (heads : Heads) (e : HeadEntries) (g : List Standing) (w : Valuation) (term : TermTree) (s : Skeleton) → HeadsValued heads e → ContextValued g w → IsNeutral heads g term s → IsOf s (head_den e w term)
   pub value : (heads : Heads) (e : HeadEntries) (g : List Standing) (w : Valuation) (term : TermTree) → IsNeutral heads g term sk_o → term_den e w term sk_o ≡ value_of_entry (head_den e w term)
 
 -- Where all term variables are of monotypes, the denotation of a term is its value, and a valuation

@@ -3,6 +3,6 @@ pub mod Valuations
 pub mod Recursion
 pub mod Denotation
 pub mod Satisfaction
-pub mod Fitting
+pub mod Valued
 pub mod Laws
 pub mod Examples

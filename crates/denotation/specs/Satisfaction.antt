@@ -7,7 +7,7 @@ use Rattle.htt_values.specs.Heaps.{Block, Heap, IsHeap, IsEmpty, IsOnly, IsJoin,
 use Rattle.htt_truth.specs.TermValue.{word_of, loc_of}
 use Rattle.htt_truth.specs.Truth.{NotNot, Recs}
 use Rattle.canonical_trees.specs.Skeletons.{sk_o}
-use Rattle.denotation.specs.Valuations.{en_heap, en_term, Valuation, mono_in, heap_in, HeadEntries}
+use Rattle.denotation.specs.Valuations.{den_heap, den_term, Valuation, mono_in, heap_in, HeadEntries}
 use Rattle.denotation.specs.Denotation.{term_den, terms_den}
 
 unfoldable pub Satisfies : Recs → HeadEntries → Valuation → FormulaTree → Type 0
@@ -16,10 +16,10 @@ Satisfies R e w f_ff = ⊥
 Satisfies R e w (f_and left right) = Satisfies R e w left × Satisfies R e w right
 Satisfies R e w (f_or left right) = NotNot (Satisfies R e w left ⊎ Satisfies R e w right)
 Satisfies R e w (f_imp left right) = Satisfies R e w left → Satisfies R e w right
-Satisfies R e w (f_all_t mono body) = (v : Value) → HasType v (mono_in w mono) → Satisfies R e (en_term sk_o v ∷ w) body
-Satisfies R e w (f_ex_t mono body) = NotNot ((v : Value) × HasType v (mono_in w mono) × Satisfies R e (en_term sk_o v ∷ w) body)
-Satisfies R e w (f_all_h body) = (h : Heap) → IsHeap h → Satisfies R e (en_heap h ∷ w) body
-Satisfies R e w (f_ex_h body) = NotNot ((h : Heap) × IsHeap h × Satisfies R e (en_heap h ∷ w) body)
+Satisfies R e w (f_all_t mono body) = (v : Value) → HasType v (mono_in w mono) → Satisfies R e (den_term sk_o v ∷ w) body
+Satisfies R e w (f_ex_t mono body) = NotNot ((v : Value) × HasType v (mono_in w mono) × Satisfies R e (den_term sk_o v ∷ w) body)
+Satisfies R e w (f_all_h body) = (h : Heap) → IsHeap h → Satisfies R e (den_heap h ∷ w) body
+Satisfies R e w (f_ex_h body) = NotNot ((h : Heap) × IsHeap h × Satisfies R e (den_heap h ∷ w) body)
 Satisfies R e w (f_emp heap) = IsEmpty (heap_in w heap)
 Satisfies R e w (f_cell mono heap place value) = IsOnly (heap_in w heap) (loc_of (term_den e w place sk_o)) (encoding (term_den e w value sk_o))
 Satisfies R e w (f_block mono heap place) = NotNot ((b : Block) × (length b ≡ width (mono_in w mono)) × IsOnly (heap_in w heap) (loc_of (term_den e w place sk_o)) b)
@@ -31,11 +31,11 @@ Satisfies R e w (f_rec number heap place arguments) = R number (word_of (term_de
 
 -- The precondition of a triple at a heap.
 abbrev pub PreAt : Recs → HeadEntries → Valuation → TripleTree → Heap → Type 0
-PreAt R e w (triple pre mono post) h = Satisfies R e (en_heap h ∷ w) pre
+PreAt R e w (triple pre mono post) h = Satisfies R e (den_heap h ∷ w) pre
 
 -- The postcondition of a triple at a result, the heap before and the heap after.
 abbrev pub PostAt : Recs → HeadEntries → Valuation → TripleTree → Value → Heap → Heap → Type 0
-PostAt R e w (triple pre mono post) v before after = Satisfies R e (en_heap after ∷ en_heap before ∷ en_term sk_o v ∷ w) post
+PostAt R e w (triple pre mono post) v before after = Satisfies R e (den_heap after ∷ den_heap before ∷ den_term sk_o v ∷ w) post
 
 -- The monotype of a triple's result.
 abbrev pub answer_mono : Valuation → TripleTree → MonoTree

@@ -14,9 +14,9 @@ Domain (sk_arrow s t) = Domain s → Domain t
 Domain (sk_all s) = MonoTree → Domain s
 
 pub data Entry : Type 0 where
-  en_mono : MonoTree → Entry
-  en_heap : Heap → Entry
-  en_term : (s : Skeleton) → Domain s → Entry
+  den_mono : MonoTree → Entry
+  den_heap : Heap → Entry
+  den_term : (s : Skeleton) → Domain s → Entry
 
 -- The innermost entry comes first.
 abbrev pub Valuation : Type 0
@@ -25,7 +25,7 @@ Valuation = List Entry
 -- An index without an entry, and a phrase that isn't canonical at its skeleton, has a harmless
 -- denotation on which nothing rests.
 abbrev pub no_entry : Entry
-no_entry = en_term sk_o v_unit
+no_entry = den_term sk_o v_unit
 
 abbrev pub nothing_at : (s : Skeleton) → Domain s
 nothing_at sk_o = v_unit
@@ -39,28 +39,28 @@ entry_at (x ∷ w) zero = x
 entry_at (x ∷ w) (suc n) = entry_at w n
 
 abbrev pub mono_of_entry : Entry → MonoTree
-mono_of_entry (en_mono t) = t
+mono_of_entry (den_mono t) = t
 mono_of_entry _ = m_unit
 
 abbrev pub heap_of_entry : Entry → Heap
-heap_of_entry (en_heap h) = h
+heap_of_entry (den_heap h) = h
 heap_of_entry _ = empty_heap
 
 abbrev pub value_of_entry : Entry → Value
-value_of_entry (en_term sk_o v) = v
+value_of_entry (den_term sk_o v) = v
 value_of_entry _ = v_unit
 
 abbrev pub running_of_entry : Entry → Running
-running_of_entry (en_term sk_c f) = f
+running_of_entry (den_term sk_c f) = f
 running_of_entry _ = λ n h cs. wrong
 
 -- A function at an argument, which is given at each skeleton.
 abbrev pub applied_entry : Entry → ((s : Skeleton) → Domain s) → Entry
-applied_entry (en_term (sk_arrow s t) f) x = en_term t (f (x s))
+applied_entry (den_term (sk_arrow s t) f) x = den_term t (f (x s))
 applied_entry _ x = no_entry
 
 abbrev pub instance_entry : Entry → MonoTree → Entry
-instance_entry (en_term (sk_all s) f) t = en_term s (f t)
+instance_entry (den_term (sk_all s) f) t = den_term s (f t)
 instance_entry _ t = no_entry
 
 abbrev pub at_skeleton : Value → (s : Skeleton) → Domain s

@@ -10,11 +10,11 @@ use Rattle.canonical_trees.specs.Canonical.{IsCanonical, IsNeutral, IsCanonicalT
 use Rattle.substitution.specs.Monotypes.{Filling, fill_mono, next_filling, fill_term, fill_fix, fill_comp, fill_step, fill_terms}
 use Rattle.substitution.proofs.Skeletons.{skeleton_filled}
 use Rattle.denotation.specs.Outcomes.{ended, then_outcome, alloc_outcome, get_outcome, set_outcome, free_outcome, branch_outcome}
-use Rattle.denotation.specs.Valuations.{Domain, Entry, en_mono, en_term, Valuation, entry_at, mono_of_entry, value_of_entry, running_of_entry, instance_entry, mono_in, HeadEntries}
+use Rattle.denotation.specs.Valuations.{Domain, Entry, den_mono, den_term, Valuation, entry_at, mono_of_entry, value_of_entry, running_of_entry, instance_entry, mono_in, HeadEntries}
 use Rattle.denotation.specs.Recursion.{recursion}
 use Rattle.denotation.specs.Denotation.{fix_skeleton, term_den, terms_den, head_den, fix_den, comp_den, step_den}
-use Rattle.denotation.specs.Fitting.{Fits, FitHeads}
-use Rattle.denotation.proofs.HeadsDenote.{fix_is_of, head_is_of, head_value, fix_value, fits_term, fits_other}
+use Rattle.denotation.specs.Valued.{ContextValued, HeadsValued}
+use Rattle.denotation.proofs.HeadsDenote.{fix_is_of, head_is_of, head_value, fix_value, valued_term, valued_other}
 use Rattle.denotation_renaming.specs.Along.{FillAlong}
 use Rattle.denotation_renaming.proofs.Entries.{applied_same, fix_entry}
 use Rattle.denotation_renaming.proofs.Renamed.{agree_suc, mono_renamed}
@@ -65,7 +65,7 @@ filled_value e w f m (e_inst d c) = refl
 mutual
   unfolding term_den fill_term
 
-  pub term_filled : {heads : Heads} {e : HeadEntries} {term : TermTree} {s : Skeleton} {f : Filling} {m : Map} {g : List Standing} {w w' : Valuation} → FitHeads heads e → IsCanonical heads g term s → FillAlong f m g w w' → Fits g w → term_den e w' (fill_term f m term) s ≡ term_den e w term s
+  pub term_filled : {heads : Heads} {e : HeadEntries} {term : TermTree} {s : Skeleton} {f : Filling} {m : Map} {g : List Standing} {w w' : Valuation} → HeadsValued heads e → IsCanonical heads g term s → FillAlong f m g w w' → ContextValued g w → term_den e w' (fill_term f m term) s ≡ term_den e w term s
   term_filled h n_word k z = refl
   term_filled h n_bool k z = refl
   term_filled h n_loc k z = refl
@@ -77,35 +77,35 @@ mutual
   term_filled {e = e} {f = f} {m = m} {w' = w'} h (n_bin {op = op} {left = left} {right = right} a b q) k z = folded e w' (t_bin op (fill_term f m left) (fill_term f m right)) ∙ (λ j. value_or_unit (value_of_op op (term_filled h a k z j) (term_filled h b k z j)))
   term_filled {e = e} {f = f} {m = m} {w' = w'} h (n_eq {mono = mono} {left = left} {right = right} t a b q) k z = folded e w' (t_eq (fill_mono f mono) (fill_term f m left) (fill_term f m right)) ∙ (λ j. value_or_unit (value_of_eq (mono_filled t k j) (term_filled h a k z j) (term_filled h b k z j)))
   term_filled {e = e} {f = f} {m = m} {w' = w'} h (n_sel {mono = mono} {test = test} {on_true = on_true} {on_false = on_false} t a b c q) k z = folded e w' (t_sel (fill_mono f mono) (fill_term f m test) (fill_term f m on_true) (fill_term f m on_false)) ∙ (λ j. value_or_unit (value_of_sel (term_filled h a k z j) (term_filled h b k z j) (term_filled h c k z j)))
-  term_filled h (n_lam {s = s} a) k z = λ j d. term_filled h a (fill_next (as_term s) (en_term s d) k) (fits_term s d z) j
-  term_filled h (n_lam_t a) k z = λ j t. term_filled h a (fill_next as_mono (en_mono t) k) (fits_other (en_mono t) z).0 j
+  term_filled h (n_lam {s = s} a) k z = λ j d. term_filled h a (fill_next (as_term s) (den_term s d) k) (valued_term s d z) j
+  term_filled h (n_lam_t a) k z = λ j t. term_filled h a (fill_next as_mono (den_mono t) k) (valued_other (den_mono t) z).0 j
   term_filled h (n_do a) k z = comp_filled h a k z
   term_filled {e = e} {f = f} {m = m} {w = w} {w' = w'} h (n_neutral {term = term} d) k z = filled_value e w' f m d ∙ ap value_of_entry (head_filled h d k z) ∙ sym (head_value e w d)
 
-  pub terms_filled : {heads : Heads} {e : HeadEntries} {terms : TermTrees} {f : Filling} {m : Map} {g : List Standing} {w w' : Valuation} → FitHeads heads e → IsCanonicalTerms heads g terms → FillAlong f m g w w' → Fits g w → terms_den e w' (fill_terms f m terms) ≡ terms_den e w terms
+  pub terms_filled : {heads : Heads} {e : HeadEntries} {terms : TermTrees} {f : Filling} {m : Map} {g : List Standing} {w w' : Valuation} → HeadsValued heads e → IsCanonicalTerms heads g terms → FillAlong f m g w w' → ContextValued g w → terms_den e w' (fill_terms f m terms) ≡ terms_den e w terms
   terms_filled h n_no_terms k z = refl
   terms_filled h (n_more_terms a b) k z = λ j. term_filled h a k z j ∷ terms_filled h b k z j
 
-  pub head_filled : {heads : Heads} {e : HeadEntries} {term : TermTree} {s : Skeleton} {f : Filling} {m : Map} {g : List Standing} {w w' : Valuation} → FitHeads heads e → IsNeutral heads g term s → FillAlong f m g w w' → Fits g w → head_den e w' (fill_term f m term) ≡ head_den e w term
+  pub head_filled : {heads : Heads} {e : HeadEntries} {term : TermTree} {s : Skeleton} {f : Filling} {m : Map} {g : List Standing} {w w' : Valuation} → HeadsValued heads e → IsNeutral heads g term s → FillAlong f m g w w' → ContextValued g w → head_den e w' (fill_term f m term) ≡ head_den e w term
   head_filled h (e_var {index = index} {s = s} d) k z = k.terms index s d
   head_filled h (e_val d) k z = refl
   head_filled {e = e} h (e_made {number = number} d c) k z = λ j. e.made number (terms_filled h c k z j)
   head_filled {e = e} {f = f} {m = m} {w = w} {w' = w'} h (e_fix {fix = fix} {s = s} d) k z =
       ap (fix_entry e w' (fill_fix f m fix)) (fix_skeleton_filled f m fix ∙ fix_is_of d)
-      ∙ (λ j. en_term s (recursion s (λ own. fix_filled h d own k z j)))
+      ∙ (λ j. den_term s (recursion s (λ own. fix_filled h d own k z j)))
       ∙ sym (ap (fix_entry e w fix) (fix_is_of d))
   head_filled {e = e} {f = f} {m = m} {w = w} {w' = w'} h (e_app {argument = argument} d c) k z = applied_same (term_den e w argument) (term_den e w' (fill_term f m argument)) (head_is_of h z d) (head_filled h d k z) (term_filled h c k z)
   head_filled h (e_inst d t) k z = λ j. instance_entry (head_filled h d k z j) (mono_filled t k j)
 
-  fix_filled : {heads : Heads} {e : HeadEntries} {fix : FixTree} {whole s : Skeleton} {f : Filling} {m : Map} {g : List Standing} {w w' : Valuation} → FitHeads heads e → IsCanonicalFix heads g whole fix s → (own : Domain whole) → FillAlong f m g w w' → Fits g w → fix_den e w' (en_term whole own) (fill_fix f m fix) s ≡ fix_den e w (en_term whole own) fix s
-  fix_filled h (n_param {s = s} ty q others) own k z = λ j d. fix_filled h others own (fill_next (as_term s) (en_term s d) k) (fits_term s d z) j
-  fix_filled h (n_body {whole = whole} spec a) own k z = comp_filled h a (fill_next (as_term whole) (en_term whole own) k) (fits_term whole own z)
+  fix_filled : {heads : Heads} {e : HeadEntries} {fix : FixTree} {whole s : Skeleton} {f : Filling} {m : Map} {g : List Standing} {w w' : Valuation} → HeadsValued heads e → IsCanonicalFix heads g whole fix s → (own : Domain whole) → FillAlong f m g w w' → ContextValued g w → fix_den e w' (den_term whole own) (fill_fix f m fix) s ≡ fix_den e w (den_term whole own) fix s
+  fix_filled h (n_param {s = s} ty q others) own k z = λ j d. fix_filled h others own (fill_next (as_term s) (den_term s d) k) (valued_term s d z) j
+  fix_filled h (n_body {whole = whole} spec a) own k z = comp_filled h a (fill_next (as_term whole) (den_term whole own) k) (valued_term whole own z)
 
-  pub comp_filled : {heads : Heads} {e : HeadEntries} {comp : CompTree} {f : Filling} {m : Map} {g : List Standing} {w w' : Valuation} → FitHeads heads e → IsCanonicalComp heads g comp → FillAlong f m g w w' → Fits g w → comp_den e w' (fill_comp f m comp) ≡ comp_den e w comp
+  pub comp_filled : {heads : Heads} {e : HeadEntries} {comp : CompTree} {f : Filling} {m : Map} {g : List Standing} {w w' : Valuation} → HeadsValued heads e → IsCanonicalComp heads g comp → FillAlong f m g w w' → ContextValued g w → comp_den e w' (fill_comp f m comp) ≡ comp_den e w comp
   comp_filled h (n_ret a) k z = λ j n l cs. ended (term_filled h a k z j) l cs
-  comp_filled h (n_step a b) k z = λ j n l cs. then_outcome (step_filled h a k z j n l cs) (λ v i ds. comp_filled h b (fill_next (as_term sk_o) (en_term sk_o v) k) (fits_term sk_o v z) j n i ds)
+  comp_filled h (n_step a b) k z = λ j n l cs. then_outcome (step_filled h a k z j n l cs) (λ v i ds. comp_filled h b (fill_next (as_term sk_o) (den_term sk_o v) k) (valued_term sk_o v z) j n i ds)
 
-  step_filled : {heads : Heads} {e : HeadEntries} {step : StepTree} {f : Filling} {m : Map} {g : List Standing} {w w' : Valuation} → FitHeads heads e → IsCanonicalStep heads g step → FillAlong f m g w w' → Fits g w → step_den e w' (fill_step f m step) ≡ step_den e w step
+  step_filled : {heads : Heads} {e : HeadEntries} {step : StepTree} {f : Filling} {m : Map} {g : List Standing} {w w' : Valuation} → HeadsValued heads e → IsCanonicalStep heads g step → FillAlong f m g w w' → ContextValued g w → step_den e w' (fill_step f m step) ≡ step_den e w step
   step_filled h (n_run a t) k z = λ j n l cs. running_of_entry (head_filled h a k z j) n l cs
   step_filled h (n_alloc t a) k z = λ j n l cs. alloc_outcome (term_filled h a k z j) l cs
   step_filled h (n_get t a) k z = λ j n l cs. get_outcome (mono_filled t k j) (term_filled h a k z j) l cs

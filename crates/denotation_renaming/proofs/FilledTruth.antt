@@ -14,26 +14,26 @@ use Rattle.canonical_trees.specs.Canonical.{IsCanonicalTriple, IsCanonicalFormul
 use Rattle.substitution.specs.Closing.{closing}
 use Rattle.substitution.specs.Monotypes.{Filling, put_mono, fill_triple, fill_formula}
 use Rattle.substitution_total.proofs.Places.{place_of}
-use Rattle.denotation.specs.Valuations.{en_heap, en_term, Valuation, mono_of_entry, heap_of_entry, entry_at, mono_in, HeadEntries}
+use Rattle.denotation.specs.Valuations.{den_heap, den_term, Valuation, mono_of_entry, heap_of_entry, entry_at, mono_in, HeadEntries}
 use Rattle.denotation.specs.Satisfaction.{Satisfies, PreAt, PostAt, answer_mono}
-use Rattle.denotation.specs.Fitting.{Fits, FitHeads}
-use Rattle.denotation.proofs.HeadsDenote.{fits_term, fits_other}
+use Rattle.denotation.specs.Valued.{ContextValued, HeadsValued}
+use Rattle.denotation.proofs.HeadsDenote.{valued_term, valued_other}
 use Rattle.denotation_renaming.specs.Along.{FillAlong}
 use Rattle.denotation_renaming.specs.Laws.{MayFillIn, MonotypesReindex}
 use Rattle.denotation_renaming.proofs.Entries.{entry_beside, entry_put}
 use Rattle.denotation_renaming.proofs.Filled.{fill_next, mono_filled, term_filled, terms_filled, head_filled, comp_filled}
 
-pub truth_filled : (R : Recs) {heads : Heads} {e : HeadEntries} {formula : FormulaTree} {f : Filling} {m : Map} {g : List Standing} {w w' : Valuation} → FitHeads heads e → IsCanonicalFormula heads g formula → FillAlong f m g w w' → Fits g w → Satisfies R e w' (fill_formula f m formula) ≡ Satisfies R e w formula
+pub truth_filled : (R : Recs) {heads : Heads} {e : HeadEntries} {formula : FormulaTree} {f : Filling} {m : Map} {g : List Standing} {w w' : Valuation} → HeadsValued heads e → IsCanonicalFormula heads g formula → FillAlong f m g w w' → ContextValued g w → Satisfies R e w' (fill_formula f m formula) ≡ Satisfies R e w formula
 unfolding Satisfies fill_formula
 truth_filled R h n_tt k z = refl
 truth_filled R h n_ff k z = refl
 truth_filled R h (n_and a b) k z = λ j. truth_filled R h a k z j × truth_filled R h b k z j
 truth_filled R h (n_or a b) k z = λ j. NotNot (truth_filled R h a k z j ⊎ truth_filled R h b k z j)
 truth_filled R h (n_imp a b) k z = λ j. truth_filled R h a k z j → truth_filled R h b k z j
-truth_filled R h (n_all_t t a) k z = λ j. (v : Value) → HasType v (mono_filled t k j) → truth_filled R h a (fill_next (as_term sk_o) (en_term sk_o v) k) (fits_term sk_o v z) j
-truth_filled R h (n_ex_t t a) k z = λ j. NotNot ((v : Value) × HasType v (mono_filled t k j) × truth_filled R h a (fill_next (as_term sk_o) (en_term sk_o v) k) (fits_term sk_o v z) j)
-truth_filled R h (n_all_h a) k z = λ j. (l : Heap) → IsHeap l → truth_filled R h a (fill_next as_heap (en_heap l) k) (fits_other (en_heap l) z).1 j
-truth_filled R h (n_ex_h a) k z = λ j. NotNot ((l : Heap) × IsHeap l × truth_filled R h a (fill_next as_heap (en_heap l) k) (fits_other (en_heap l) z).1 j)
+truth_filled R h (n_all_t t a) k z = λ j. (v : Value) → HasType v (mono_filled t k j) → truth_filled R h a (fill_next (as_term sk_o) (den_term sk_o v) k) (valued_term sk_o v z) j
+truth_filled R h (n_ex_t t a) k z = λ j. NotNot ((v : Value) × HasType v (mono_filled t k j) × truth_filled R h a (fill_next (as_term sk_o) (den_term sk_o v) k) (valued_term sk_o v z) j)
+truth_filled R h (n_all_h a) k z = λ j. (l : Heap) → IsHeap l → truth_filled R h a (fill_next as_heap (den_heap l) k) (valued_other (den_heap l) z).1 j
+truth_filled R h (n_ex_h a) k z = λ j. NotNot ((l : Heap) × IsHeap l × truth_filled R h a (fill_next as_heap (den_heap l) k) (valued_other (den_heap l) z).1 j)
 truth_filled R h (n_emp {heap = heap} d) k z = λ j. IsEmpty (heap_of_entry (k.heaps heap d j))
 truth_filled R h (n_cell {heap = heap} t d a b) k z = λ j. IsOnly (heap_of_entry (k.heaps heap d j)) (loc_of (term_filled h a k z j)) (encoding (term_filled h b k z j))
 truth_filled R h (n_block {heap = heap} t d a) k z = λ j. NotNot ((b : Block) × (length b ≡ width (mono_filled t k j)) × IsOnly (heap_of_entry (k.heaps heap d j)) (loc_of (term_filled h a k z j)) b)
@@ -42,13 +42,13 @@ truth_filled R h (n_same {left = left} {right = right} a b) k z = λ j. IsSame (
 truth_filled R h (n_equal t a b) k z = λ j. term_filled h a k z j ≡ term_filled h b k z j
 truth_filled R h (n_rec {number = number} {heap = heap} d a b) k z = λ j. R number (word_of (term_filled h a k z j)) (terms_filled h b k z j) (heap_of_entry (k.heaps heap d j))
 
-pre_filled : (R : Recs) {heads : Heads} {e : HeadEntries} {spec : TripleTree} {f : Filling} {m : Map} {g : List Standing} {w w' : Valuation} → FitHeads heads e → IsCanonicalTriple heads g spec → FillAlong f m g w w' → Fits g w → (l : Heap) → PreAt R e w' (fill_triple f m spec) l ≡ PreAt R e w spec l
+pre_filled : (R : Recs) {heads : Heads} {e : HeadEntries} {spec : TripleTree} {f : Filling} {m : Map} {g : List Standing} {w w' : Valuation} → HeadsValued heads e → IsCanonicalTriple heads g spec → FillAlong f m g w w' → ContextValued g w → (l : Heap) → PreAt R e w' (fill_triple f m spec) l ≡ PreAt R e w spec l
 unfolding fill_triple
-pre_filled R h (n_triple a t b) k z l = truth_filled R h a (fill_next as_heap (en_heap l) k) (fits_other (en_heap l) z).1
+pre_filled R h (n_triple a t b) k z l = truth_filled R h a (fill_next as_heap (den_heap l) k) (valued_other (den_heap l) z).1
 
-post_filled : (R : Recs) {heads : Heads} {e : HeadEntries} {spec : TripleTree} {f : Filling} {m : Map} {g : List Standing} {w w' : Valuation} → FitHeads heads e → IsCanonicalTriple heads g spec → FillAlong f m g w w' → Fits g w → (v : Value) (before after : Heap) → PostAt R e w' (fill_triple f m spec) v before after ≡ PostAt R e w spec v before after
+post_filled : (R : Recs) {heads : Heads} {e : HeadEntries} {spec : TripleTree} {f : Filling} {m : Map} {g : List Standing} {w w' : Valuation} → HeadsValued heads e → IsCanonicalTriple heads g spec → FillAlong f m g w w' → ContextValued g w → (v : Value) (before after : Heap) → PostAt R e w' (fill_triple f m spec) v before after ≡ PostAt R e w spec v before after
 unfolding fill_triple
-post_filled R h (n_triple a t b) k z v before after = truth_filled R h b (fill_next as_heap (en_heap after) (fill_next as_heap (en_heap before) (fill_next (as_term sk_o) (en_term sk_o v) k))) (fits_other (en_heap after) (fits_other (en_heap before) (fits_term sk_o v z)).1).1
+post_filled R h (n_triple a t b) k z v before after = truth_filled R h b (fill_next as_heap (den_heap after) (fill_next as_heap (den_heap before) (fill_next (as_term sk_o) (den_term sk_o v) k))) (valued_other (den_heap after) (valued_other (den_heap before) (valued_term sk_o v z)).1).1
 
 answer_filled : {heads : Heads} {spec : TripleTree} {f : Filling} {m : Map} {g : List Standing} {w w' : Valuation} → IsCanonicalTriple heads g spec → FillAlong f m g w w' → answer_mono w' (fill_triple f m spec) ≡ answer_mono w spec
 unfolding fill_triple
@@ -72,11 +72,11 @@ put_along {mono = mono} {w = w} {w' = w'} p = record {
 
 pub reindex : MonotypesReindex
 reindex = record {
-  terms = λ heads e mono x g whole w w' p term s d. term_filled p.fit_heads d (put_along p) p.fits;
-  heads = λ heads e mono x g whole w w' p term s d. head_filled p.fit_heads d (put_along p) p.fits;
-  computations = λ heads e mono x g whole w w' p comp d. comp_filled p.fit_heads d (put_along p) p.fits;
-  formulas = λ table heads e mono x g whole w w' p formula d. both_ways (truth_filled (recs_of table) p.fit_heads d (put_along p) p.fits);
-  preconditions = λ table heads e mono x g whole w w' p spec l d. both_ways (pre_filled (recs_of table) p.fit_heads d (put_along p) p.fits l);
-  postconditions = λ table heads e mono x g whole w w' p spec v before after d. both_ways (post_filled (recs_of table) p.fit_heads d (put_along p) p.fits v before after);
+  terms = λ heads e mono x g whole w w' p term s d. term_filled p.heads_valued d (put_along p) p.valued;
+  heads = λ heads e mono x g whole w w' p term s d. head_filled p.heads_valued d (put_along p) p.valued;
+  computations = λ heads e mono x g whole w w' p comp d. comp_filled p.heads_valued d (put_along p) p.valued;
+  formulas = λ table heads e mono x g whole w w' p formula d. both_ways (truth_filled (recs_of table) p.heads_valued d (put_along p) p.valued);
+  preconditions = λ table heads e mono x g whole w w' p spec l d. both_ways (pre_filled (recs_of table) p.heads_valued d (put_along p) p.valued l);
+  postconditions = λ table heads e mono x g whole w w' p spec v before after d. both_ways (post_filled (recs_of table) p.heads_valued d (put_along p) p.valued v before after);
   answers = λ heads e mono x g whole w w' p spec d. answer_filled d (put_along p);
 }

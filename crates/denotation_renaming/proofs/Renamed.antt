@@ -7,7 +7,7 @@ use Rattle.htt_truth.specs.TermValue.{value_or_unit}
 use Rattle.canonical_trees.specs.Skeletons.{Skeleton, sk_o, sk_c, sk_arrow, sk_all}
 use Rattle.canonical_trees.proofs.Renamed.{skeleton_stays}
 use Rattle.denotation.specs.Outcomes.{ended, then_outcome, alloc_outcome, get_outcome, set_outcome, free_outcome, branch_outcome}
-use Rattle.denotation.specs.Valuations.{Entry, en_mono, en_term, Valuation, entry_at, mono_of_entry, value_of_entry, running_of_entry, applied_entry, instance_entry, at_skeleton, mono_in, HeadEntries}
+use Rattle.denotation.specs.Valuations.{Entry, den_mono, den_term, Valuation, entry_at, mono_of_entry, value_of_entry, running_of_entry, applied_entry, instance_entry, at_skeleton, mono_in, HeadEntries}
 use Rattle.denotation.specs.Recursion.{recursion}
 use Rattle.denotation.specs.Denotation.{fix_skeleton, term_den, terms_den, head_den, fix_den, comp_den, step_den}
 use Rattle.denotation_renaming.specs.Along.{AgreeAlong}
@@ -52,8 +52,8 @@ mutual
   term_renamed e (t_bin op left right) a s = λ j. at_skeleton (value_or_unit (value_of_op op (term_renamed e left a sk_o j) (term_renamed e right a sk_o j))) s
   term_renamed e (t_eq mono left right) a s = λ j. at_skeleton (value_or_unit (value_of_eq (mono_renamed a mono j) (term_renamed e left a sk_o j) (term_renamed e right a sk_o j))) s
   term_renamed e (t_sel mono test on_true on_false) a s = λ j. at_skeleton (value_or_unit (value_of_sel (term_renamed e test a sk_o j) (term_renamed e on_true a sk_o j) (term_renamed e on_false a sk_o j))) s
-  term_renamed e (t_lam body) a (sk_arrow s t) = λ j d. term_renamed e body (agree_next (en_term s d) a) t j
-  term_renamed e (t_lam_t body) a (sk_all s) = λ j t. term_renamed e body (agree_next (en_mono t) a) s j
+  term_renamed e (t_lam body) a (sk_arrow s t) = λ j d. term_renamed e body (agree_next (den_term s d) a) t j
+  term_renamed e (t_lam_t body) a (sk_all s) = λ j t. term_renamed e body (agree_next (den_mono t) a) s j
   term_renamed e (t_do comp) a sk_c = comp_renamed e comp a
   term_renamed e _ a s = refl
 
@@ -66,17 +66,17 @@ mutual
   head_renamed e (t_made number values) a = λ j. e.made number (terms_renamed e values a j)
   head_renamed e (t_app function argument) a = λ j. applied_entry (head_renamed e function a j) (λ u. term_renamed e argument a u j)
   head_renamed e (t_inst function mono) a = λ j. instance_entry (head_renamed e function a j) (mono_renamed a mono j)
-  head_renamed e (t_fix at fix) {m = m} a = λ j. en_term (fix_skeleton_renamed m fix j) (recursion (fix_skeleton_renamed m fix j) (λ own. fix_renamed e fix (en_term (fix_skeleton_renamed m fix j) own) a (fix_skeleton_renamed m fix j) j))
+  head_renamed e (t_fix at fix) {m = m} a = λ j. den_term (fix_skeleton_renamed m fix j) (recursion (fix_skeleton_renamed m fix j) (λ own. fix_renamed e fix (den_term (fix_skeleton_renamed m fix j) own) a (fix_skeleton_renamed m fix j) j))
   head_renamed e _ a = refl
 
   pub fix_renamed : (e : HeadEntries) (fix : FixTree) (own : Entry) {m : Map} {w w' : Valuation} → AgreeAlong m w w' → (s : Skeleton) → fix_den e w' own (rename_fix m fix) s ≡ fix_den e w own fix s
-  fix_renamed e (x_param ty others) own a (sk_arrow s t) = λ j d. fix_renamed e others own (agree_next (en_term s d) a) t j
+  fix_renamed e (x_param ty others) own a (sk_arrow s t) = λ j d. fix_renamed e others own (agree_next (den_term s d) a) t j
   fix_renamed e (x_body spec comp) own a sk_c = comp_renamed e comp (agree_next own a)
   fix_renamed e _ own a s = refl
 
   pub comp_renamed : (e : HeadEntries) (comp : CompTree) {m : Map} {w w' : Valuation} → AgreeAlong m w w' → comp_den e w' (rename_comp m comp) ≡ comp_den e w comp
   comp_renamed e (c_ret term) a = λ j n h cs. ended (term_renamed e term a sk_o j) h cs
-  comp_renamed e (c_step step others) a = λ j n h cs. then_outcome (step_renamed e step a j n h cs) (λ v k ds. comp_renamed e others (agree_next (en_term sk_o v) a) j n k ds)
+  comp_renamed e (c_step step others) a = λ j n h cs. then_outcome (step_renamed e step a j n h cs) (λ v k ds. comp_renamed e others (agree_next (den_term sk_o v) a) j n k ds)
 
   pub step_renamed : (e : HeadEntries) (step : StepTree) {m : Map} {w w' : Valuation} → AgreeAlong m w w' → step_den e w' (rename_step m step) ≡ step_den e w step
   step_renamed e (s_run term mono) a = λ j n h cs. running_of_entry (head_renamed e term a j) n h cs

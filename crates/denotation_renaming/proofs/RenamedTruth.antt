@@ -9,7 +9,7 @@ use Rattle.htt_truth.specs.Truth.{NotNot, Recs}
 use Rattle.htt_truth.specs.Predicates.{recs_of}
 use Rattle.htt_truth.proofs.Renamed.{both_ways}
 use Rattle.canonical_trees.specs.Skeletons.{sk_o}
-use Rattle.denotation.specs.Valuations.{en_heap, en_term, Valuation, heap_of_entry, HeadEntries}
+use Rattle.denotation.specs.Valuations.{den_heap, den_term, Valuation, heap_of_entry, HeadEntries}
 use Rattle.denotation.specs.Satisfaction.{Satisfies, PreAt, PostAt, answer_mono}
 use Rattle.denotation_renaming.specs.Along.{AgreeAlong}
 use Rattle.denotation_renaming.specs.Laws.{RenamingReindexes}
@@ -22,10 +22,10 @@ truth_renamed R e f_ff a = refl
 truth_renamed R e (f_and left right) a = λ j. truth_renamed R e left a j × truth_renamed R e right a j
 truth_renamed R e (f_or left right) a = λ j. NotNot (truth_renamed R e left a j ⊎ truth_renamed R e right a j)
 truth_renamed R e (f_imp left right) a = λ j. truth_renamed R e left a j → truth_renamed R e right a j
-truth_renamed R e (f_all_t mono body) a = λ j. (v : Value) → HasType v (mono_renamed a mono j) → truth_renamed R e body (agree_next (en_term sk_o v) a) j
-truth_renamed R e (f_ex_t mono body) a = λ j. NotNot ((v : Value) × HasType v (mono_renamed a mono j) × truth_renamed R e body (agree_next (en_term sk_o v) a) j)
-truth_renamed R e (f_all_h body) a = λ j. (h : Heap) → IsHeap h → truth_renamed R e body (agree_next (en_heap h) a) j
-truth_renamed R e (f_ex_h body) a = λ j. NotNot ((h : Heap) × IsHeap h × truth_renamed R e body (agree_next (en_heap h) a) j)
+truth_renamed R e (f_all_t mono body) a = λ j. (v : Value) → HasType v (mono_renamed a mono j) → truth_renamed R e body (agree_next (den_term sk_o v) a) j
+truth_renamed R e (f_ex_t mono body) a = λ j. NotNot ((v : Value) × HasType v (mono_renamed a mono j) × truth_renamed R e body (agree_next (den_term sk_o v) a) j)
+truth_renamed R e (f_all_h body) a = λ j. (h : Heap) → IsHeap h → truth_renamed R e body (agree_next (den_heap h) a) j
+truth_renamed R e (f_ex_h body) a = λ j. NotNot ((h : Heap) × IsHeap h × truth_renamed R e body (agree_next (den_heap h) a) j)
 truth_renamed R e (f_emp heap) a = λ j. IsEmpty (heap_of_entry (a.at heap j))
 truth_renamed R e (f_cell mono heap place value) a = λ j. IsOnly (heap_of_entry (a.at heap j)) (loc_of (term_renamed e place a sk_o j)) (encoding (term_renamed e value a sk_o j))
 truth_renamed R e (f_block mono heap place) a = λ j. NotNot ((b : Block) × (length b ≡ width (mono_renamed a mono j)) × IsOnly (heap_of_entry (a.at heap j)) (loc_of (term_renamed e place a sk_o j)) b)
@@ -37,11 +37,11 @@ truth_renamed R e (f_rec number heap place arguments) a = λ j. R number (word_o
 
 pub pre_renamed : (R : Recs) (e : HeadEntries) (spec : TripleTree) {m : Map} {w w' : Valuation} → AgreeAlong m w w' → (h : Heap) → PreAt R e w' (rename_triple m spec) h ≡ PreAt R e w spec h
 unfolding rename_triple
-pre_renamed R e (triple pre mono post) a h = truth_renamed R e pre (agree_next (en_heap h) a)
+pre_renamed R e (triple pre mono post) a h = truth_renamed R e pre (agree_next (den_heap h) a)
 
 pub post_renamed : (R : Recs) (e : HeadEntries) (spec : TripleTree) {m : Map} {w w' : Valuation} → AgreeAlong m w w' → (v : Value) (before after : Heap) → PostAt R e w' (rename_triple m spec) v before after ≡ PostAt R e w spec v before after
 unfolding rename_triple
-post_renamed R e (triple pre mono post) a v before after = truth_renamed R e post (agree_next (en_heap after) (agree_next (en_heap before) (agree_next (en_term sk_o v) a)))
+post_renamed R e (triple pre mono post) a v before after = truth_renamed R e post (agree_next (den_heap after) (agree_next (den_heap before) (agree_next (den_term sk_o v) a)))
 
 pub answer_renamed : (spec : TripleTree) {m : Map} {w w' : Valuation} → AgreeAlong m w w' → answer_mono w' (rename_triple m spec) ≡ answer_mono w spec
 unfolding rename_triple

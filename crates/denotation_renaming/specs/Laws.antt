@@ -13,10 +13,10 @@ use Rattle.canonical_trees.specs.Canonical.{IsCanonical, IsNeutral, IsCanonicalC
 use Rattle.substitution.specs.Monotypes.{put_mono, put_mono_term, put_mono_comp, put_mono_formula, fill_triple}
 use Rattle.substitution.specs.Closing.{closing}
 use Rattle.substitution_total.specs.Insertion.{Inserted}
-use Rattle.denotation.specs.Valuations.{en_mono, en_term, Valuation, mono_in, HeadEntries}
+use Rattle.denotation.specs.Valuations.{den_mono, den_term, Valuation, mono_in, HeadEntries}
 use Rattle.denotation.specs.Denotation.{term_den, head_den, comp_den}
 use Rattle.denotation.specs.Satisfaction.{Satisfies, PreAt, PostAt, answer_mono}
-use Rattle.denotation.specs.Fitting.{Fits, FitHeads}
+use Rattle.denotation.specs.Valued.{ContextValued, HeadsValued}
 use Rattle.denotation_renaming.specs.Along.{AgreeAlong}
 use Rattle.denotation_renaming.specs.Insertion.{InsertedEntry}
 
@@ -37,15 +37,15 @@ FoldingKeepsValues = (e : HeadEntries) (w : Valuation) (term : TermTree) → ter
 
 -- The eta-expansion of a neutral term denotes what the term denotes.
 abbrev pub ExpansionKeepsHeads : Type 0
-ExpansionKeepsHeads = (heads : Heads) (e : HeadEntries) (g : List Standing) (w : Valuation) → FitHeads heads e → Fits g w → (term : TermTree) (ty : TyTree) → IsNeutral heads g term (skeleton ty) → head_den e w term ≡ en_term (skeleton ty) (term_den e w (eta term ty) (skeleton ty))
+ExpansionKeepsHeads = (heads : Heads) (e : HeadEntries) (g : List Standing) (w : Valuation) → HeadsValued heads e → ContextValued g w → (term : TermTree) (ty : TyTree) → IsNeutral heads g term (skeleton ty) → head_den e w term ≡ den_term (skeleton ty) (term_den e w (eta term ty) (skeleton ty))
 
 -- The whole context is g with the monotype variable x, and the valuation of the whole gives for x what
--- the monotype is under the other; which values fit.
+-- the monotype is under the other.
 pub record MayFillIn (heads : Heads) (e : HeadEntries) (mono : MonoTree) (x : ℕ) (g whole : List Standing) (w w' : Valuation) : Type 0 where
   pub context : Inserted x as_mono g whole
-  pub valuation : InsertedEntry x (en_mono (mono_in w mono)) w w'
-  pub fits : Fits whole w'
-  pub fit_heads : FitHeads heads e
+  pub valuation : InsertedEntry x (den_mono (mono_in w mono)) w w'
+  pub valued : ContextValued whole w'
+  pub heads_valued : HeadsValued heads e
 
 -- Where a monotype is put for a variable, the tree denotes what it did where the variable was valued so.
 pub record MonotypesReindex : Type 0 where

@@ -13,7 +13,7 @@ use Rattle.canonical_trees.specs.Canonical.{IsCanonical, IsCanonicalTriple, IsCa
 use Rattle.substitution.specs.Substitution.{App, SubTriple, SubFormula, applied, u_triple, u_f_tt, u_f_ff, u_f_and, u_f_or, u_f_imp, u_f_all_t, u_f_ex_t, u_f_all_h, u_f_ex_h, u_f_emp, u_f_cell, u_f_block, u_f_join, u_f_same, u_f_eq, u_f_rec}
 use Rattle.denotation.specs.Valuations.{Valuation, heap_of_entry, HeadEntries}
 use Rattle.denotation.specs.Denotation.{term_den}
-use Rattle.denotation.specs.Fitting.{Fits, FitHeads}
+use Rattle.denotation.specs.Valued.{ContextValued, HeadsValued}
 use Rattle.denotation.specs.Satisfaction.{Satisfies, PreAt, PostAt, answer_mono}
 use Rattle.denotation_substitution.specs.Put.{MayPutIn}
 use Rattle.denotation_substitution.specs.Laws.{SubstitutionIsValuation, HeadsAreKept, ApplicationIsApplication, SplicingIsSequence}
@@ -65,7 +65,7 @@ heads_kept = record {
   reduced = λ heads e new s x g whole w w' p term r t u a c. sym (redex_put a c p);
 }
 
-applied_put : {heads : Heads} {e : HeadEntries} {g : List Standing} {w : Valuation} {function argument r : TermTree} {s t : Skeleton} → FitHeads heads e → Fits g w → App function s argument r → IsCanonical heads g function (sk_arrow s t) → IsCanonical heads g argument s → term_den e w r t ≡ term_den e w function (sk_arrow s t) (term_den e w argument s)
+applied_put : {heads : Heads} {e : HeadEntries} {g : List Standing} {w : Valuation} {function argument r : TermTree} {s t : Skeleton} → HeadsValued heads e → ContextValued g w → App function s argument r → IsCanonical heads g function (sk_arrow s t) → IsCanonical heads g argument s → term_den e w r t ≡ term_den e w function (sk_arrow s t) (term_den e w argument s)
 unfolding term_den
 applied_put h z (applied a) c d = term_put a (lam_body c) (put_here h z d)
 

@@ -15,11 +15,11 @@ use Rattle.substitution.specs.Substitution.{Kept, Reduced, SubTerm, SubTerms, Su
 use Rattle.substitution_total.specs.Insertion.{ins_here}
 use Rattle.substitution_total.proofs.Results.{term_result, comp_result}
 use Rattle.denotation.specs.Outcomes.{Outcome, ended, out_of_fuel, asking, wrong, then_outcome, in_sequence, alloc_outcome, get_outcome, set_outcome, free_outcome, branch_outcome}
-use Rattle.denotation.specs.Valuations.{Domain, Entry, en_mono, en_term, Valuation, entry_at, value_of_entry, running_of_entry, applied_entry, instance_entry, at_skeleton, mono_in, HeadEntries}
+use Rattle.denotation.specs.Valuations.{Domain, Entry, den_mono, den_term, Valuation, entry_at, value_of_entry, running_of_entry, applied_entry, instance_entry, at_skeleton, mono_in, HeadEntries}
 use Rattle.denotation.specs.Recursion.{recursion}
 use Rattle.denotation.specs.Denotation.{term_den, terms_den, head_den, fix_den, comp_den, step_den}
-use Rattle.denotation.specs.Fitting.{Fits, FitHeads}
-use Rattle.denotation.proofs.HeadsDenote.{fix_is_of, head_is_of, head_value, fix_value, fits_term, fits_other}
+use Rattle.denotation.specs.Valued.{ContextValued, HeadsValued}
+use Rattle.denotation.proofs.HeadsDenote.{fix_is_of, head_is_of, head_value, fix_value, valued_term, valued_other}
 use Rattle.denotation_renaming.specs.Insertion.{entry_here}
 use Rattle.denotation_renaming.proofs.Renamed.{agree_next, agree_suc, comp_renamed}
 use Rattle.denotation_renaming.proofs.Entries.{applied_same, fix_entry, entry_beside, entry_put}
@@ -28,7 +28,7 @@ use Rattle.denotation_renaming.proofs.Filled.{term_filled}
 use Rattle.denotation_renaming.proofs.FilledTruth.{put_along}
 use Rattle.denotation_substitution.specs.Put.{MayPutIn}
 use Rattle.denotation_substitution.proofs.Results.{arrow_parts, pair_parts, lam_body, family_body, do_comp, HeadAt, head_at, kept_head, reduced_head, fix_skeleton_put, reduced_result}
-use Rattle.denotation_substitution.proofs.Placing.{put_term, put_mono_entry, put_here, fits_whole, mono_beside}
+use Rattle.denotation_substitution.proofs.Placing.{put_term, put_mono_entry, put_here, valued_whole, mono_beside}
 
 then_in_turn : (o : Outcome) (f g : Value → Heap → List ℕ → Outcome) → then_outcome (then_outcome o f) g ≡ then_outcome o (λ v h cs. then_outcome (f v h cs) g)
 then_in_turn (ended v h cs) f g = refl
@@ -53,12 +53,12 @@ kept_value e w (k_inst k) = refl
 from_kept : {heads : Heads} {g : List Standing} {new : TermTree} {s t : Skeleton} {x : ℕ} {term r : TermTree} (e : HeadEntries) (w w' : Valuation) → Kept new s x term r → HeadAt heads g term t → (IsNeutral heads g term sk_o → head_den e w r ≡ head_den e w' term) → term_den e w r t ≡ term_den e w' term t
 from_kept e w w' k (head_at d) f = kept_value e w k ∙ ap value_of_entry (f d) ∙ sym (head_value e w' d)
 
-from_reduced : {heads : Heads} {g : List Standing} {term : TermTree} {t : Skeleton} (e : HeadEntries) (r : TermTree) (w w' : Valuation) → HeadAt heads g term t → (IsNeutral heads g term sk_o → head_den e w' term ≡ en_term sk_o (term_den e w r sk_o)) → term_den e w r t ≡ term_den e w' term t
+from_reduced : {heads : Heads} {g : List Standing} {term : TermTree} {t : Skeleton} (e : HeadEntries) (r : TermTree) (w w' : Valuation) → HeadAt heads g term t → (IsNeutral heads g term sk_o → head_den e w' term ≡ den_term sk_o (term_den e w r sk_o)) → term_den e w r t ≡ term_den e w' term t
 from_reduced e r w w' (head_at d) f = sym (head_value e w' d ∙ ap value_of_entry (f d))
 
 -- a family at a monotype
-pub family_put : {heads : Heads} {e : HeadEntries} {g : List Standing} {w : Valuation} {body : TermTree} {s : Skeleton} (mono : MonoTree) → FitHeads heads e → Fits g w → IsCanonical heads (as_mono ∷ g) body s → term_den e w (put_mono_term mono zero body) s ≡ term_den e (en_mono (mono_in w mono) ∷ w) body s
-family_put {w = w} mono h z c = term_filled h c (put_along (record { context = ins_here; valuation = entry_here; fits = (fits_other (en_mono (mono_in w mono)) z).0; fit_heads = h })) (fits_other (en_mono (mono_in w mono)) z).0
+pub family_put : {heads : Heads} {e : HeadEntries} {g : List Standing} {w : Valuation} {body : TermTree} {s : Skeleton} (mono : MonoTree) → HeadsValued heads e → ContextValued g w → IsCanonical heads (as_mono ∷ g) body s → term_den e w (put_mono_term mono zero body) s ≡ term_den e (den_mono (mono_in w mono) ∷ w) body s
+family_put {w = w} mono h z c = term_filled h c (put_along (record { context = ins_here; valuation = entry_here; valued = (valued_other (den_mono (mono_in w mono)) z).0; heads_valued = h })) (valued_other (den_mono (mono_in w mono)) z).0
 
 mutual
   unfolding term_den
@@ -100,28 +100,28 @@ mutual
   head_put {e = e} (k_made {number = number} a) (e_made d c) p = λ j. e.made number (terms_put a c p j)
   head_put {e = e} {t = t} {w = w} {w' = w'} (k_fix {fix = fix} {fix' = fix'} a) (e_fix c) p =
       ap (fix_entry e w fix') (fix_skeleton_put a ∙ fix_is_of c)
-      ∙ (λ j. en_term t (recursion t (λ own. fix_put a c own p j)))
+      ∙ (λ j. den_term t (recursion t (λ own. fix_put a c own p j)))
       ∙ sym (ap (fix_entry e w' fix) (fix_is_of c))
-  head_put {e = e} {w = w} {w' = w'} (k_app {argument = argument} {argument' = argument'} k a) (e_app d c) p = applied_same (term_den e w' argument) (term_den e w argument') (head_is_of p.fit_heads (fits_whole p) d) (head_put k d p) (term_put a c p)
+  head_put {e = e} {w = w} {w' = w'} (k_app {argument = argument} {argument' = argument'} k a) (e_app d c) p = applied_same (term_den e w' argument) (term_den e w argument') (head_is_of p.heads_valued (valued_whole p) d) (head_put k d p) (term_put a c p)
   head_put (k_inst k) (e_inst d m) p = λ j. instance_entry (head_put k d p j) (mono_beside m p.may.inserted p.valuation j)
 
-  pub redex_put : {heads : Heads} {e : HeadEntries} {new : TermTree} {s t u : Skeleton} {x : ℕ} {term r : TermTree} {g whole : List Standing} {w w' : Valuation} → Reduced new s x term r u → IsNeutral heads whole term t → MayPutIn heads e new s x g whole w w' → head_den e w' term ≡ en_term t (term_den e w r t)
-  redex_put {e = e} {new = new} {w = w} {w' = w'} (r_var q) d p = ap (entry_at w') q ∙ entry_put p.valuation ∙ ap (λ u. en_term u (term_den e w new u)) (reduced_result (r_var q) p.may d).0
+  pub redex_put : {heads : Heads} {e : HeadEntries} {new : TermTree} {s t u : Skeleton} {x : ℕ} {term r : TermTree} {g whole : List Standing} {w w' : Valuation} → Reduced new s x term r u → IsNeutral heads whole term t → MayPutIn heads e new s x g whole w w' → head_den e w' term ≡ den_term t (term_den e w r t)
+  redex_put {e = e} {new = new} {w = w} {w' = w'} (r_var q) d p = ap (entry_at w') q ∙ entry_put p.valuation ∙ ap (λ u. den_term u (term_den e w new u)) (reduced_result (r_var q) p.may d).0
   redex_put {heads = heads} {e = e} {g = g} {w = w} {w' = w'} (r_app {left = left} {argument = argument} {argument' = argument'} {result = result} k a (applied {body = body} b)) (e_app {s = v} {t = t} d c) p =
       let h = reduced_result k p.may d in
       let q = (arrow_parts h.0).0 in
       let of_argument = subst (λ i. IsCanonical heads g argument' i) (sym q) (term_result p.may c a) in
       let of_body = lam_body (subst (λ i. IsCanonical heads g (t_lam body) (sk_arrow i t)) (sym q) h.1) in
       ap (λ y. applied_entry y (term_den e w' argument)) (redex_put k d p)
-      ∙ ap (λ y. en_term t (term_den e (en_term v y ∷ w) body t)) (sym (term_put a c p))
-      ∙ ap (λ i. en_term t (term_den e (en_term i (term_den e w argument' i) ∷ w) body t)) (sym q)
-      ∙ ap (λ y. en_term t y) (sym (term_put b of_body (put_here p.fit_heads p.fits of_argument)))
+      ∙ ap (λ y. den_term t (term_den e (den_term v y ∷ w) body t)) (sym (term_put a c p))
+      ∙ ap (λ i. den_term t (term_den e (den_term i (term_den e w argument' i) ∷ w) body t)) (sym q)
+      ∙ ap (λ y. den_term t y) (sym (term_put b of_body (put_here p.heads_valued p.valued of_argument)))
   redex_put {e = e} {x = x} {w = w} {w' = w'} (r_inst {body = body} {mono = mono} k) (e_inst {s = v} d m) p =
       ap (λ y. instance_entry y (mono_in w' mono)) (redex_put k d p)
-      ∙ ap (λ y. en_term v (term_den e (en_mono y ∷ w) body v)) (sym (mono_beside m p.may.inserted p.valuation))
-      ∙ ap (λ y. en_term v y) (sym (family_put (rename_mono (closing x) mono) p.fit_heads p.fits (family_body (reduced_result k p.may d).1)))
+      ∙ ap (λ y. den_term v (term_den e (den_mono y ∷ w) body v)) (sym (mono_beside m p.may.inserted p.valuation))
+      ∙ ap (λ y. den_term v y) (sym (family_put (rename_mono (closing x) mono) p.heads_valued p.valued (family_body (reduced_result k p.may d).1)))
 
-  fix_put : {heads : Heads} {e : HeadEntries} {new : TermTree} {s t over : Skeleton} {x : ℕ} {fix r : FixTree} {g whole : List Standing} {w w' : Valuation} → SubFix new s x fix r → IsCanonicalFix heads whole over fix t → (own : Domain over) → MayPutIn heads e new s x g whole w w' → fix_den e w (en_term over own) r t ≡ fix_den e w' (en_term over own) fix t
+  fix_put : {heads : Heads} {e : HeadEntries} {new : TermTree} {s t over : Skeleton} {x : ℕ} {fix r : FixTree} {g whole : List Standing} {w w' : Valuation} → SubFix new s x fix r → IsCanonicalFix heads whole over fix t → (own : Domain over) → MayPutIn heads e new s x g whole w w' → fix_den e w (den_term over own) r t ≡ fix_den e w' (den_term over own) fix t
   fix_put (u_x_param a b) (n_param {s = u} ty q c) own p = λ j d. fix_put b c own (put_term u d p) j
   fix_put (u_x_body a b) (n_body {whole = over} spec c) own p = comp_put b c (put_term over own p)
 
@@ -131,17 +131,17 @@ mutual
   comp_put {e = e} {g = g} {w = w} {w' = w'} (u_spliced {term = term} {others' = others'} k b q) (n_step (n_run c m) d) p =
       let own = do_comp (reduced_result k p.may c).1 in
       let rest = comp_result (put_term sk_o (term_den e w term sk_o) p).may d b in
-      spliced q own rest p.fit_heads p.fits
-      ∙ ap (λ y n h cs. then_outcome (running_of_entry y n h cs) (λ v l ds. comp_den e (en_term sk_o v ∷ w) others' n l ds)) (sym (redex_put k c p))
+      spliced q own rest p.heads_valued p.valued
+      ∙ ap (λ y n h cs. then_outcome (running_of_entry y n h cs) (λ v l ds. comp_den e (den_term sk_o v ∷ w) others' n l ds)) (sym (redex_put k c p))
       ∙ (λ j n h cs. then_outcome (running_of_entry (head_den e w' term) n h cs) (λ v l ds. comp_put b d (put_term sk_o v p) j n l ds))
 
-  pub spliced : {heads : Heads} {e : HeadEntries} {comp others r : CompTree} {g : List Standing} {w : Valuation} → Bind comp others r → IsCanonicalComp heads g comp → IsCanonicalComp heads (as_term sk_o ∷ g) others → FitHeads heads e → Fits g w → comp_den e w r ≡ in_sequence (comp_den e w comp) (λ v. comp_den e (en_term sk_o v ∷ w) others)
+  pub spliced : {heads : Heads} {e : HeadEntries} {comp others r : CompTree} {g : List Standing} {w : Valuation} → Bind comp others r → IsCanonicalComp heads g comp → IsCanonicalComp heads (as_term sk_o ∷ g) others → HeadsValued heads e → ContextValued g w → comp_den e w r ≡ in_sequence (comp_den e w comp) (λ v. comp_den e (den_term sk_o v ∷ w) others)
   spliced (b_ret a) (n_ret c) d h z = comp_put a d (put_here h z c)
   spliced {e = e} {g = g} {w = w} (b_step {step = step} {comp = comp} {others = others} a) (n_step c i) d h z =
-      let later = λ (v : Value). spliced a i (canonical_comp_renamed d (keeps_lift (as_term sk_o) (keeps_suc (as_term sk_o) g))) h (fits_term sk_o v z) in
+      let later = λ (v : Value). spliced a i (canonical_comp_renamed d (keeps_lift (as_term sk_o) (keeps_suc (as_term sk_o) g))) h (valued_term sk_o v z) in
       (λ j n l cs. then_outcome (step_den e w step n l cs) (λ v k ds. later v j n k ds))
-      ∙ (λ j n l cs. then_outcome (step_den e w step n l cs) (λ v k ds. then_outcome (comp_den e (en_term sk_o v ∷ w) comp n k ds) (λ u i es. beside_entry e others (en_term sk_o u) (en_term sk_o v) w j n i es)))
-      ∙ (λ j n l cs. sym (then_in_turn (step_den e w step n l cs) (λ v k ds. comp_den e (en_term sk_o v ∷ w) comp n k ds) (λ u i es. comp_den e (en_term sk_o u ∷ w) others n i es)) j)
+      ∙ (λ j n l cs. then_outcome (step_den e w step n l cs) (λ v k ds. then_outcome (comp_den e (den_term sk_o v ∷ w) comp n k ds) (λ u i es. beside_entry e others (den_term sk_o u) (den_term sk_o v) w j n i es)))
+      ∙ (λ j n l cs. sym (then_in_turn (step_den e w step n l cs) (λ v k ds. comp_den e (den_term sk_o v ∷ w) comp n k ds) (λ u i es. comp_den e (den_term sk_o u ∷ w) others n i es)) j)
 
   step_put : {heads : Heads} {e : HeadEntries} {new : TermTree} {s : Skeleton} {x : ℕ} {step r : StepTree} {g whole : List Standing} {w w' : Valuation} → SubStep new s x step r → IsCanonicalStep heads whole step → MayPutIn heads e new s x g whole w w' → step_den e w r ≡ step_den e w' step
   step_put (u_run k) (n_run c m) p = λ j n h cs. running_of_entry (head_put k c p j) n h cs

@@ -4,17 +4,17 @@ use Rattle.htt_values.specs.Values.{Value}
 use Rattle.htt_truth.specs.Worlds.{Thing, World, th_mono, th_value, th_heap}
 use Rattle.canonical_trees.specs.Skeletons.{Skeleton, sk_o, sk_c, sk_arrow, sk_all}
 use Rattle.canonical_trees.specs.Contexts.{Standing, as_term, Stands, Heads, HasSkeleton}
-use Rattle.denotation.specs.Valuations.{Domain, Entry, en_mono, en_heap, en_term, Valuation, entry_at, HeadEntries}
+use Rattle.denotation.specs.Valuations.{Domain, Entry, den_mono, den_heap, den_term, Valuation, entry_at, HeadEntries}
 
 -- The entry is a denotation at the skeleton.
 pub record IsOf (s : Skeleton) (x : Entry) : Type 0 where
   pub of : Domain s
-  pub is : x ≡ en_term s of
+  pub is : x ≡ den_term s of
 
-pub record Fits (g : List Standing) (w : Valuation) : Type 0 where
+pub record ContextValued (g : List Standing) (w : Valuation) : Type 0 where
   pub at : (n : ℕ) (s : Skeleton) → Stands g n (as_term s) → IsOf s (entry_at w n)
 
-pub record FitHeads (heads : Heads) (e : HeadEntries) : Type 0 where
+pub record HeadsValued (heads : Heads) (e : HeadEntries) : Type 0 where
   pub vals : (n : ℕ) (s : Skeleton) → HasSkeleton heads.vals n s → IsOf s (e.vals n)
   pub made : (n : ℕ) (s : Skeleton) (values : List Value) → HasSkeleton heads.made n s → IsOf s (e.made n values)
 
@@ -34,9 +34,9 @@ pub record OnlyValues (g : List Standing) : Type 0 where
 
 -- The valuation of a world.
 abbrev pub entry_of_thing : Thing → Entry
-entry_of_thing (th_mono t) = en_mono t
-entry_of_thing (th_value v) = en_term sk_o v
-entry_of_thing (th_heap h) = en_heap h
+entry_of_thing (th_mono t) = den_mono t
+entry_of_thing (th_value v) = den_term sk_o v
+entry_of_thing (th_heap h) = den_heap h
 
 abbrev pub valuation_of : World → Valuation
 valuation_of [] = []
