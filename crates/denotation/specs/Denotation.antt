@@ -1,8 +1,8 @@
 -- What canonical trees denote in a valuation. A term is read at a skeleton; a head with its arguments
 -- denotes an entry, whose skeleton is that of the head's answer. A computation is run by fuel, and a
--- step takes no fuel of its own.
+-- step takes no fuel of its own. A position says nothing.
 use Rattle.std.specs.Prelude.{List, [], ◌∷◌, ◌++◌, slice_get, Option, Some, None}
-use Rattle.htt_syntax.specs.Trees.{TermTree, FixTree, CompTree, StepTree, TermTrees, t_var, t_val, t_app, t_inst, t_lam, t_lam_t, t_do, t_fix, t_word, t_bool, t_loc, t_unit, t_pair, t_fst, t_snd, t_not, t_bin, t_eq, t_sel, t_made, x_param, x_body, c_ret, c_step, s_run, s_alloc, s_get, s_set, s_free, s_if, s_claim, no_terms, more_terms}
+use Rattle.htt_syntax.specs.Trees.{TermTree, FixTree, CompTree, StepTree, TermTrees, t_var, t_val, t_app, t_inst, t_lam, t_lam_t, t_do, t_fix, t_word, t_bool, t_loc, t_unit, t_pair, t_fst, t_snd, t_not, t_bin, t_eq, t_sel, t_made, t_at, x_param, x_body, c_ret, c_step, s_run, s_alloc, s_get, s_set, s_free, s_if, s_claim, no_terms, more_terms}
 use Rattle.htt_values.specs.Values.{Value, v_word, v_bool, v_loc, v_unit, v_pair, value_of_op, value_of_not, value_of_eq, value_of_sel, value_of_fst, value_of_snd}
 use Rattle.htt_truth.specs.TermValue.{value_or_unit}
 use Rattle.canonical_trees.specs.Skeletons.{Skeleton, sk_o, sk_c, sk_arrow, sk_all, skeleton}
@@ -33,6 +33,7 @@ unfoldable mutual
   term_den e w (t_bin op left right) s = at_skeleton (value_or_unit (value_of_op op (term_den e w left sk_o) (term_den e w right sk_o))) s
   term_den e w (t_eq mono left right) s = at_skeleton (value_or_unit (value_of_eq (mono_in w mono) (term_den e w left sk_o) (term_den e w right sk_o))) s
   term_den e w (t_sel mono test on_true on_false) s = at_skeleton (value_or_unit (value_of_sel (term_den e w test sk_o) (term_den e w on_true sk_o) (term_den e w on_false sk_o))) s
+  term_den e w (t_at at term) s = term_den e w term s
   term_den e w (t_lam body) (sk_arrow s t) = λ d. term_den e (den_term s d ∷ w) body t
   term_den e w (t_lam_t body) (sk_all s) = λ t. term_den e (den_mono t ∷ w) body s
   term_den e w (t_do comp) sk_c = comp_den e w comp
@@ -48,6 +49,7 @@ unfoldable mutual
   head_den e w (t_made number values) = e.made number (terms_den e w values)
   head_den e w (t_app function argument) = applied_entry (head_den e w function) (term_den e w argument)
   head_den e w (t_inst function mono) = instance_entry (head_den e w function) (mono_in w mono)
+  head_den e w (t_at at term) = head_den e w term
   head_den e w (t_fix at fix) = den_term (fix_skeleton fix) (recursion (fix_skeleton fix) (λ own. fix_den e w (den_term (fix_skeleton fix) own) fix (fix_skeleton fix)))
   head_den e w _ = no_entry
 

@@ -1,6 +1,6 @@
 -- A renamed term or computation denotes in one valuation what it denotes in the other.
 use Rattle.std.proofs.Common.{◌≡◌, ℕ, zero, suc, ◌∷◌, refl, ap}
-use Rattle.htt_syntax.specs.Trees.{MonoTree, TermTree, FixTree, CompTree, StepTree, TermTrees, m_word, m_bool, m_loc, m_unit, m_pair, m_var, t_var, t_app, t_inst, t_lam, t_lam_t, t_do, t_fix, t_pair, t_fst, t_snd, t_not, t_bin, t_eq, t_sel, t_made, x_param, x_body, c_ret, c_step, s_run, s_alloc, s_get, s_set, s_free, s_if, s_claim, no_terms, more_terms}
+use Rattle.htt_syntax.specs.Trees.{MonoTree, TermTree, FixTree, CompTree, StepTree, TermTrees, m_word, m_bool, m_loc, m_unit, m_pair, m_var, t_var, t_app, t_inst, t_lam, t_lam_t, t_do, t_fix, t_pair, t_fst, t_snd, t_not, t_bin, t_eq, t_sel, t_made, t_at, x_param, x_body, c_ret, c_step, s_run, s_alloc, s_get, s_set, s_free, s_if, s_claim, no_terms, more_terms}
 use Rattle.htt_renaming.specs.Renaming.{Map, lift, rename_mono, rename_term, rename_fix, rename_comp, rename_step, rename_terms}
 use Rattle.htt_values.specs.Values.{v_pair, value_of_op, value_of_not, value_of_eq, value_of_sel, value_of_fst, value_of_snd}
 use Rattle.htt_truth.specs.TermValue.{value_or_unit}
@@ -52,6 +52,7 @@ mutual
   term_renamed e (t_bin op left right) a s = λ j. at_skeleton (value_or_unit (value_of_op op (term_renamed e left a sk_o j) (term_renamed e right a sk_o j))) s
   term_renamed e (t_eq mono left right) a s = λ j. at_skeleton (value_or_unit (value_of_eq (mono_renamed a mono j) (term_renamed e left a sk_o j) (term_renamed e right a sk_o j))) s
   term_renamed e (t_sel mono test on_true on_false) a s = λ j. at_skeleton (value_or_unit (value_of_sel (term_renamed e test a sk_o j) (term_renamed e on_true a sk_o j) (term_renamed e on_false a sk_o j))) s
+  term_renamed e (t_at at term) a s = term_renamed e term a s
   term_renamed e (t_lam body) a (sk_arrow s t) = λ j d. term_renamed e body (agree_next (den_term s d) a) t j
   term_renamed e (t_lam_t body) a (sk_all s) = λ j t. term_renamed e body (agree_next (den_mono t) a) s j
   term_renamed e (t_do comp) a sk_c = comp_renamed e comp a
@@ -66,6 +67,7 @@ mutual
   head_renamed e (t_made number values) a = λ j. e.made number (terms_renamed e values a j)
   head_renamed e (t_app function argument) a = λ j. applied_entry (head_renamed e function a j) (λ u. term_renamed e argument a u j)
   head_renamed e (t_inst function mono) a = λ j. instance_entry (head_renamed e function a j) (mono_renamed a mono j)
+  head_renamed e (t_at at term) a = head_renamed e term a
   head_renamed e (t_fix at fix) {m = m} a = λ j. den_term (fix_skeleton_renamed m fix j) (recursion (fix_skeleton_renamed m fix j) (λ own. fix_renamed e fix (den_term (fix_skeleton_renamed m fix j) own) a (fix_skeleton_renamed m fix j) j))
   head_renamed e _ a = refl
 
