@@ -42,15 +42,15 @@ truth_filled R h (n_same {left = left} {right = right} a b) k z = λ j. IsSame (
 truth_filled R h (n_equal t a b) k z = λ j. term_filled h a k z j ≡ term_filled h b k z j
 truth_filled R h (n_rec {number = number} {heap = heap} d a b) k z = λ j. R number (word_of (term_filled h a k z j)) (terms_filled h b k z j) (heap_of_entry (k.heaps heap d j))
 
-pre_filled : (R : Recs) {heads : Heads} {e : HeadEntries} {spec : TripleTree} {f : Filling} {m : Map} {g : List Standing} {w w' : Valuation} → HeadsValued heads e → IsCanonicalTriple heads g spec → FillAlong f m g w w' → ContextValued g w → (l : Heap) → PreAt R e w' (fill_triple f m spec) l ≡ PreAt R e w spec l
+pub pre_filled : (R : Recs) {heads : Heads} {e : HeadEntries} {spec : TripleTree} {f : Filling} {m : Map} {g : List Standing} {w w' : Valuation} → HeadsValued heads e → IsCanonicalTriple heads g spec → FillAlong f m g w w' → ContextValued g w → (l : Heap) → PreAt R e w' (fill_triple f m spec) l ≡ PreAt R e w spec l
 unfolding fill_triple
 pre_filled R h (n_triple a t b) k z l = truth_filled R h a (fill_next as_heap (den_heap l) k) (valued_other (den_heap l) z).1
 
-post_filled : (R : Recs) {heads : Heads} {e : HeadEntries} {spec : TripleTree} {f : Filling} {m : Map} {g : List Standing} {w w' : Valuation} → HeadsValued heads e → IsCanonicalTriple heads g spec → FillAlong f m g w w' → ContextValued g w → (v : Value) (before after : Heap) → PostAt R e w' (fill_triple f m spec) v before after ≡ PostAt R e w spec v before after
+pub post_filled : (R : Recs) {heads : Heads} {e : HeadEntries} {spec : TripleTree} {f : Filling} {m : Map} {g : List Standing} {w w' : Valuation} → HeadsValued heads e → IsCanonicalTriple heads g spec → FillAlong f m g w w' → ContextValued g w → (v : Value) (before after : Heap) → PostAt R e w' (fill_triple f m spec) v before after ≡ PostAt R e w spec v before after
 unfolding fill_triple
 post_filled R h (n_triple a t b) k z v before after = truth_filled R h b (fill_next as_heap (den_heap after) (fill_next as_heap (den_heap before) (fill_next (as_term sk_o) (den_term sk_o v) k))) (valued_other (den_heap after) (valued_other (den_heap before) (valued_term sk_o v z)).1).1
 
-answer_filled : {heads : Heads} {spec : TripleTree} {f : Filling} {m : Map} {g : List Standing} {w w' : Valuation} → IsCanonicalTriple heads g spec → FillAlong f m g w w' → answer_mono w' (fill_triple f m spec) ≡ answer_mono w spec
+pub answer_filled : {heads : Heads} {spec : TripleTree} {f : Filling} {m : Map} {g : List Standing} {w w' : Valuation} → IsCanonicalTriple heads g spec → FillAlong f m g w w' → answer_mono w' (fill_triple f m spec) ≡ answer_mono w spec
 unfolding fill_triple
 answer_filled (n_triple a t b) k = mono_filled t k
 
