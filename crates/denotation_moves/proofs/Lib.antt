@@ -1,0 +1,5 @@
+pub mod Agreeing
+pub mod Cells
+pub mod Blocks
+pub mod Runs
+pub mod Sound

@@ -1,0 +1,11 @@
+//! Each step of a computation is sound for its state: no fault where what is owed is true, and the next
+//! state holds beside the same frame. A function without a body states a law by its contract.
+#![tactic(auto)]
+
+ghost use Rattle.denotation_moves.specs.Laws.{MovesAreSound};
+
+/// Where a run stands in a state and what the step owes is true, the step never goes wrong, and where
+/// it ends the run stands in the next state beside the same frame.
+pub fn moves_are_sound()
+    ensures law { MovesAreSound }
+{}
