@@ -1,25 +1,24 @@
 -- The entries of a canonical context, the values and definitions of a canonical environment, and the
 -- parts of a computation.
-use Rattle.std.proofs.Common.{◌≡◌, ℕ, zero, suc, List, [], ◌∷◌, ◌++◌, All, map, length, Option, Some, None, slice_get, refl, sym, ap, subst, arith, ◌∙◌}
+use Rattle.std.proofs.Common.{◌≡◌, ℕ, zero, suc, List, [], ◌∷◌, ◌++◌, map, Option, Some, None, slice_get, refl, sym, ap, subst, arith, ◌∙◌}
 use Rattle.std.proofs.lemmas.List.Elements.{All-nil, All-cons, All-append}
 use Rattle.std.proofs.lemmas.Option.{same_Some}
 use Rattle.htt_syntax.specs.declared.mono.Op.{Op}
 use Rattle.htt_syntax.specs.declared.mono.Op.TheVariants.{Add, Sub, Mul, And, Or, Xor, Shl, Shr, Lt}
-use Rattle.htt_syntax.specs.Trees.{MonoTree, TyTree, TripleTree, TermTree, CompTree, FormulaTree, y_mono, y_fun, y_all, y_hoare, y_at, triple, m_pair, t_lam, t_lam_t, t_do, t_unit}
-use Rattle.htt_renaming.specs.Renaming.{rename_ty, rename_triple}
+use Rattle.htt_syntax.specs.Trees.{MonoTree, TyTree, TripleTree, TermTree, CompTree, FormulaTree, y_mono, y_fun, y_all, y_hoare, y_at, triple, m_pair, t_lam, t_lam_t, t_do}
 use Rattle.htt_renaming.proofs.Identity.{mono_stays, ty_stays, term_stays}
 use Rattle.htt_values.specs.Values.{op_mono}
 use Rattle.canonical_trees.specs.Skeletons.{Skeleton, sk_o, sk_c, sk_arrow, sk_all, skeleton}
 use Rattle.canonical_trees.specs.Contexts.{Standing, as_mono, as_heap, as_term, Stands, here, there, Heads, HasSkeleton, first_head, later_head, Keeps}
 use Rattle.canonical_trees.specs.Canonical.{IsCanonicalMono, IsCanonical, IsCanonicalComp, IsCanonicalStep, IsCanonicalTy, IsCanonicalTriple, IsCanonicalFormula, n_m_word, n_m_bool, n_m_loc, n_m_unit, n_m_pair, n_m_var, n_mono, n_fun, n_all, n_hoare, n_triple, n_lam, n_lam_t, n_do, n_step, n_unit}
-use Rattle.canonical_trees.proofs.Renamed.{keeps_suc, skeleton_stays, mono_renamed, term_renamed, ty_renamed, triple_renamed}
+use Rattle.canonical_trees.proofs.Renamed.{keeps_suc, skeleton_stays, mono_renamed, term_renamed, ty_renamed}
 use Rattle.substitution_total.specs.Insertion.{ins_here}
 use Rattle.substitution_total.specs.Laws.{MayBePut}
 use Rattle.substitution_total.proofs.Results.{comp_result, bind_result}
 use Rattle.htt_typing.specs.Places.{plain_ty}
-use Rattle.htt_typing.specs.Contexts.{EntryTree, en_mono, en_heap, en_term, Context, Environment, IsMono, mono_here, mono_there, IsHeap, heap_here, heap_there, HasEntryType, type_here, type_there, FormsMono, forms_word, forms_bool, forms_loc, forms_unit, forms_pair, forms_var, Obligation}
+use Rattle.htt_typing.specs.Contexts.{en_term, Context, IsMono, mono_here, mono_there, IsHeap, heap_here, heap_there, HasEntryType, type_here, type_there, FormsMono, forms_word, forms_bool, forms_loc, forms_unit, forms_pair, forms_var, Obligation}
 use Rattle.htt_typing.specs.Typing.{Part, part_step, part_comp, part_unit, Joined, joined_step, joined_comp, joined_unit, with_heaps, owes}
-use Rattle.typing_canonical.specs.Environments.{standing, standings, heads_of, IsCanonicalEnvironment, IsCanonicalContext, no_entry, mono_entry, heap_entry, term_entry, at_state, with_values, IsCanonicalRow}
+use Rattle.typing_canonical.specs.Environments.{standings, IsCanonicalContext, no_entry, mono_entry, heap_entry, term_entry, at_state, with_values, IsCanonicalRow}
 use Rattle.typing_canonical.specs.Laws.{IsCanonicalOwed, AreCanonical}
 
 mono_stands : {g : Context} {n : ℕ} → IsMono g n → Stands (standings g) n as_mono

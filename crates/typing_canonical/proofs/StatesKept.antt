@@ -1,7 +1,7 @@
 -- States are canonical where their parts are: where each renaming of a state sends its variables.
-use Rattle.std.proofs.Common.{ℕ, zero, suc, ◌≡◌, refl, List, [], ◌∷◌, length, Bool, Option, Some, None, ap, subst, sym}
+use Rattle.std.proofs.Common.{ℕ, zero, suc, ◌≡◌, refl, List, [], ◌∷◌, length, Bool, ap, subst, sym}
 use Rattle.htt_syntax.specs.Trees.{MonoTree, TermTree, FormulaTree, triple, t_var}
-use Rattle.htt_renaming.specs.Renaming.{Map, lift, lifts, rename_mono, rename_term, rename_formula}
+use Rattle.htt_renaming.specs.Renaming.{Map, lifts}
 use Rattle.htt_states.specs.States.{past, at_heaps, at_heap, at_result, Move, move_alloc, move_get, move_set, move_free, move_run, move_claim, start, owes_block, owed, after, branch, some_values, within, ending, finish, merge, last}
 use Rattle.canonical_trees.specs.Skeletons.{sk_o}
 use Rattle.canonical_trees.specs.Contexts.{Standing, as_heap, as_term, Stands, here, there, Heads, Keeps}

@@ -1,12 +1,11 @@
 -- What the typing rules give is canonical: by the derivations.
-use Rattle.std.proofs.Common.{◌≡◌, ℕ, zero, suc, List, [], ◌∷◌, ◌++◌, All, length, true, false, refl, sym, subst}
+use Rattle.std.proofs.Common.{zero, suc, List, [], ◌∷◌, ◌++◌, All, length, true, false, refl, sym, subst}
 use Rattle.std.proofs.lemmas.List.Elements.{All-head, All-tail}
-use Rattle.htt_syntax.specs.Trees.{MonoTree, TyTree, TripleTree, TermTree, FixTree, CompTree, StepTree, FormulaTree, TermTrees, m_bool, y_mono, y_fun, y_all, y_hoare, triple, t_var, t_val, t_fix, t_lam, t_lam_t, t_do}
-use Rattle.htt_renaming.specs.Renaming.{rename_mono, rename_ty}
-use Rattle.htt_states.specs.States.{move_alloc, move_get, move_set, move_free, move_run, move_claim, start, finish, last}
-use Rattle.canonical_trees.specs.Skeletons.{Skeleton, sk_o, sk_c, sk_arrow, skeleton}
-use Rattle.canonical_trees.specs.Contexts.{Standing, as_mono, as_heap, as_term, Stands, here, there, Heads, Keeps}
-use Rattle.canonical_trees.specs.Canonical.{IsCanonicalMono, IsCanonical, IsCanonicalTerms, IsCanonicalFix, IsCanonicalComp, IsCanonicalStep, IsCanonicalTy, IsCanonicalTriple, IsCanonicalFormula, n_m_word, n_m_bool, n_m_loc, n_m_unit, n_m_pair, n_word, n_bool, n_loc, n_unit, n_pair, n_lam, n_lam_t, n_do, n_neutral, e_var, e_val, e_fix, n_no_terms, n_more_terms, n_param, n_body, n_ret, n_alloc, n_get, n_set, n_free, n_if, n_mono, n_fun, n_all, n_hoare, n_triple, n_tt, n_ff, n_and, n_or, n_imp, n_all_t, n_ex_t, n_all_h, n_ex_h, n_emp, n_cell, n_block, n_join, n_same, n_equal, n_rec}
+use Rattle.htt_syntax.specs.Trees.{MonoTree, TyTree, TripleTree, TermTree, FixTree, CompTree, StepTree, FormulaTree, TermTrees, triple, t_var, t_val, t_fix}
+use Rattle.htt_states.specs.States.{move_alloc, move_get, move_set, move_free, move_run, move_claim}
+use Rattle.canonical_trees.specs.Skeletons.{Skeleton, sk_o, skeleton}
+use Rattle.canonical_trees.specs.Contexts.{Standing, as_term, Heads, Keeps}
+use Rattle.canonical_trees.specs.Canonical.{IsCanonicalMono, IsCanonical, IsCanonicalTerms, IsCanonicalFix, IsCanonicalComp, IsCanonicalTy, IsCanonicalTriple, IsCanonicalFormula, n_m_word, n_m_bool, n_m_loc, n_m_unit, n_m_pair, n_word, n_bool, n_loc, n_unit, n_pair, n_lam, n_lam_t, n_do, e_var, e_val, e_fix, n_no_terms, n_more_terms, n_param, n_body, n_ret, n_alloc, n_get, n_set, n_free, n_if, n_mono, n_fun, n_all, n_hoare, n_triple, n_tt, n_ff, n_and, n_or, n_imp, n_all_t, n_ex_t, n_all_h, n_ex_h, n_emp, n_cell, n_block, n_join, n_same, n_equal, n_rec}
 use Rattle.canonical_trees.proofs.Renamed.{keeps_suc, skeleton_stays, mono_renamed, ty_renamed, triple_renamed}
 use Rattle.canonical_trees.proofs.Expanded.{expanded_canonical}
 use Rattle.substitution.specs.Closing.{closing}
@@ -17,8 +16,8 @@ use Rattle.substitution_total.proofs.Folded.{fst_folded, snd_folded, not_folded,
 use Rattle.substitution_total.proofs.Filled.{ty_filled, term_filled}
 use Rattle.substitution_total.proofs.Places.{put_fills}
 use Rattle.substitution_total.proofs.Results.{term_result, ty_result}
-use Rattle.htt_typing.specs.Contexts.{Context, Environment, en_mono, en_heap, en_term, Obligation}
-use Rattle.htt_typing.specs.Typing.{Mode, Part, with_heaps, owes, FormsTy, FormsTriple, FormsFormula, FitsAll, Gives, Fits, FormsHeader, FitsFix, FitsBody, Runs, Moves, forms_mono, forms_fun, forms_all, forms_hoare, forms_ty_at, forms_triple, forms_tt, forms_ff, forms_and, forms_or, forms_imp, forms_all_t, forms_ex_t, forms_all_h, forms_ex_h, forms_emp, forms_cell, forms_block, forms_join, forms_same, forms_eq, forms_rec, forms_formula_at, fits_none, fits_more, gives_var, gives_val, gives_def, gives_word, gives_bool, gives_loc, gives_unit, gives_app, gives_inst, gives_ann, gives_pair, gives_fst, gives_snd, gives_bin, gives_not, gives_eq, gives_sel, gives_fix, gives_at, fits_lam, fits_lam_t, fits_pair, fits_do, fits_given, fits_at, header_param, header_body, fix_param, fix_body, fits_body, runs_ret, runs_step, moves_alloc, moves_get, moves_set, moves_free, moves_run, moves_if, moves_claim}
+use Rattle.htt_typing.specs.Contexts.{Context, Environment, Obligation}
+use Rattle.htt_typing.specs.Typing.{Mode, Part, FormsTy, FormsTriple, FormsFormula, FitsAll, Gives, Fits, FormsHeader, FitsFix, FitsBody, Runs, Moves, forms_mono, forms_fun, forms_all, forms_hoare, forms_ty_at, forms_triple, forms_tt, forms_ff, forms_and, forms_or, forms_imp, forms_all_t, forms_ex_t, forms_all_h, forms_ex_h, forms_emp, forms_cell, forms_block, forms_join, forms_same, forms_eq, forms_rec, forms_formula_at, fits_none, fits_more, gives_var, gives_val, gives_def, gives_word, gives_bool, gives_loc, gives_unit, gives_app, gives_inst, gives_ann, gives_pair, gives_fst, gives_snd, gives_bin, gives_not, gives_eq, gives_sel, gives_fix, gives_at, fits_lam, fits_lam_t, fits_pair, fits_do, fits_given, fits_at, header_param, header_body, fix_param, fix_body, fits_body, runs_ret, runs_step, moves_alloc, moves_get, moves_set, moves_free, moves_run, moves_if, moves_claim}
 use Rattle.typing_canonical.specs.Environments.{standings, heads_of, IsCanonicalEnvironment, IsCanonicalContext, mono_entry, heap_entry, term_entry, at_state, with_values, IsCanonicalRow}
 use Rattle.typing_canonical.specs.Laws.{AreCanonical}
 use Rattle.typing_canonical.proofs.StatesKept.{start_kept, owed_kept, after_kept, branch_kept, finish_kept, merge_kept, last_kept}
@@ -54,6 +53,7 @@ pub record Given (heads : Heads) (g : List Standing) (a : TyTree) (r : TermTree)
 module _ (env : Environment) (known : IsCanonicalEnvironment env) where
   mutual
     unfolding skeleton with_values IsCanonicalRow
+
     pub formed_ty : {g : Context} {t r : TyTree} → IsCanonicalContext (heads_of env) g → FormsTy env g t r → IsCanonicalTy (heads_of env) (standings g) r
     formed_ty c (forms_mono m) = n_mono (mono_canonical m)
     formed_ty c (forms_fun a b) = let x = formed_ty c a in n_fun x refl (formed_ty (term_entry c x) b)
@@ -80,7 +80,7 @@ module _ (env : Environment) (known : IsCanonicalEnvironment env) where
     formed_formula c (forms_join i k l) = n_join (heap_stands i) (heap_stands k) (heap_stands l)
     formed_formula c (forms_same i k) = n_same (heap_stands i) (heap_stands k)
     formed_formula c (forms_eq m a b) = n_equal (mono_canonical m) (fitted c (n_mono (mono_canonical m)) a).term (fitted c (n_mono (mono_canonical m)) b).term
-    formed_formula c (forms_rec {number = number} {r = r} l i a b) = n_rec (heap_stands i) (fitted c (n_mono n_m_word) a).term (all_fitted c (known.rec_params number r l) b)
+    formed_formula c (forms_rec {number = number} {r = r} l i a n b) = n_rec (heap_stands i) (fitted c (n_mono n_m_word) a).term (all_fitted c (known.rec_params number r l) b)
     formed_formula c (forms_formula_at a) = formed_formula c a
 
     all_fitted : {g : Context} {t r : TermTrees} {params : List MonoTree} → IsCanonicalContext (heads_of env) g → All (IsCanonicalMono []) params → FitsAll env g t params r → IsCanonicalTerms (heads_of env) (standings g) r

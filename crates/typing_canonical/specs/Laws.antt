@@ -1,5 +1,5 @@
 -- What states keep, and what the typing rules give.
-use Rattle.std.specs.Prelude.{ℕ, zero, suc, ◌∷◌, List, length, All, Bool, Option, Some, None}
+use Rattle.std.specs.Prelude.{zero, ◌∷◌, List, length, All, Bool, Option, Some, None}
 use Rattle.htt_syntax.specs.Trees.{MonoTree, TyTree, TripleTree, TermTree, CompTree, FormulaTree}
 use Rattle.htt_states.specs.States.{Move, move_alloc, move_get, move_set, move_free, move_run, move_claim, start, owed, after, branch, finish, merge, last}
 use Rattle.canonical_trees.specs.Skeletons.{sk_o, skeleton}
