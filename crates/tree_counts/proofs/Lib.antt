@@ -1,0 +1,3 @@
+pub mod NodesKept
+pub mod DepthKept
+pub mod Worked
