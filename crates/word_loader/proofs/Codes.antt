@@ -1,12 +1,12 @@
 -- Valid code and code that isn't.
-use Rattle.std.proofs.Common.{ℕ, ◌≡◌, ◌≤◌, ◌<◌, List, [], ◌∷◌, length, slice_index_or, All, ◌⊎◌, inl, inr, refl, sym, ap, subst, arith}
+use Rattle.std.proofs.Common.{ℕ, ◌≡◌, ◌≤◌, List, [], ◌∷◌, length, All, ◌⊎◌, inl, inr, refl, arith}
 use Rattle.std.proofs.lemmas.List.Elements.{All-nil, All-cons}
 use Rattle.word_loader.specs.declared.code.Code.{Code}
 use Rattle.word_loader.specs.declared.code.Function.{Function}
 use Rattle.word_loader.specs.declared.code.Instr.{Instr}
 use Rattle.word_loader.specs.declared.code.Instr.TheVariants.{Const, Mov, Op, Jump, Call, Ret, Tail}
 use Rattle.word_loader.specs.Valid.{IsValid, IsValidFunction, IsValidInstr, LastLeaves}
-use Rattle.word_loader.specs.Laws.{single_function, old_function, seven_by_tail, WorkedCode}
+use Rattle.word_loader.specs.Laws.{seven_by_tail, WorkedCode}
 
 -- code of a version with one function, which has no parameters
 abbrev one : ℕ → ℕ → ℕ → List Instr → Code
@@ -26,13 +26,13 @@ one_function code f p = All-cons (IsValidFunction code) f [] p (All-nil (IsValid
 
 one_is_valid : (v locals result : ℕ) (body : List Instr) → (v ≡ 1) ⊎ (v ≡ 2) → locals ≤ 4096 → result ≤ 4096 → length body ≤ 1000000 → All (IsValidInstr (one v locals result body) (function locals result body)) body → LastLeaves body → IsValid (one v locals result body)
 one_is_valid v locals result body s l r n i t =
-  record {
-    version = s;
-    entered = refl;
-    count = omega arith;
-    instrs = omega (arith, n);
-    functions = one_function (one v locals result body) (function locals result body) (record { locals = l; params = omega arith; result = r; instrs = i; last = t });
-  }
+    record {
+      version = s;
+      entered = refl;
+      count = omega arith;
+      instrs = omega (arith, n);
+      functions = one_function (one v locals result body) (function locals result body) (record { locals = l; params = omega arith; result = r; instrs = i; last = t });
+    }
 
 -- the first function of valid code, and its first and second instruction
 first_function : (v : ℕ) (f : Function) (fs : List Function) → IsValid (record { version = v; functions = f ∷ fs }) → IsValidFunction (record { version = v; functions = f ∷ fs }) f
@@ -54,13 +54,13 @@ seven_is_valid = record { locals = omega arith; params = omega arith; result = o
 
 seven_by_tail_is_valid : IsValid seven_by_tail
 seven_by_tail_is_valid =
-  record {
-    version = inr refl;
-    entered = refl;
-    count = omega arith;
-    instrs = omega arith;
-    functions = All-cons (IsValidFunction seven_by_tail) (function 0 1 (Tail 1 0 ∷ [])) (function 1 1 (Const 0 7 ∷ Ret 0 ∷ []) ∷ []) tail_is_valid (one_function seven_by_tail (function 1 1 (Const 0 7 ∷ Ret 0 ∷ [])) seven_is_valid);
-  }
+    record {
+      version = inr refl;
+      entered = refl;
+      count = omega arith;
+      instrs = omega arith;
+      functions = All-cons (IsValidFunction seven_by_tail) (function 0 1 (Tail 1 0 ∷ [])) (function 1 1 (Const 0 7 ∷ Ret 0 ∷ []) ∷ []) tail_is_valid (one_function seven_by_tail (function 1 1 (Const 0 7 ∷ Ret 0 ∷ [])) seven_is_valid);
+    }
 
 pub codes : WorkedCode
 codes = record {

@@ -1,11 +1,11 @@
 -- The laws of the machine, and small runs.
-use Rattle.std.specs.Prelude.{ℕ, zero, suc, ◌≡◌, ◌≢◌, ◌+◌, ◌^◌, ◌-◌, List, [], ◌∷◌, ◌++◌, Option, Some, None}
+use Rattle.std.specs.Prelude.{ℕ, ◌≡◌, ◌+◌, List, [], ◌∷◌, ◌++◌}
 use Rattle.htt_words.specs.declared.words.Kind.TheVariants as kind
 use Rattle.htt_values.specs.Heaps.{Heap, empty_heap, single_block, with_block, without_block}
 use Rattle.word_loader.specs.declared.code.Code.{Code}
 use Rattle.word_loader.specs.declared.code.Instr.{Instr}
 use Rattle.word_loader.specs.declared.code.Instr.TheVariants.{Const, Mov, Op, Sel, Alloc, Get, Set, Free, Jump, Jz, Call, Ret, Tail}
-use Rattle.word_loader.specs.Machine.{Machine, Stack, going, halted, faulted, asking, step, after_steps, machine_after}
+use Rattle.word_loader.specs.Machine.{Machine, going, halted, faulted, asking, machine_after}
 use Rattle.word_loader.specs.Valid.{IsValid}
 
 abbrev pub IsOver : Machine → Type 0
