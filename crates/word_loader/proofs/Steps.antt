@@ -1,12 +1,12 @@
 -- What one step keeps: a machine that is over, and the choices that it doesn't use.
-use Rattle.std.proofs.Common.{ℕ, zero, suc, ◌≡◌, ◌+◌, List, [], ◌∷◌, ◌++◌, Option, Some, None, Bool, true, false, refl, ap, ◌∙◌, add-zero, add-suc, nat_eq, if◌then◌else◌, slice_get, length}
+use Rattle.std.proofs.Common.{ℕ, zero, suc, ◌≡◌, ◌+◌, List, [], ◌∷◌, ◌++◌, Option, Some, None, Bool, true, false, refl, sym, ap, ◌∙◌, add-zero, add-suc, nat_eq, if◌then◌else◌, slice_get, length}
 use Rattle.htt_words.specs.declared.words.Kind.{Kind}
 use Rattle.htt_values.specs.Heaps.{Heap, Block}
 use Rattle.word_loader.specs.declared.code.Code.{Code}
 use Rattle.word_loader.specs.declared.code.Function.{Function}
 use Rattle.word_loader.specs.declared.code.Instr.{Instr}
 use Rattle.word_loader.specs.declared.code.Instr.TheVariants.{Const, Mov, Op, Sel, Alloc, Get, Set, Free, Jump, Jz, Call, Ret, Tail}
-use Rattle.word_loader.specs.Machine.{Machine, Stack, bottom, above, going, halted, faulted, asking, step, after_steps, started, stepped, fetched, effect, called, replaced, returned, at_block, with_choice, is_fresh, top, words_at}
+use Rattle.word_loader.specs.Machine.{Machine, Stack, bottom, above, going, halted, faulted, asking, step, after_steps, machine_after, started, stepped, fetched, effect, called, replaced, returned, at_block, with_choice, is_fresh, top, words_at}
 use Rattle.word_loader.specs.Laws.{IsOver, OverIsFinal, with_more, Asks, ChoicesAreHandedOn}
 
 over_step : (code : Code) (m : Machine) → IsOver m → step code m ≡ m

@@ -1,5 +1,5 @@
 -- The written machine: its states, one step, and the machine after a number of steps.
-use Rattle.std.specs.Prelude.{ℕ, zero, suc, ◌+◌, ◌-◌, List, [], ◌∷◌, ◌++◌, length, take, drop, replicate, Bool, true, false, Option, Some, None, nat_eq, slice_get, slice_index_or, if◌then◌else◌}
+use Rattle.std.specs.Prelude.{ℕ, zero, suc, ◌≡◌, ◌+◌, ◌-◌, List, [], ◌∷◌, ◌++◌, length, take, drop, replicate, Bool, true, false, Option, Some, None, nat_eq, nat_lt, slice_get, slice_index_or, if◌then◌else◌}
 use Rattle.htt_words.specs.declared.words.Kind.{Kind}
 use Rattle.htt_words.specs.declared.words.Kind.TheVariants as kind
 use Rattle.htt_syntax.specs.declared.mono.Op.{Op as Operation}
