@@ -59,6 +59,15 @@ three_steps_by_hand =
     (f_ex_h (f_ex_h (f_and (f_cell m_word 1 (t_var 8) (t_var 7)) (f_join 3 1 0)))))
     (f_and (f_block m_word 0 (t_var 6)) (f_join 1 0 2))))
 
+-- and its end with `ret v`: ex l . ex v . ex u . R /\ y =[word] v
+abbrev pub three_end_by_hand : FormulaTree
+three_end_by_hand =
+    f_ex_t m_loc (f_ex_t m_word (f_ex_t m_unit (f_and (f_ex_h (f_ex_h (f_and
+    (f_and (f_ex_h (f_and (f_and (f_emp 7) (f_same 0 7)) (f_ex_h (f_and (f_cell m_word 0 (t_var 6) (t_word 7)) (f_join 3 1 0)))))
+    (f_ex_h (f_ex_h (f_and (f_cell m_word 1 (t_var 6) (t_var 5)) (f_join 3 1 0)))))
+    (f_and (f_block m_word 0 (t_var 4)) (f_join 1 0 5)))))
+    (f_eq m_word (t_var 5) (t_var 1)))))
+
 -- {l |->[word] 7} x : unit {l |->[word] 8 /\ @init [l |->[word] 7]}, where l is the variable 0
 abbrev pub writes_eight : TripleTree
 writes_eight = triple (f_cell m_word 0 (t_var 1) (t_word 7)) m_unit (f_and (f_cell m_word 0 (t_var 3) (t_word 8)) (f_cell m_word 1 (t_var 3) (t_word 7)))
@@ -99,14 +108,9 @@ pub record WorkedStates : Type 0 where
       ≡ f_ex_h (f_and f_tt (f_all_h (f_all_h (f_imp (f_and (f_join 2 1 0) (f_cell m_word 1 (t_var 6) (t_word 7)))
       (f_ex_h (f_and (f_join 4 0 1) (f_and (f_cell m_word 0 (t_var 7) (t_word 8)) (f_cell m_word 2 (t_var 7) (t_word 7)))))))))
   pub claim_owes : owed (move_claim (f_same 0 1)) f_tt ≡ Some (f_imp f_tt (f_same 0 1))
-  -- alloc, get, free, and their end with `ret v`: ex l . ex v . ex u . R /\ y =[word] v
+  -- alloc, get, free, and their end
   pub three : three_steps ≡ three_steps_by_hand
-  pub three_end : finish three_steps (m_loc ∷ m_word ∷ m_unit ∷ []) m_word (t_var 1)
-      ≡ f_ex_t m_loc (f_ex_t m_word (f_ex_t m_unit (f_and (f_ex_h (f_ex_h (f_and
-      (f_and (f_ex_h (f_and (f_and (f_emp 7) (f_same 0 7)) (f_ex_h (f_and (f_cell m_word 0 (t_var 6) (t_word 7)) (f_join 3 1 0)))))
-      (f_ex_h (f_ex_h (f_and (f_cell m_word 1 (t_var 6) (t_var 5)) (f_join 3 1 0)))))
-      (f_and (f_block m_word 0 (t_var 4)) (f_join 1 0 5)))))
-      (f_eq m_word (t_var 5) (t_var 1)))))
+  pub three_end : finish three_steps (m_loc ∷ m_word ∷ m_unit ∷ []) m_word (t_var 1) ≡ three_end_by_hand
   -- an end with the variables z and v, in a context with k and l: z =[word] v /\ Cell[word](mem, l, z)
   -- and `ret v + k`
   pub two_variables_end : finish (f_and (f_eq m_word (t_var 3) (t_var 2)) (f_cell m_word 0 (t_var 4) (t_var 3))) (m_word ∷ m_word ∷ []) m_word (t_bin Add (t_var 0) (t_var 3))
