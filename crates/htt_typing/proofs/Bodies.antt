@@ -11,7 +11,7 @@ use Rattle.substitution.specs.Closing.{closing}
 use Rattle.substitution.specs.Monotypes.{fill_term, fill_mono, next_filling, put_mono}
 use Rattle.substitution.specs.Substitution.{u_y_mono, u_bin, u_reduced, u_word, u_ret, r_var, b_ret, b_step}
 use Rattle.htt_typing.specs.Places.{plain_ty}
-use Rattle.htt_typing.specs.Contexts.{Obligation, en_term, en_heap, type_here, type_there, heap_here, forms_word}
+use Rattle.htt_typing.specs.Contexts.{count_of, Obligation, en_term, en_heap, type_here, type_there, heap_here, forms_word}
 use Rattle.htt_typing.specs.Typing.{in_formula, FormsFormula, Gives, FitsBody, FitsAll, forms_mono, forms_tt, forms_emp, forms_eq, forms_rec, forms_triple, fits_none, fits_more, gives_var, gives_val, gives_def, gives_word, gives_bool, gives_app, gives_inst, gives_bin, gives_fix, fits_given, header_param, header_body, fix_param, fix_body, fits_body, runs_ret, runs_step, moves_alloc, moves_get, moves_free, moves_run, moves_if, moves_claim, joined_step, joined_comp, joined_unit}
 use Rattle.htt_typing.specs.Laws.{none}
 use Rattle.htt_typing.specs.Examples.{file, returns_own, TheItems, TheBodies}
@@ -31,16 +31,16 @@ params_of (Some r) = r.params
 params_of None = []
 
 lacks_an_argument : (F : FormulaTree) → FormsFormula file (en_heap ∷ []) (f_rec 0 0 (t_word 5) no_terms) F → ⊥
-lacks_an_argument F (forms_rec e h n a) = no_arguments (ap params_of e) a
+lacks_an_argument F (forms_rec e h n l a) = no_arguments (ap params_of e) a
 
 no_second_predicate : (F : FormulaTree) → FormsFormula file (en_heap ∷ []) (f_rec 1 0 (t_word 5) no_terms) F → ⊥
-no_second_predicate F (forms_rec e h n a) = cc
+no_second_predicate F (forms_rec e h n l a) = cc
 
 no_heap_entry : (F : FormulaTree) → FormsFormula file (en_term (y_mono m_word) ∷ []) (f_emp 0) F → ⊥
 no_heap_entry F (forms_emp h) = elim h [ ]
 
 pub items : TheItems
-unfolding lift rename_mono rename_term skeleton contractum expansion closing fill_term fill_mono next_filling put_mono plain_ty
+unfolding lift rename_mono rename_term skeleton contractum expansion closing fill_term fill_mono next_filling put_mono plain_ty count_of
 items = record {
   value = gives_val refl;
   definition = gives_def refl;
@@ -48,7 +48,7 @@ items = record {
   applied = gives_app (gives_inst (gives_def refl) forms_word) (fits_given tt (gives_word (omega arith)) refl) u_y_mono (u_reduced (r_var refl));
   no_instance = no_instance_of_a_word;
   no_definition = no_second_definition;
-  atom = forms_rec refl heap_here (fits_given tt (gives_bin (fits_given tt (gives_word (omega arith)) refl) (fits_given tt (gives_word (omega arith)) refl)) refl) (fits_more (fits_given tt (gives_word (omega arith)) refl) fits_none);
+  atom = forms_rec refl heap_here (fits_given tt (gives_bin (fits_given tt (gives_word (omega arith)) refl) (fits_given tt (gives_word (omega arith)) refl)) refl) refl (fits_more (fits_given tt (gives_word (omega arith)) refl) fits_none);
   atom_without_argument = lacks_an_argument;
   no_predicate = no_second_predicate;
   no_heap = no_heap_entry;

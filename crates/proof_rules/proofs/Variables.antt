@@ -19,15 +19,15 @@ no_third_unfolding : (F : FormulaTree) → Infers env with_heap [] (p_unfold 0 2
 no_third_unfolding F d = elim d [ ]
 
 no_second_predicate : (F : FormulaTree) → Infers env with_heap [] (p_unfold 1 0 (a_heap 0 ∷ [])) F → ⊥
-no_second_predicate F (infers_at_zero e a p) = cc
+no_second_predicate F (infers_at_zero e s a p) = cc
 
 pub variables : TheVariables
 unfolding contractum closing rename_formula rename_mono lift lifts putting raised_term terms_of plain_formula expansion
 variables = record {
-  next_number = infers_at_next refl (fits_heap_arg (heap_there (heap_there heap_here)) (fits_term_arg (fits_given tt (gives_var (type_there type_here)) refl) (fits_term_arg (fits_given tt (gives_var type_here) refl) fits_no_args))) (put_term_first (u_f_rec (put 2) (u_more_terms (u_bin (kept 2 1 (λ e. omega (arith, e))) u_word) u_no_terms)) (put_term_first (u_f_rec (kept 1 3 (λ e. omega (arith, e))) (u_more_terms (u_bin (put 1) u_word) u_no_terms)) (put_heap_first put_none)));
-  first_number = infers_at_zero refl (fits_heap_arg (heap_there (heap_there heap_here)) (fits_term_arg (fits_given tt (gives_var type_here) refl) fits_no_args)) (put_term_first (u_f_eq (put 1) u_word) (put_heap_first put_none));
-  next_cell = infers_at_next refl (fits_heap_arg (heap_there (heap_there heap_here)) (fits_term_arg (fits_given tt (gives_var (type_there type_here)) refl) (fits_term_arg (fits_given tt (gives_var type_here) refl) fits_no_args))) (put_term_first (u_f_ex_t (u_f_ex_h (u_f_ex_h (u_f_and u_f_join (u_f_and (u_f_cell (kept 5 4 (λ e. omega (arith, e))) (kept 5 2 (λ e. omega (arith, e)))) (u_f_rec (put 5) (u_more_terms (u_snd (kept 5 2 (λ e. omega (arith, e)))) u_no_terms))))))) (put_term_first (u_f_ex_t (u_f_ex_h (u_f_ex_h (u_f_and u_f_join (u_f_and (u_f_cell (put 4) (kept 4 2 (λ e. omega (arith, e)))) (u_f_rec (kept 4 6 (λ e. omega (arith, e))) (u_more_terms (u_snd (kept 4 2 (λ e. omega (arith, e)))) u_no_terms))))))) (put_heap_first put_none)));
-  two_is_twice_one = proves_inferred (infers_app (infers_second (infers_app (infers_at_next refl (fits_heap_arg heap_here (fits_term_arg (fits_given tt (gives_word (omega arith)) refl) (fits_term_arg (fits_given tt (gives_word (omega arith)) refl) fits_no_args))) (put_term_first (u_f_rec (put 2) (u_more_terms (u_bin (kept 2 1 (λ e. omega (arith, e))) u_word) u_no_terms)) (put_term_first (u_f_rec u_word (u_more_terms (u_bin (put 1) u_word) u_no_terms)) (put_heap_first put_none)))) (proves_refl_term refl))) (proves_inferred (infers_app (infers_second (infers_at_zero refl (fits_heap_arg heap_here (fits_term_arg (fits_given tt (gives_word (omega arith)) refl) fits_no_args)) (put_term_first (u_f_eq (put 1) u_word) (put_heap_first put_none)))) (proves_refl_term refl)) refl)) refl;
+  next_number = infers_at_next refl refl (fits_heap_arg (heap_there (heap_there heap_here)) (fits_term_arg (fits_given tt (gives_var (type_there type_here)) refl) (fits_term_arg (fits_given tt (gives_var type_here) refl) fits_no_args))) (put_term_first (u_f_rec (put 2) (u_more_terms (u_bin (kept 2 1 (λ e. omega (arith, e))) u_word) u_no_terms)) (put_term_first (u_f_rec (kept 1 3 (λ e. omega (arith, e))) (u_more_terms (u_bin (put 1) u_word) u_no_terms)) (put_heap_first put_none)));
+  first_number = infers_at_zero refl refl (fits_heap_arg (heap_there (heap_there heap_here)) (fits_term_arg (fits_given tt (gives_var type_here) refl) fits_no_args)) (put_term_first (u_f_eq (put 1) u_word) (put_heap_first put_none));
+  next_cell = infers_at_next refl refl (fits_heap_arg (heap_there (heap_there heap_here)) (fits_term_arg (fits_given tt (gives_var (type_there type_here)) refl) (fits_term_arg (fits_given tt (gives_var type_here) refl) fits_no_args))) (put_term_first (u_f_ex_t (u_f_ex_h (u_f_ex_h (u_f_and u_f_join (u_f_and (u_f_cell (kept 5 4 (λ e. omega (arith, e))) (kept 5 2 (λ e. omega (arith, e)))) (u_f_rec (put 5) (u_more_terms (u_snd (kept 5 2 (λ e. omega (arith, e)))) u_no_terms))))))) (put_term_first (u_f_ex_t (u_f_ex_h (u_f_ex_h (u_f_and u_f_join (u_f_and (u_f_cell (put 4) (kept 4 2 (λ e. omega (arith, e)))) (u_f_rec (kept 4 6 (λ e. omega (arith, e))) (u_more_terms (u_snd (kept 4 2 (λ e. omega (arith, e)))) u_no_terms))))))) (put_heap_first put_none)));
+  two_is_twice_one = proves_inferred (infers_app (infers_second (infers_app (infers_at_next refl refl (fits_heap_arg heap_here (fits_term_arg (fits_given tt (gives_word (omega arith)) refl) (fits_term_arg (fits_given tt (gives_word (omega arith)) refl) fits_no_args))) (put_term_first (u_f_rec (put 2) (u_more_terms (u_bin (kept 2 1 (λ e. omega (arith, e))) u_word) u_no_terms)) (put_term_first (u_f_rec u_word (u_more_terms (u_bin (put 1) u_word) u_no_terms)) (put_heap_first put_none)))) (proves_refl_term refl))) (proves_inferred (infers_app (infers_second (infers_at_zero refl refl (fits_heap_arg heap_here (fits_term_arg (fits_given tt (gives_word (omega arith)) refl) fits_no_args)) (put_term_first (u_f_eq (put 1) u_word) (put_heap_first put_none)))) (proves_refl_term refl)) refl)) refl;
   no_third_unfolding = no_third_unfolding;
   no_predicate = no_second_predicate;
   other_variable = proves_induct (forms_eq forms_word (fits_given tt (gives_bin (fits_given tt (gives_var type_here) refl) (fits_given tt (gives_var (type_there type_here)) refl)) refl) (fits_given tt (gives_bin (fits_given tt (gives_var type_here) refl) (fits_given tt (gives_var (type_there type_here)) refl)) refl)) (fits_given tt (gives_var (type_there type_here)) refl) (u_f_eq (u_bin (put 0) (kept 0 1 (λ e. omega (arith, e)))) (u_bin (put 0) (kept 0 1 (λ e. omega (arith, e))))) refl (u_f_eq (u_bin (put 0) (kept 0 1 (λ e. omega (arith, e)))) (u_bin (put 0) (kept 0 1 (λ e. omega (arith, e))))) (proves_refl_term refl) (u_f_eq (u_bin (put 0) (kept 0 2 (λ e. omega (arith, e)))) (u_bin (put 0) (kept 0 2 (λ e. omega (arith, e))))) (proves_refl_term refl);
