@@ -1,5 +1,5 @@
 -- The laws of states.
-use Rattle.std.specs.Prelude.{ℕ, suc, ◌≡◌, List, [], ◌∷◌, true, false, Option, Some, None}
+use Rattle.std.specs.Prelude.{ℕ, suc, ◌≡◌, List, [], ◌∷◌, Bool, true, false, Option, Some, None}
 use Rattle.htt_syntax.specs.declared.mono.Op.TheVariants.{Add}
 use Rattle.htt_syntax.specs.Trees.{MonoTree, TripleTree, TermTree, FormulaTree, m_word, m_bool, m_loc, m_unit, m_pair, m_var, triple, t_var, t_word, t_bool, t_pair, t_bin, f_tt, f_and, f_or, f_imp, f_ex_t, f_all_h, f_ex_h, f_emp, f_cell, f_block, f_join, f_same, f_eq}
 use Rattle.htt_renaming.specs.Scoped.{ScopedMono, ScopedTriple, ScopedTerm, ScopedFormula}
@@ -22,6 +22,9 @@ pub record StatesKeepScope : Type 0 where
   pub starts : (n : ℕ) (P : FormulaTree) → ScopedFormula (suc n) P → ScopedFormula (suc (suc n)) (start P)
   pub owes : (n : ℕ) (step : Move) (R : FormulaTree) → ScopedMove n step → ScopedFormula (suc (suc n)) R → ScopedOwed (suc (suc n)) (owed step R)
   pub goes_on : (n : ℕ) (step : Move) (R : FormulaTree) → ScopedMove n step → ScopedFormula (suc (suc n)) R → ScopedFormula (suc (suc (suc n))) (after step R)
+  pub branches : (n : ℕ) (R : FormulaTree) (M : TermTree) (side : Bool) → ScopedFormula (suc (suc n)) R → ScopedTerm n M → ScopedFormula (suc (suc n)) (branch R M side)
+  pub merges : (n : ℕ) (on_true on_false : FormulaTree) → ScopedFormula n on_true → ScopedFormula n on_false → ScopedFormula n (merge on_true on_false)
+  pub lasts : (n : ℕ) (S Q : FormulaTree) → ScopedFormula n S → ScopedFormula n Q → ScopedFormula n (last S Q)
 
 -- each monotype stands under those before it
 abbrev pub ScopedRow : ℕ → List MonoTree → Type 0
