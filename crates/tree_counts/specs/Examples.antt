@@ -1,9 +1,24 @@
 -- Counts that were worked out by hand.
-use Rattle.std.specs.Prelude.{◌≡◌, [], ◌∷◌, true, Some}
+use Rattle.std.specs.Prelude.{◌≡◌, ℕ, zero, suc, [], ◌∷◌, true, Some}
 use Rattle.htt_syntax.specs.declared.mono.Op.TheVariants.{Add}
-use Rattle.htt_syntax.specs.Trees.{m_word, m_bool, m_pair, y_mono, y_fun, y_hoare, triple, t_var, t_app, t_do, t_fix, t_word, t_bool, t_bin, t_ann, t_made, t_at, x_param, x_body, c_ret, c_step, s_run, s_alloc, s_if, f_tt, f_and, f_ex_h, f_emp, f_join, f_at, f_rec, no_terms, more_terms, a_heap, a_term, p_hyp, p_second, p_axiom, p_block, p_at, d_intro, d_at, b_then, b_end}
+use Rattle.htt_syntax.specs.Trees.{MonoTree, CompTree, FormulaTree, m_word, m_bool, m_pair, y_mono, y_fun, y_hoare, triple, t_var, t_app, t_do, t_fix, t_word, t_bool, t_loc, t_unit, t_bin, t_ann, t_made, t_at, x_param, x_body, c_ret, c_step, s_run, s_alloc, s_if, s_claim, f_tt, f_and, f_imp, f_ex_h, f_emp, f_cell, f_join, f_same, f_at, f_rec, no_terms, more_terms, a_heap, a_term, p_hyp, p_second, p_axiom, p_block, p_at, d_intro, d_at, b_then, b_end}
 use Rattle.tree_counts.specs.Nodes.{nodes_mono, nodes_ty, nodes_term, nodes_comp, nodes_formula, nodes_proof}
 use Rattle.tree_counts.specs.Depth.{depth_mono, depth_ty, depth_term, depth_comp, depth_formula, depth_proof}
+
+-- a monotype paired with itself, and that pair with itself, so many times
+abbrev pub doubled : ℕ → MonoTree
+doubled zero = m_word
+doubled (suc k) = m_pair (doubled k) (doubled k)
+
+-- so many steps that claim tt
+abbrev pub claims : ℕ → CompTree
+claims zero = c_ret t_unit
+claims (suc k) = c_step (s_claim f_tt) (claims k)
+
+-- a star of one cell more than so many, nested to the right
+abbrev pub cells : ℕ → FormulaTree
+cells zero = f_cell m_word 0 (t_loc 5) (t_word 7)
+cells (suc k) = f_ex_h (f_ex_h (f_and (f_join 2 1 0) (f_and (f_cell m_word 0 (t_loc 5) (t_word 7)) (cells k))))
 
 pub record WorkedCounts : Type 0 where
   -- word * (bool * word)
@@ -42,3 +57,13 @@ pub record WorkedCounts : Type 0 where
   -- axiom cell_block[word](@h, 5, 7), without its name: itself, a monotype, a heap, and two terms with their own node
   pub axiom_proof : nodes_proof (p_axiom [] (m_word ∷ []) (a_heap 0 ∷ a_term (t_word 5) ∷ a_term (t_word 7) ∷ [])) ≡ 7
   pub axiom_proof_depth : depth_proof (p_axiom [] (m_word ∷ []) (a_heap 0 ∷ a_term (t_word 5) ∷ a_term (t_word 7) ∷ [])) ≡ 3
+  pub five_times : nodes_mono (doubled 5) ≡ 63
+  pub six_times : nodes_mono (doubled 6) ≡ 127
+  pub six_times_depth : depth_mono (doubled 6) ≡ 7
+  -- each claim is two nodes, and the computation with its result two; a long one isn't deep
+  pub forty_claims : nodes_comp (claims 40) ≡ 82
+  pub forty_claims_depth : depth_comp (claims 40) ≡ 3
+  -- a star of n cells is 4 n - 2 deep, and 4 n with `=>` and `Same`
+  pub sixteen_cells : nodes_formula (cells 15) ≡ 139
+  pub sixteen_cells_depth : depth_formula (cells 15) ≡ 62
+  pub implied_depth : depth_formula (f_imp (f_and (cells 15) (f_same 0 1)) (cells 15)) ≡ 64
