@@ -1,0 +1,5 @@
+pub mod HeadsDenote
+pub mod FirstOrder
+pub mod Classical
+pub mod StepsAgree
+pub mod Examples

@@ -1,0 +1,3 @@
+pub mod Relating
+pub mod Files
+pub mod Laws

@@ -1,0 +1,4 @@
+pub mod Results
+pub mod Placing
+pub mod Terms
+pub mod Formulas

@@ -1,0 +1,4 @@
+pub mod Reindexed
+pub mod Stable
+pub mod Recursions
+pub mod Given
