@@ -1,11 +1,11 @@
 -- Folding keeps values, whatever the operands are.
-use Rattle.std.proofs.Common.{◌≡◌, ℕ, Option, Some, None, refl, sym, ap}
-use Rattle.std.specs.Prelude.{Bool, true, false}
+use Rattle.std.proofs.Common.{◌≡◌, ℕ, refl}
+use Rattle.std.specs.Prelude.{true, false}
 use Rattle.htt_syntax.specs.declared.mono.Op.{Op}
 use Rattle.htt_syntax.specs.declared.mono.Op.TheVariants.{Add, Sub, Mul, And, Or, Xor, Shl, Shr, Lt}
-use Rattle.htt_syntax.specs.Trees.{MonoTree, TermTree, m_word, m_bool, m_loc, t_word, t_bool, t_loc, t_pair, t_fst, t_snd, t_not, t_bin, t_eq, t_sel}
+use Rattle.htt_syntax.specs.Trees.{m_word, m_bool, m_loc, t_word, t_bool, t_loc, t_pair, t_fst, t_snd, t_not, t_bin, t_eq, t_sel}
 use Rattle.htt_values.specs.Values.{op_value}
-use Rattle.canonical_trees.specs.Folding.{literal, op_literal, contractum, or_itself, folding}
+use Rattle.canonical_trees.specs.Folding.{op_literal, contractum}
 use Rattle.htt_truth.specs.Worlds.{World}
 use Rattle.htt_truth.specs.TermValue.{term_value}
 use Rattle.term_values.specs.Laws.{FoldingKeepsValues}

@@ -1,6 +1,6 @@
 -- Positions say nothing.
-use Rattle.std.proofs.Common.{◌≡◌, ℕ, ◌∷◌, length, refl, sym, ap, ◌∙◌, subst, ◌⊎◌, ◌↔◌}
-use Rattle.htt_syntax.specs.Trees.{MonoTree, TermTree, FormulaTree, TermTrees, t_var, t_val, t_def, t_app, t_inst, t_lam, t_lam_t, t_do, t_fix, t_word, t_bool, t_loc, t_unit, t_pair, t_fst, t_snd, t_not, t_bin, t_eq, t_sel, t_ann, t_made, t_at, f_tt, f_ff, f_and, f_or, f_imp, f_all_t, f_ex_t, f_all_h, f_ex_h, f_emp, f_cell, f_block, f_join, f_same, f_eq, f_at, f_rec, no_terms, more_terms}
+use Rattle.std.proofs.Common.{◌≡◌, ◌∷◌, length, refl, sym, ap, ◌∙◌, subst, ◌⊎◌, ◌↔◌}
+use Rattle.htt_syntax.specs.Trees.{TermTree, FormulaTree, TermTrees, t_var, t_val, t_def, t_app, t_inst, t_lam, t_lam_t, t_do, t_fix, t_word, t_bool, t_loc, t_unit, t_pair, t_fst, t_snd, t_not, t_bin, t_eq, t_sel, t_ann, t_made, t_at, f_tt, f_ff, f_and, f_or, f_imp, f_all_t, f_ex_t, f_all_h, f_ex_h, f_emp, f_cell, f_block, f_join, f_same, f_eq, f_at, f_rec, no_terms, more_terms}
 use Rattle.htt_values.specs.Values.{Value, v_pair, HasType, encoding, width, value_of_op, value_of_not, value_of_eq, value_of_sel, value_of_fst, value_of_snd}
 use Rattle.htt_values.specs.Heaps.{Block, Heap, IsHeap, IsOnly}
 use Rattle.htt_truth.specs.Worlds.{World, th_value, th_heap, heap_at, mono_under}
