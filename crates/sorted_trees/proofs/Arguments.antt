@@ -10,7 +10,7 @@ use Rattle.sorted_trees.proofs.Substituted.{closes_next, formula_put}
 use Rattle.sorted_trees.specs.Laws.{ArgumentsKeepSorts}
 
 -- The second has so many entries more, in front.
-data Above : ℕ → Sorts → Sorts → Type 0 where
+pub data Above : ℕ → Sorts → Sorts → Type 0 where
   above_none : {g : Sorts} → Above zero g g
   above_more : {k : ℕ} {g h : Sorts} (s : Sort) → Above k g h → Above (suc k) g (s ∷ h)
 
@@ -18,11 +18,11 @@ one_more : {k : ℕ} {s : Sort} {g h : Sorts} → Above k (s ∷ g) h → Above 
 one_more {s = s} above_none = above_more s above_none
 one_more (above_more t a) = above_more t (one_more a)
 
-above_args : (arguments : List ArgTree) (g : Sorts) → Above (length arguments) g (under_args arguments g)
+pub above_args : (arguments : List ArgTree) (g : Sorts) → Above (length arguments) g (under_args arguments g)
 above_args [] g = above_none
 above_args (argument ∷ others) g = one_more (above_args others (sort_of_arg argument ∷ g))
 
-raised_sorted : {k : ℕ} {g h : Sorts} → Above k g h → (M : TermTree) → SortedTerm g M → SortedTerm h (raised_term k M)
+pub raised_sorted : {k : ℕ} {g h : Sorts} → Above k g h → (M : TermTree) → SortedTerm g M → SortedTerm h (raised_term k M)
 unfolding raised_term
 raised_sorted above_none M d = d
 raised_sorted (above_more {k = k} {h = h} s a) M d = term_sorted (keeps_suc s h) (raised_term k M) (raised_sorted a M d)
@@ -43,7 +43,7 @@ closes_first s g = record { here = refl; others = go }
     go (suc n) t e p = p
 
 -- the outermost of the arguments' entries
-closes_outermost : (arguments : List ArgTree) (s : Sort) (g : Sorts) → ClosesSort (length arguments) s (under_args arguments (s ∷ g)) (under_args arguments g)
+pub closes_outermost : (arguments : List ArgTree) (s : Sort) (g : Sorts) → ClosesSort (length arguments) s (under_args arguments (s ∷ g)) (under_args arguments g)
 closes_outermost arguments s g = let e : zero + length arguments ≡ length arguments = omega arith in subst (λ n. ClosesSort n s (under_args arguments (s ∷ g)) (under_args arguments g)) e (closes_args arguments zero s (s ∷ g) g (closes_first s g))
 
 pub lifts_inside : (n : ℕ) (m : Map) → lifts n (lift m) ≡ lift (lifts n m)
@@ -51,7 +51,7 @@ unfolding lifts
 lifts_inside zero m = refl
 lifts_inside (suc n) m = ap lift (lifts_inside n m)
 
-keeps_args : (arguments : List ArgTree) (m : Map) (g h : Sorts) → KeepsSorts m g h → KeepsSorts (lifts (length arguments) m) (under_args arguments g) (under_args arguments h)
+pub keeps_args : (arguments : List ArgTree) (m : Map) (g h : Sorts) → KeepsSorts m g h → KeepsSorts (lifts (length arguments) m) (under_args arguments g) (under_args arguments h)
 unfolding lifts
 keeps_args [] m g h k = k
 keeps_args (argument ∷ others) m g h k =
