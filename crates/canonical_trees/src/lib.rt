@@ -2,7 +2,7 @@
 //! canonical, with their laws. A function without a body states laws by its contract.
 #![tactic(auto)]
 
-ghost use Rattle.canonical_trees.specs.Examples.{TheCanonical, TheExpansions, TheFoldings, TheSkeletons, NoFoldings};
+ghost use Rattle.canonical_trees.specs.Examples.{TheCanonical, TheComputations, TheExpansions, TheFoldings, TheFormulas, TheSkeletons, NoFoldings};
 ghost use Rattle.canonical_trees.specs.Laws.{EtaIsCanonical, NeutralHasOneSkeleton, RenamedComputation, RenamedFormula, RenamedSkeleton, RenamedTerm, RenamedType};
 
 /// The eta-expansion of a neutral term at a canonical type is canonical.
@@ -35,4 +35,6 @@ pub fn examples_of_canonical_trees()
     ensures no_foldings { NoFoldings }
     ensures expansions { TheExpansions }
     ensures canonical { TheCanonical }
+    ensures computations { TheComputations }
+    ensures formulas { TheFormulas }
 {}

@@ -39,4 +39,14 @@ worked = record {
   lacks_an_argument = refl;
   too_many_arguments = refl;
   three_choices = refl;
+  chosen_by_a_literal = refl;
+  no_choice_by_a_word = refl;
+  first_part_tells = refl;
+  second_part_tells = refl;
+  repeated_twice = refl;
+  repeated_lacks_fuel = refl;
+  blocks_differ = refl;
+  location_is_taken = refl;
+  pair_is_read = refl;
+  first_step_tells = refl;
 }

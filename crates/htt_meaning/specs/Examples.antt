@@ -1,7 +1,7 @@
 -- Evaluations and runs that were worked out by hand.
 use Rattle.std.specs.Prelude.{◌≡◌, ℕ, List, [], ◌∷◌, true, false, None}
 use Rattle.htt_syntax.specs.declared.mono.Op.TheVariants.{Add, Sub}
-use Rattle.htt_syntax.specs.Trees.{TermTree, FixTree, CompTree, StepTree, y_mono, triple, f_tt, f_ff, m_word, m_bool, m_loc, m_pair, m_var, t_var, t_val, t_def, t_app, t_inst, t_lam, t_lam_t, t_do, t_fix, t_word, t_bool, t_loc, t_pair, t_fst, t_bin, t_eq, t_sel, t_ann, t_at, x_param, x_body, c_ret, c_step, s_run, s_alloc, s_get, s_set, s_free, s_if, s_claim}
+use Rattle.htt_syntax.specs.Trees.{TermTree, FixTree, CompTree, StepTree, y_mono, y_fun, triple, f_tt, f_ff, m_word, m_bool, m_loc, m_unit, m_pair, m_var, t_var, t_val, t_def, t_app, t_inst, t_lam, t_lam_t, t_do, t_fix, t_word, t_bool, t_loc, t_unit, t_pair, t_fst, t_bin, t_eq, t_sel, t_ann, t_at, x_param, x_body, c_ret, c_step, s_run, s_alloc, s_get, s_set, s_free, s_if, s_claim}
 use Rattle.htt_values.specs.Values.{v_word, v_bool, v_unit, v_pair}
 use Rattle.htt_values.specs.Heaps.{Heap, empty_heap, single_block, with_block, without_block}
 use Rattle.htt_meaning.specs.Closures.{base, do_of, nothing, PureResult, gives, lacks_fuel, faults, RunResult, done, no_fuel, asks, fault, Items}
@@ -33,6 +33,14 @@ both = x_param (y_mono m_word) (x_param (y_mono m_word) (x_body (triple f_tt m_w
 -- l <- alloc[word] 7; x <- get[word] l; _ <- set[word] l x + 1; y <- get[word] l; _ <- free[word] l; ret y
 abbrev pub one_cell : CompTree
 one_cell = c_step (s_alloc m_word (t_word 7)) (c_step (s_get m_word (t_var 0)) (c_step (s_set m_word (t_var 1) (t_bin Add (t_var 0) (t_word 1))) (c_step (s_get m_word (t_var 2)) (c_step (s_free m_word (t_var 3)) (c_ret (t_var 1))))))
+
+-- fix f (h : (x : word) -> word) (n : word) . b <- if n is 0 { ret 0 } { y <- f h (n - 1); ret h y }; ret b
+abbrev pub repeated : FixTree
+repeated = x_param (y_fun (y_mono m_word) (y_mono m_word)) (x_param (y_mono m_word) (x_body (triple f_tt m_word f_tt) (only (s_if m_word (t_eq m_word (t_var 1) (t_word 0)) (c_ret (t_word 0)) (c_step (s_run (t_app (t_app (t_var 0) (t_var 2)) (t_bin Sub (t_var 1) (t_word 1))) None) (c_ret (t_app (t_var 3) (t_var 0))))))))
+
+-- l <- alloc[unit] (); k <- alloc[unit] (); ret eq[loc](l, k)
+abbrev pub two_empty_blocks : CompTree
+two_empty_blocks = c_step (s_alloc m_unit t_unit) (c_step (s_alloc m_unit t_unit) (c_ret (t_eq m_loc (t_var 1) (t_var 0))))
 
 pub record WorkedExamples : Type 0 where
   pub sum_takes_no_fuel : value 0 (t_bin Add (t_word 1) (t_word 2)) ≡ gives (base (v_word 3))
@@ -71,3 +79,18 @@ pub record WorkedExamples : Type 0 where
   pub lacks_an_argument : ends 1 (only (s_run (t_app (t_fix 9 both) (t_word 3)) None)) empty_heap [] ≡ fault
   pub too_many_arguments : value 5 (t_app (t_app (t_fix 9 count_down) (t_word 3)) (t_word 4)) ≡ faults
   pub three_choices : numbers_from 6 3 ≡ 6 ∷ 7 ∷ 8 ∷ []
+  -- the test of a choice may be a literal
+  pub chosen_by_a_literal : value 0 (t_sel m_word (t_bool false) (t_word 1) (t_word 2)) ≡ gives (base (v_word 2))
+  pub no_choice_by_a_word : value 0 (t_sel m_word (t_word 0) (t_word 1) (t_word 2)) ≡ faults
+  -- the first part that gives no value tells the result: want of fuel, and then a fault
+  pub first_part_tells : value 0 (t_pair (t_app (t_lam (t_var 0)) (t_word 2)) (t_fst (t_word 2))) ≡ lacks_fuel
+  pub second_part_tells : value 0 (t_pair (t_word 1) (t_fst (t_word 2))) ≡ faults
+  -- twice 2 is added, by a function that is handed on: it needs fuel 3
+  pub repeated_twice : ends 3 (only (s_run (t_app (t_app (t_fix 9 repeated) (t_lam (t_bin Add (t_var 0) (t_word 2)))) (t_word 2)) None)) empty_heap [] ≡ done (base (v_word 4)) empty_heap []
+  pub repeated_lacks_fuel : ends 2 (only (s_run (t_app (t_app (t_fix 9 repeated) (t_lam (t_bin Add (t_var 0) (t_word 2)))) (t_word 2)) None)) empty_heap [] ≡ no_fuel
+  pub blocks_differ : ends 0 two_empty_blocks empty_heap (1 ∷ 2 ∷ []) ≡ done (base (v_bool false)) (with_block (single_block 1 []) 2 []) []
+  -- the second allocation may not take the location of the first
+  pub location_is_taken : ends 0 two_empty_blocks empty_heap (1 ∷ 1 ∷ []) ≡ asks
+  pub pair_is_read : ends 0 (only (s_get (m_pair m_word m_bool) (t_loc 5))) (single_block 5 (4 ∷ 1 ∷ [])) [] ≡ done (base (v_pair (v_word 4) (v_bool true))) (single_block 5 (4 ∷ 1 ∷ [])) []
+  -- a step that isn't done ends the run, whatever follows
+  pub first_step_tells : ends 0 (c_step (s_get m_word (t_loc 6)) (only (s_alloc m_word (t_word 1)))) empty_heap [] ≡ fault

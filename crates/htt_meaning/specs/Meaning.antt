@@ -4,6 +4,7 @@
 use Rattle.std.specs.Prelude.{ℕ, zero, suc, List, [], ◌∷◌, length, Bool, true, false, Option, Some, None, is_none, nat_eq, slice_get, if◌then◌else◌}
 use Rattle.htt_syntax.specs.Trees.{MonoTree, TermTree, CompTree, StepTree, t_var, t_val, t_def, t_app, t_inst, t_lam, t_lam_t, t_do, t_fix, t_word, t_bool, t_loc, t_unit, t_pair, t_fst, t_snd, t_not, t_bin, t_eq, t_sel, t_ann, t_made, t_at, x_param, x_body, c_ret, c_step, s_run, s_alloc, s_get, s_set, s_free, s_if, s_claim}
 use Rattle.htt_values.specs.Values.{Value, v_word, v_bool, v_loc, v_unit, v_pair, width, encoding, value_of_words, value_of_op, value_of_not, value_of_eq, value_of_sel, value_of_fst, value_of_snd}
+pub use Rattle.htt_values.specs.Heaps.{is_fresh}
 use Rattle.htt_values.specs.Heaps.{Heap, Block, with_block, without_block}
 use Rattle.htt_meaning.specs.Closures.{RunValue, base, fun_of, all_of, do_of, fix_of, Env, nothing, with_mono, with_value, PureResult, gives, lacks_fuel, faults, RunResult, done, no_fuel, asks, fault, Items, value_entry, closed_mono}
 
@@ -109,10 +110,6 @@ abbrev pub start_result : Runner → RunValue → Heap → List ℕ → RunResul
 start_result runner (do_of e comp) h cs = runner e comp h cs
 start_result runner (fix_of own whole e (x_body spec comp)) h cs = runner (with_value (fix_of own whole own whole) e) comp h cs
 start_result runner _ h cs = fault
-
-abbrev pub is_fresh : Heap → ℕ → Bool
-is_fresh h zero = false
-is_fresh h (suc l) = is_none (h (suc l))
 
 -- The first choice is the location. Without one, and at 0 or a location in use, the run asks.
 abbrev pub alloc_result : RunValue → Heap → List ℕ → RunResult

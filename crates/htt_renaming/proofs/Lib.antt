@@ -1,3 +1,4 @@
 pub mod Identity
 pub mod Composition
 pub mod Scoping
+pub mod Shifts

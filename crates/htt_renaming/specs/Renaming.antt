@@ -1,5 +1,5 @@
 -- Renaming: each free variable is replaced by the variable that a map gives for it.
-use Rattle.std.specs.Prelude.{ℕ, zero, suc, map, option_map}
+use Rattle.std.specs.Prelude.{ℕ, zero, suc, ◌+◌, map, option_map}
 use Rattle.htt_syntax.specs.Trees.{MonoTree, TyTree, TripleTree, TermTree, FixTree, CompTree, StepTree, FormulaTree, TermTrees, ArgTree, ProofTree, StmtTree, BlockTree, binders_of, m_word, m_bool, m_loc, m_unit, m_pair, m_var, y_mono, y_fun, y_all, y_hoare, y_at, triple, t_var, t_val, t_def, t_app, t_inst, t_lam, t_lam_t, t_do, t_fix, t_word, t_bool, t_loc, t_unit, t_pair, t_fst, t_snd, t_not, t_bin, t_eq, t_sel, t_ann, t_made, t_at, x_param, x_body, c_ret, c_step, s_run, s_alloc, s_get, s_set, s_free, s_if, s_claim, f_tt, f_ff, f_and, f_or, f_imp, f_all_t, f_ex_t, f_all_h, f_ex_h, f_emp, f_cell, f_block, f_join, f_same, f_eq, f_at, f_rec, no_terms, more_terms, a_heap, a_term, p_hyp, p_trivial, p_refl, p_first, p_second, p_left, p_right, p_absurd, p_both, p_give, p_app, p_inst, p_case, p_rewrite, p_induct, p_split, p_axiom, p_lem, p_the, p_block, p_at, p_unfold, d_intro, d_gen, d_have, d_open, d_at, b_then, b_end}
 
 -- What each index becomes.
@@ -15,6 +15,10 @@ lift m (suc n) = suc (m n)
 unfoldable pub lifts : ℕ → Map → Map
 lifts zero m = m
 lifts (suc n) m = lift (lifts n m)
+
+-- A shift: the variables from this place on go past so many more.
+abbrev pub shifting : ℕ → ℕ → Map
+shifting from by = lifts from (λ n. n + by)
 
 unfoldable pub rename_mono : Map → MonoTree → MonoTree
 rename_mono m m_word = m_word

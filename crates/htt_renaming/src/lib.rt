@@ -2,7 +2,7 @@
 //! its contract.
 #![tactic(auto)]
 
-ghost use Rattle.htt_renaming.specs.Laws.{IdentityKeeps, RenamingsCompose, RenamingKeepsScope};
+ghost use Rattle.htt_renaming.specs.Laws.{IdentityKeeps, RenamingsCompose, RenamingKeepsScope, WhatAShiftIs};
 
 /// Renaming by the identity gives the tree itself.
 pub fn identity_keeps()
@@ -17,4 +17,10 @@ pub fn renamings_compose()
 /// Renaming keeps a tree in scope.
 pub fn renaming_keeps_scope()
     ensures law { RenamingKeepsScope }
+{}
+
+/// A shift lets the variables below its place stay, and lets the others go past so many more; two shifts
+/// at one place add up.
+pub fn what_a_shift_is()
+    ensures { WhatAShiftIs }
 {}

@@ -1,10 +1,10 @@
 -- States keep in scope.
-use Rattle.std.proofs.Common.{ℕ, zero, suc, ◌<◌, arith}
+use Rattle.std.proofs.Common.{ℕ, zero, suc, ◌<◌, Bool, arith}
 use Rattle.htt_syntax.specs.Trees.{MonoTree, TermTree, FormulaTree, triple}
 use Rattle.htt_renaming.specs.Renaming.{rename_mono, rename_term, rename_formula}
-use Rattle.htt_renaming.specs.Scoped.{ScopedMono, ScopedTerm, ScopedFormula, in_triple, in_t_var, in_f_and, in_f_imp, in_f_ex_t, in_f_ex_h, in_f_all_h, in_f_cell, in_f_block, in_f_join, in_f_same}
+use Rattle.htt_renaming.specs.Scoped.{ScopedMono, ScopedTerm, ScopedFormula, in_triple, in_t_var, in_f_and, in_f_imp, in_f_ex_t, in_f_ex_h, in_f_all_h, in_f_cell, in_f_block, in_f_join, in_f_same, in_f_or, in_f_eq, in_t_bool, in_m_bool}
 use Rattle.htt_renaming.proofs.Scoping.{Sends, mono_scoped, term_scoped, formula_scoped}
-use Rattle.htt_states.specs.States.{past, at_heaps, at_heap, at_result, Move, move_alloc, move_get, move_set, move_free, move_run, move_claim, start, owes_block, owed, after}
+use Rattle.htt_states.specs.States.{past, at_heaps, at_heap, at_result, Move, move_alloc, move_get, move_set, move_free, move_run, move_claim, start, owes_block, owed, after, branch, merge, last}
 use Rattle.htt_states.specs.Laws.{ScopedMove, ScopedOwed}
 
 -- where each map sends the variables of a context
@@ -72,3 +72,15 @@ after_scoped n (move_set t M N) R s h = in_f_ex_h (in_f_ex_h (in_f_ex_h (in_f_ex
 after_scoped n (move_free t M) R s h = in_f_ex_h (in_f_ex_h (in_f_and (state_at 1 3 5 (omega arith) (omega arith) h) (in_f_and (in_f_block (mono_past 5 s.0) (omega arith) (term_past 5 s.1)) (in_f_join (omega arith) (omega arith) (omega arith)))))
 after_scoped n (move_run (triple P t Q)) R (in_triple hp ht hq) h = in_f_ex_h (in_f_and (state_at 0 2 4 (omega arith) (omega arith) h) (in_f_all_h (in_f_all_h (in_f_imp (in_f_and (in_f_join (omega arith) (omega arith) (omega arith)) (pre_at 1 6 (omega arith) hp)) (in_f_ex_h (in_f_and (in_f_join (omega arith) (omega arith) (omega arith)) (post_at 2 0 6 7 (omega arith) (omega arith) (omega arith) hq)))))))
 after_scoped n (move_claim F) R s h = state_at 0 1 3 (omega arith) (omega arith) s
+
+pub branch_scoped : (n : ℕ) (R : FormulaTree) (M : TermTree) (side : Bool) → ScopedFormula (suc (suc n)) R → ScopedTerm n M → ScopedFormula (suc (suc n)) (branch R M side)
+unfolding past branch
+branch_scoped n R M side h m = in_f_and h (in_f_eq in_m_bool (term_past 2 m) in_t_bool)
+
+pub merge_scoped : (n : ℕ) (F G : FormulaTree) → ScopedFormula n F → ScopedFormula n G → ScopedFormula n (merge F G)
+unfolding merge
+merge_scoped n F G d e = in_f_or d e
+
+pub last_scoped : (n : ℕ) (S Q : FormulaTree) → ScopedFormula n S → ScopedFormula n Q → ScopedFormula n (last S Q)
+unfolding last
+last_scoped n S Q d e = in_f_imp d e

@@ -2,9 +2,10 @@
 use Rattle.std.proofs.Common.{◌≡◌, ℕ, List, [], ◌∷◌, Some, None, refl, sym, ap, ◌∙◌, subst, arith}
 use Rattle.std.specs.Prelude.{Bool, true, false, nat_eq, if◌then◌else◌}
 use Rattle.std.proofs.lemmas.Bool.Decides.{nat_tests}
-use Rattle.htt_values.specs.Values.{Value, v_word, v_unit, is_word, is_unit}
+use Rattle.std.proofs.lemmas.List.Elements.{All-nil, All-cons}
+use Rattle.htt_values.specs.Values.{Value, IsWord, v_word, v_unit, is_word, is_unit}
 use Rattle.htt_values.specs.Heaps.{Heap, Block, IsHeap, empty_heap, single_block, with_block, Joins, IsJoin}
-use Rattle.htt_values.proofs.Joins.{single_is_only, join_of_empty, join_is_one}
+use Rattle.htt_values.proofs.Joins.{single_is_only, only_is_heap, join_of_empty, join_is_one}
 use Rattle.htt_syntax.specs.Trees.{m_word, t_var, t_word, f_eq}
 use Rattle.htt_truth.specs.Worlds.{th_value, th_heap}
 use Rattle.htt_truth.specs.Predicates.{recs_below}
@@ -32,6 +33,7 @@ five k = record {
   no_fault = λ whole i j p e. no_fault_at_end e;
   ends_so = λ whole i j p v g rest e. record {
     own = empty_heap;
+    own_is_heap = empty_is_heap;
     parts = record { each = λ l. ap (λ (h : Heap). h l) (sym (heap_of_end e)) ∙ j.each l };
     value = v_word 5;
     is_value = sym (value_of_end e);
@@ -83,12 +85,16 @@ whole_is whole j = λ i l. (join_is_one j two_cells_are).each l i
 ends_at : (whole : Heap) → IsJoin whole (single_block 5 (7 ∷ [])) (single_block 6 (1 ∷ [])) → run_of_val file 1 1 [] whole ≡ done (base v_unit) (with_block two_cells 5 (8 ∷ [])) []
 ends_at whole j = ap (run_of_val file 1 1 []) (whole_is whole j)
 
+eight_is_heap : IsHeap (single_block 5 (8 ∷ []))
+eight_is_heap = only_is_heap (single_is_only 5 (8 ∷ [])) (omega arith) (omega arith) (All-cons IsWord 8 [] (omega arith) (All-nil IsWord))
+
 eight : MeetsTriple [] writes_eight (run_of_val file 1 1 []) (single_block 5 (7 ∷ [])) (single_block 6 (1 ∷ []))
 unfolding Holds term_value
 eight = record {
   no_fault = λ whole i j p e. no_fault_at_end (sym (ends_at whole j) ∙ e);
   ends_so = λ whole i j p v g rest e. record {
     own = single_block 5 (8 ∷ []);
+    own_is_heap = eight_is_heap;
     parts = subst (λ (h : Heap). IsJoin h (single_block 5 (8 ∷ [])) (single_block 6 (1 ∷ []))) (heap_of_end (sym (ends_at whole j) ∙ e)) (record { each = λ l. written_place (nat_eq l 5) (nat_eq l 6) (not_both l) (8 ∷ []) (1 ∷ []) (7 ∷ []) });
     value = v_unit;
     is_value = sym (value_of_end (sym (ends_at whole j) ∙ e));

@@ -1,11 +1,11 @@
 -- What a triple leaves is determined, and a triple that isn't denied is one.
-use Rattle.std.proofs.Common.{◌≡◌, ℕ, List, [], ◌∷◌, Option, Some, None, refl, sym, subst, arith, inl, inr}
+use Rattle.std.proofs.Common.{◌≡◌, ℕ, zero, suc, ◌<◌, List, [], ◌∷◌, All, get_or, Option, Some, None, refl, sym, subst, arith, inl, inr}
 use Rattle.std.specs.Prelude.{◌^◌}
 use Rattle.std.proofs.lemmas.Bool.{cases_lt}
 use Rattle.htt_syntax.specs.Trees.{MonoTree, TermTree, FixTree, CompTree, TripleTree, triple, m_word, m_bool, m_loc, m_unit, m_pair, m_var}
 use Rattle.htt_values.specs.Values.{Value, v_word, v_bool, v_loc, v_unit, v_pair, IsWord, HasType, is_word, is_bool, is_loc, is_unit, is_pair}
 use Rattle.htt_values.specs.Heaps.{Heap, Block, IsHeap, IsSame, Joins}
-use Rattle.htt_values.proofs.Joins.{join_commutes, join_cancels, part_is_heap}
+use Rattle.htt_values.proofs.Joins.{join_commutes, join_cancels, join_is_heap}
 use Rattle.htt_truth.specs.Worlds.{th_value, th_heap}
 use Rattle.htt_truth.specs.Truth.{NotNot, Holds}
 use Rattle.htt_truth.specs.Predicates.{RecTree, recs_of}
@@ -17,8 +17,8 @@ use Rattle.htt_triple.specs.Laws.{TripleLaws}
 own_is_one : {table : List RecTree} {spec : TripleTree} {h k g : Heap} {v : RunValue} (a b : Leaves table spec h k v g) → IsSame a.own b.own
 own_is_one a b = join_cancels (join_commutes a.parts) (join_commutes b.parts)
 
-own_is_heap : {table : List RecTree} {spec : TripleTree} {h k g : Heap} {v : RunValue} (a : Leaves table spec h k v g) → IsHeap g → IsHeap a.own
-own_is_heap a i = (part_is_heap a.parts i).0
+whole_is_heap : {table : List RecTree} {spec : TripleTree} {h k g : Heap} {v : RunValue} → Leaves table spec h k v g → IsHeap k → IsHeap g
+whole_is_heap a i = join_is_heap a.parts a.own_is_heap i
 
 -- what is left of a block without the other
 abbrev without : Option Block → Option Block → Option Block
@@ -98,9 +98,24 @@ type_is_stable (v_pair x y) m_loc h = absurd (h (λ a. elim a [ ]))
 type_is_stable (v_pair x y) m_unit h = absurd (h (λ a. elim a [ ]))
 type_is_stable (v_pair x y) (m_var i) h = absurd (h (λ a. elim a [ ]))
 
+positive_is_stable : (n : ℕ) → NotNot (0 < n) → 0 < n
+positive_is_stable zero h = absurd (h (λ l. omega (arith, l)))
+positive_is_stable (suc n) h = omega arith
+
+words_are_stable : (b : Block) → NotNot (All IsWord b) → All IsWord b
+words_are_stable b h k x l = word_is_stable (get_or b k x) (λ deny. h (λ a. deny (a k x l)))
+
+heap_is_stable : (h : Heap) → NotNot (IsHeap h) → IsHeap h
+heap_is_stable h n = record {
+  above_zero = λ l b e. positive_is_stable l (λ deny. n (λ i. deny (i.above_zero l b e)));
+  at_words = λ l b e. word_is_stable l (λ deny. n (λ i. deny (i.at_words l b e)));
+  of_words = λ l b e. words_are_stable b (λ deny. n (λ i. deny (i.of_words l b e)));
+}
+
 leaves_is_stable : (table : List RecTree) (spec : TripleTree) (h k : Heap) (v : RunValue) (g : Heap) → NotNot (Leaves table spec h k v g) → Leaves table spec h k v g
 leaves_is_stable table (triple pre mono post) h k (base x) g n = record {
   own = rest g k;
+  own_is_heap = heap_is_stable (rest g k) (λ deny. n (λ a. deny (subst IsHeap (own_is a) a.own_is_heap)));
   parts = record { each = λ l. joins_stable (g l) (rest g k l) (k l) (λ deny. n (λ a. deny (subst (λ (o : Heap). Joins (g l) (o l) (k l)) (own_is a) (a.parts.each l)))) };
   value = x;
   is_value = refl;
@@ -119,4 +134,4 @@ triple_is_stable table spec result h k n = record {
 }
 
 pub triple_laws : TripleLaws
-triple_laws = record { own_is_one = own_is_one; own_is_heap = own_is_heap; leaves_is_stable = leaves_is_stable; triple_is_stable = triple_is_stable }
+triple_laws = record { own_is_one = own_is_one; whole_is_heap = whole_is_heap; leaves_is_stable = leaves_is_stable; triple_is_stable = triple_is_stable }

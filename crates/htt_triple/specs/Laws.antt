@@ -10,7 +10,8 @@ use Rattle.htt_triple.specs.Triples.{Leaves, MeetsTriple}
 pub record TripleLaws : Type 0 where
   -- the own part is determined: it is what the frame leaves of the heap
   pub own_is_one : {table : List RecTree} {spec : TripleTree} {h k g : Heap} {v : RunValue} (a b : Leaves table spec h k v g) → IsSame a.own b.own
-  pub own_is_heap : {table : List RecTree} {spec : TripleTree} {h k g : Heap} {v : RunValue} (a : Leaves table spec h k v g) → IsHeap g → IsHeap a.own
+  -- what is left beside a heap is a heap as a whole
+  pub whole_is_heap : {table : List RecTree} {spec : TripleTree} {h k g : Heap} {v : RunValue} → Leaves table spec h k v g → IsHeap k → IsHeap g
   -- a result that isn't denied is one, and so is a triple
   pub leaves_is_stable : (table : List RecTree) (spec : TripleTree) (h k : Heap) (v : RunValue) (g : Heap) → NotNot (Leaves table spec h k v g) → Leaves table spec h k v g
   pub triple_is_stable : (table : List RecTree) (spec : TripleTree) (result : Heap → RunResult) (h k : Heap) → NotNot (MeetsTriple table spec result h k) → MeetsTriple table spec result h k

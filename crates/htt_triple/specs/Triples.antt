@@ -26,6 +26,7 @@ result_mono (triple pre mono post) = mono
 -- part, of which the postcondition is true.
 pub record Leaves (table : List RecTree) (spec : TripleTree) (h k : Heap) (v : RunValue) (g : Heap) : Type 0 where
   pub own : Heap
+  pub own_is_heap : IsHeap own
   pub parts : IsJoin g own k
   pub value : Value
   pub is_value : v ≡ base value
@@ -33,7 +34,7 @@ pub record Leaves (table : List RecTree) (spec : TripleTree) (h k : Heap) (v : R
   pub post : PostHolds table spec value h own
 
 -- The triple of a run from h beside the frame k, by what the run comes to from the whole heap. The
--- triple is a canonical one, and the choices that the run is given are words.
+-- triple is a canonical one. A theorem that says this of a run takes words as its choices.
 pub record MeetsTriple (table : List RecTree) (spec : TripleTree) (result : Heap → RunResult) (h k : Heap) : Type 0 where
   pub no_fault : (whole : Heap) → IsHeap whole → IsJoin whole h k → PreHolds table spec h → result whole ≢ fault
   pub ends_so : (whole : Heap) → IsHeap whole → IsJoin whole h k → PreHolds table spec h → (v : RunValue) (g : Heap) (rest : List ℕ) → result whole ≡ done v g rest → Leaves table spec h k v g

@@ -128,7 +128,7 @@ module _ (env : Environment) where
     formula_formed_once e (forms_join a b c) (forms_join d f i) = refl
     formula_formed_once e (forms_same a b) (forms_same c d) = refl
     formula_formed_once e (forms_eq {mono = mono} m a b) (forms_eq n c d) = let x = (fits_once e refl a c).0 in let y = (fits_once e refl b d).0 in λ j. f_eq mono (x j) (y j)
-    formula_formed_once e (forms_rec {number = number} {heap = heap} l i a b) (forms_rec m k c d) = let x = (fits_once e refl a c).0 in let y = terms_fit_once e (ap (λ (r : RecTree). r.params) (found_once l m)) b d in λ j. f_rec number heap (x j) (y j)
+    formula_formed_once e (forms_rec {number = number} {heap = heap} l i a n b) (forms_rec m k c o d) = let x = (fits_once e refl a c).0 in let y = terms_fit_once e (ap (λ (r : RecTree). r.params) (found_once l m)) b d in λ j. f_rec number heap (x j) (y j)
     formula_formed_once e (forms_formula_at a) (forms_formula_at c) = formula_formed_once e a c
 
     pub terms_fit_once : {g h : Context} {t r q : TermTrees} {ms ns : List MonoTree} → g ≡ h → ms ≡ ns → FitsAll env g t ms r → FitsAll env h t ns q → r ≡ q

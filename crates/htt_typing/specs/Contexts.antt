@@ -1,6 +1,6 @@
 -- Contexts and what stands in them, the environment of a phrase, and what a phrase owes.
 use Rattle.std.specs.Prelude.{ℕ, zero, suc, List, ◌∷◌}
-use Rattle.htt_syntax.specs.Trees.{MonoTree, TyTree, TermTree, FormulaTree, m_word, m_bool, m_loc, m_unit, m_pair, m_var, y_all, y_fun, y_hoare}
+use Rattle.htt_syntax.specs.Trees.{MonoTree, TyTree, TermTree, TermTrees, FormulaTree, no_terms, more_terms, m_word, m_bool, m_loc, m_unit, m_pair, m_var, y_all, y_fun, y_hoare}
 use Rattle.htt_renaming.specs.Renaming.{rename_ty}
 use Rattle.htt_truth.specs.Predicates.{RecTree}
 
@@ -46,6 +46,11 @@ pub data FormsMono (g : Context) : MonoTree → Type 0 where
 pub record Obligation : Type 0 where
   pub context : Context
   pub goal : FormulaTree
+
+-- How many terms there are.
+unfoldable pub count_of : TermTrees → ℕ
+count_of no_terms = zero
+count_of (more_terms first others) = suc (count_of others)
 
 -- The monotypes at which `eq` compares.
 pub data IsComparable : MonoTree → Type 0 where

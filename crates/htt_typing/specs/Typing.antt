@@ -4,7 +4,7 @@
 -- A term gives a type, or fits a type that is expected. A term that is written in a formula has no
 -- computation and no recursive function in it. A computation is checked against a triple by the
 -- states of `htt_states`: each step goes on from a state, and owes what its move owes there.
-use Rattle.std.specs.Prelude.{◌≡◌, ℕ, zero, suc, Bool, true, false, List, [], ◌∷◌, ◌++◌, Option, Some, None, slice_get}
+use Rattle.std.specs.Prelude.{◌≡◌, ℕ, zero, suc, Bool, true, false, List, [], ◌∷◌, ◌++◌, length, Option, Some, None, slice_get}
 use Rattle.htt_syntax.specs.declared.mono.Op.{Op}
 use Rattle.htt_syntax.specs.Trees.{MonoTree, TyTree, TripleTree, TermTree, FixTree, CompTree, StepTree, FormulaTree, TermTrees, m_word, m_bool, m_loc, m_unit, m_pair, y_mono, y_fun, y_all, y_hoare, y_at, triple, t_var, t_val, t_def, t_app, t_inst, t_lam, t_lam_t, t_do, t_fix, t_word, t_bool, t_loc, t_unit, t_pair, t_fst, t_snd, t_not, t_bin, t_eq, t_sel, t_ann, t_at, x_param, x_body, c_ret, c_step, s_run, s_alloc, s_get, s_set, s_free, s_if, s_claim, f_tt, f_ff, f_and, f_or, f_imp, f_all_t, f_ex_t, f_all_h, f_ex_h, f_emp, f_cell, f_block, f_join, f_same, f_eq, f_at, f_rec, no_terms, more_terms}
 use Rattle.htt_renaming.specs.Renaming.{rename_mono, rename_ty, rename_triple}
@@ -17,7 +17,7 @@ use Rattle.canonical_trees.specs.Eta.{eta}
 use Rattle.substitution.specs.Monotypes.{put_mono_term, put_mono_ty}
 use Rattle.substitution.specs.Substitution.{SubTerm, SubTy, SubComp, Bind}
 use Rattle.htt_typing.specs.Places.{plain_ty}
-use Rattle.htt_typing.specs.Contexts.{en_mono, en_heap, en_term, Context, Environment, IsHeap, HasEntryType, FormsMono, Obligation, IsComparable}
+use Rattle.htt_typing.specs.Contexts.{en_mono, en_heap, en_term, Context, Environment, IsHeap, HasEntryType, FormsMono, Obligation, IsComparable, count_of}
 
 -- where a term is written
 pub data Mode : Type 0 where
@@ -83,7 +83,7 @@ mutual
     forms_join : {g : Context} {whole_heap left_heap right_heap : ℕ} → IsHeap g whole_heap → IsHeap g left_heap → IsHeap g right_heap → FormsFormula env g (f_join whole_heap left_heap right_heap) (f_join whole_heap left_heap right_heap)
     forms_same : {g : Context} {left_heap right_heap : ℕ} → IsHeap g left_heap → IsHeap g right_heap → FormsFormula env g (f_same left_heap right_heap) (f_same left_heap right_heap)
     forms_eq : {g : Context} {mono : MonoTree} {first first' second second' : TermTree} → FormsMono g mono → Fits env in_formula g first (y_mono mono) first' [] → Fits env in_formula g second (y_mono mono) second' [] → FormsFormula env g (f_eq mono first second) (f_eq mono first' second')
-    forms_rec : {number : ℕ} {r : RecTree} {g : Context} {heap : ℕ} {term term' : TermTree} {terms terms' : TermTrees} → slice_get env.recs number ≡ Some r → IsHeap g heap → Fits env in_formula g term (y_mono m_word) term' [] → FitsAll env g terms (r.params) terms' → FormsFormula env g (f_rec number heap term terms) (f_rec number heap term' terms')
+    forms_rec : {number : ℕ} {r : RecTree} {g : Context} {heap : ℕ} {term term' : TermTree} {terms terms' : TermTrees} → slice_get env.recs number ≡ Some r → IsHeap g heap → Fits env in_formula g term (y_mono m_word) term' [] → count_of terms ≡ length r.params → FitsAll env g terms (r.params) terms' → FormsFormula env g (f_rec number heap term terms) (f_rec number heap term' terms')
     forms_formula_at : {g : Context} {formula formula' : FormulaTree} {at : ℕ} → FormsFormula env g formula formula' → FormsFormula env g (f_at at formula) formula'
 
   -- the arguments of a recursive atom, each of the parameter's monotype

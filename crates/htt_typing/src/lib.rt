@@ -2,6 +2,7 @@
 //! type, and computations against triples. A function without a body states a law by its contract.
 #![tactic(auto)]
 
+ghost use Rattle.htt_typing.specs.Examples.{TheBodies, TheItems};
 ghost use Rattle.htt_typing.specs.Laws.{TypingGivesOne, WorkedTyping};
 
 /// A phrase has at most one type, one canonical form and one list of obligations.
@@ -12,4 +13,11 @@ pub fn typing_gives_one()
 /// Small derivations, and phrases that have none, worked out by hand.
 pub fn worked_typing()
     ensures { WorkedTyping }
+{}
+
+/// What the values, definitions and predicates of a file give, and bodies against triples with what
+/// they owe, worked out by hand.
+pub fn worked_bodies()
+    ensures items { TheItems }
+    ensures bodies { TheBodies }
 {}

@@ -1,5 +1,5 @@
 -- Heaps: finite maps from locations to blocks, a block being a list of words.
-use Rattle.std.specs.Prelude.{◌≡◌, ◌≢◌, ℕ, ◌<◌, List, Option, Some, None, All, nat_eq, if◌then◌else◌}
+use Rattle.std.specs.Prelude.{◌≡◌, ◌≢◌, ℕ, zero, suc, Bool, false, is_none, ◌<◌, List, Option, Some, None, All, nat_eq, if◌then◌else◌}
 use Rattle.htt_values.specs.Values.{IsWord}
 
 abbrev pub Block : Type 0
@@ -17,6 +17,11 @@ pub record IsHeap (h : Heap) : Type 0 where
 
 abbrev pub InUse : Heap → ℕ → Type 0
 InUse h l = (b : Block) × (h l ≡ Some b)
+
+-- Whether a location may be chosen for a new block: it isn't 0, and not in use.
+abbrev pub is_fresh : Heap → ℕ → Bool
+is_fresh h zero = false
+is_fresh h (suc l) = is_none (h (suc l))
 
 abbrev pub empty_heap : Heap
 empty_heap l = None

@@ -66,7 +66,7 @@ no_name emp_some e = cc
 no_name _ e = cc
 
 no_lt : (F : FormulaTree) → Infers env with_word [] (p_axiom (codes "lt") [] (a_term (t_word 3) ∷ [])) F → ⊥
-no_lt F (infers_axiom c n ms s w a f) = no_name c n
+no_lt F (infers_axiom c n ms s w k a f) = no_name c n
 
 pub statements : TheStatements
 unfolding plain_formula rename_formula rename_mono lift putting formula_of shape_of SideCondition
@@ -74,7 +74,7 @@ statements = record {
   second_part = proves_block (block_intro (block_end (proves_inferred (infers_second (infers_hyp refl)) refl)));
   not_first_part = not_first;
   with_positions = proves_at (proves_block (block_at (block_intro (block_end (proves_at (proves_inferred (infers_second (infers_at (infers_hyp refl))) refl))))));
-  opened = proves_block (block_open_heap (infers_axiom emp_some refl forms_no_monos refl tt fits_no_args refl) (block_end (proves_give_heap heap_here (proves_inferred (infers_hyp refl) refl))));
+  opened = proves_block (block_open_heap (infers_axiom emp_some refl forms_no_monos refl tt refl fits_no_args refl) (block_end (proves_give_heap heap_here (proves_inferred (infers_hyp refl) refl))));
   raised_past = proves_block (block_gen_term (block_intro (block_end (proves_inferred (infers_hyp refl) refl))));
 }
 
@@ -85,13 +85,13 @@ forms = record {
   no_crossing = not_crossed;
   turned = proves_rewrite_term (infers_hyp refl) (forms_eq forms_word (fits_given tt (gives_var type_here) refl) (fits_given tt (gives_var (type_there type_here)) refl)) (u_f_eq (put 0) (kept 0 1 (λ e. omega (arith, e)))) refl (u_f_eq (put 0) (kept 0 1 (λ e. omega (arith, e)))) (proves_refl_term refl);
   by_induction = proves_induct (forms_eq forms_word (fits_given tt (gives_var type_here) refl) (fits_given tt (gives_var type_here) refl)) (fits_given tt (gives_var type_here) refl) (u_f_eq (put 0) (put 0)) refl (u_f_eq (put 0) (put 0)) (proves_refl_term refl) (u_f_eq (put 0) (put 0)) (proves_refl_term refl);
-  of_an_axiom = infers_axiom lt_zero refl forms_no_monos refl tt (fits_term_arg (fits_given tt (gives_word (omega arith)) refl) fits_no_args) refl;
+  of_an_axiom = infers_axiom lt_zero refl forms_no_monos refl tt refl (fits_term_arg (fits_given tt (gives_word (omega arith)) refl) fits_no_args) refl;
   no_axiom = no_lt;
 }
 
 pub unfoldings : TheUnfoldings
 unfolding contractum closing rename_formula rename_mono lift lifts putting raised_term terms_of
 unfoldings = record {
-  at_zero = infers_at_zero refl (fits_heap_arg heap_here (fits_term_arg (fits_given tt (gives_word (omega arith)) refl) fits_no_args)) (put_term_first (u_f_eq (put 1) u_word) (put_heap_first put_none));
-  at_next = infers_at_next refl (fits_heap_arg heap_here (fits_term_arg (fits_given tt (gives_word (omega arith)) refl) (fits_term_arg (fits_given tt (gives_word (omega arith)) refl) fits_no_args))) (put_term_first (u_f_rec (put 2) (u_more_terms (u_bin (kept 2 1 (λ e. omega (arith, e))) u_word) u_no_terms)) (put_term_first (u_f_rec u_word (u_more_terms (u_bin (put 1) u_word) u_no_terms)) (put_heap_first put_none)));
+  at_zero = infers_at_zero refl refl (fits_heap_arg heap_here (fits_term_arg (fits_given tt (gives_word (omega arith)) refl) fits_no_args)) (put_term_first (u_f_eq (put 1) u_word) (put_heap_first put_none));
+  at_next = infers_at_next refl refl (fits_heap_arg heap_here (fits_term_arg (fits_given tt (gives_word (omega arith)) refl) (fits_term_arg (fits_given tt (gives_word (omega arith)) refl) fits_no_args))) (put_term_first (u_f_rec (put 2) (u_more_terms (u_bin (kept 2 1 (λ e. omega (arith, e))) u_word) u_no_terms)) (put_term_first (u_f_rec u_word (u_more_terms (u_bin (put 1) u_word) u_no_terms)) (put_heap_first put_none)));
 }

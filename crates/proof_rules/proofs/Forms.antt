@@ -15,7 +15,7 @@ use Rattle.proof_rules.specs.Rules.{Infers, Proves, infers_hyp, infers_app, infe
 use Rattle.proof_rules.specs.Examples.{env, with_word, with_heaps, is_five, five_is_five, TheInferences, TheGoals}
 use Rattle.proof_rules.proofs.Examples.{put, kept, hyp_of}
 
-by_hyp : {g : Context} {hs : List FormulaTree} {number : ℕ} {F : FormulaTree} → slice_get hs number ≡ Some F → Proves env g hs (p_hyp number) F
+pub by_hyp : {g : Context} {hs : List FormulaTree} {number : ℕ} {F : FormulaTree} → slice_get hs number ≡ Some F → Proves env g hs (p_hyp number) F
 by_hyp e = proves_inferred (infers_hyp e) refl
 
 sum_fits : {g : Context} → Fits env in_formula g (t_bin Add (t_word 2) (t_word 3)) (y_mono m_word) (t_word 5) []

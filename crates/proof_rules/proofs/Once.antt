@@ -76,21 +76,21 @@ inferred_once {env = env} (infers_inst_term d a s) (infers_inst_term e b u) =
     let same = inferred_once d e in
     sub_once (fits_once env refl (ap y_mono (all_mono same)) a b).0 (all_body same) s u
 inferred_once (infers_inst_heap {h = h} d a) (infers_inst_heap e b) = ap (put_heap h) (heap_body (inferred_once d e))
-inferred_once (infers_axiom c {monos = ts} n ms s w a f) (infers_axiom c' n' ms' s' w' a' f') =
+inferred_once (infers_axiom c {monos = ts} n ms s w k a f) (infers_axiom c' n' ms' s' w' k' a' f') =
     let name : c ≡ c' = one_name c c' (n ∙ sym n') in
     let sorts = found_once (λ j. shape_of (name j) ts) s s' in
     let arguments = args_once sorts a a' in
     found_once (λ j. formula_of (name j) ts (arguments j)) f f'
 inferred_once {env = env} (infers_lem d) (infers_lem e) = ap (λ F. f_or F (f_imp F f_ff)) (formula_formed_once env refl d e)
 inferred_once {env = env} (infers_the d a) (infers_the e b) = formula_formed_once env refl d e
-inferred_once (infers_at_zero {number = number} {r = r} {h = h} {values = vs} d a s) (infers_at_zero {r = r'} {h = h'} {values = vs'} e b u) =
+inferred_once (infers_at_zero {number = number} {r = r} {h = h} {values = vs} d k a s) (infers_at_zero {r = r'} {h = h'} {values = vs'} e l b u) =
     let same : r ≡ r' = found_once refl d e in
     let arguments = args_once (λ j. heap_sort ∷ map term_sort (same j).params) a b in
     let heap : h ≡ h' = first_heap arguments in
     let values : vs ≡ vs' = others_of arguments in
     let body = put_once (λ j. values j ++ a_heap (heap j) ∷ []) (λ j. (same j).at_zero) s u in
     λ j. both_ways (f_rec number (heap j) (t_word 0) (terms_of (values j))) (body j)
-inferred_once (infers_at_next {number = number} {r = r} {h = h} {m = m} {values = vs} d a s) (infers_at_next {r = r'} {h = h'} {m = m'} {values = vs'} e b u) =
+inferred_once (infers_at_next {number = number} {r = r} {h = h} {m = m} {values = vs} d k a s) (infers_at_next {r = r'} {h = h'} {m = m'} {values = vs'} e l b u) =
     let same : r ≡ r' = found_once refl d e in
     let arguments = args_once (λ j. heap_sort ∷ term_sort m_word ∷ map term_sort (same j).params) a b in
     let heap : h ≡ h' = first_heap arguments in

@@ -1,7 +1,7 @@
 -- Derivations that were worked out by hand.
 use Rattle.std.specs.Prelude.{[], ◌∷◌, codes, true, false}
-use Rattle.htt_syntax.specs.declared.mono.Op.TheVariants.{Add}
-use Rattle.htt_syntax.specs.Trees.{FormulaTree, BlockTree, m_word, m_bool, y_mono, t_var, t_word, t_bool, t_bin, f_tt, f_ff, f_and, f_or, f_imp, f_all_t, f_ex_t, f_all_h, f_ex_h, f_emp, f_join, f_same, f_eq, f_rec, no_terms, more_terms, a_heap, a_term, p_hyp, p_refl, p_trivial, p_first, p_second, p_left, p_right, p_absurd, p_both, p_give, p_app, p_inst, p_case, p_rewrite, p_induct, p_split, p_axiom, p_lem, p_the, p_block, p_at, p_unfold, d_intro, d_gen, d_have, d_open, d_at, b_then, b_end}
+use Rattle.htt_syntax.specs.declared.mono.Op.TheVariants.{Add, Lt}
+use Rattle.htt_syntax.specs.Trees.{FormulaTree, BlockTree, m_word, m_bool, m_loc, m_pair, y_mono, t_var, t_word, t_bool, t_loc, t_snd, t_bin, f_tt, f_ff, f_and, f_or, f_imp, f_all_t, f_ex_t, f_all_h, f_ex_h, f_emp, f_cell, f_join, f_same, f_eq, f_rec, no_terms, more_terms, a_heap, a_term, p_hyp, p_refl, p_trivial, p_first, p_second, p_left, p_right, p_absurd, p_both, p_give, p_app, p_inst, p_case, p_rewrite, p_induct, p_split, p_axiom, p_lem, p_the, p_block, p_at, p_unfold, d_intro, d_gen, d_have, d_open, d_at, b_then, b_end}
 use Rattle.htt_truth.specs.Predicates.{RecTree}
 use Rattle.htt_typing.specs.Contexts.{Context, Environment, en_heap, en_term}
 use Rattle.proof_rules.specs.Sequents.{both_ways}
@@ -113,3 +113,47 @@ pub record TheGoals : Type 0 where
   pub for_each_heap : Proves env with_word [] (p_block (b_then d_gen (b_end p_refl))) (f_all_h (f_same 0 0))
   -- open y v = u; give(y, v)
   pub opened_word : Proves env with_word (f_ex_t m_word is_five ∷ []) (p_block (b_then (d_open (p_hyp 0)) (b_end (p_give (a_term (t_var 0)) (p_hyp 1))))) (f_ex_t m_word is_five)
+
+-- a list of n cells from a place: none at null, or one with a word and the next place, and the rest
+abbrev pub chain : RecTree
+chain = record {
+  params = m_loc ∷ [];
+  at_zero = f_and (f_emp 0) (f_eq m_loc (t_var 1) (t_loc 0));
+  at_next = f_ex_t (m_pair m_word m_loc) (f_ex_h (f_ex_h (f_and (f_join 3 1 0) (f_and (f_cell (m_pair m_word m_loc) 1 (t_var 4) (t_var 2)) (f_rec 0 0 (t_var 5) (more_terms (t_snd (t_var 2)) no_terms))))));
+}
+
+abbrev pub with_chain : Environment
+with_chain = record { vals = []; defs = []; recs = chain ∷ [] }
+
+-- a heap h, a word n and a word x, of which x is the innermost; and with a place p for x
+abbrev pub with_number : Context
+with_number = en_term (y_mono m_word) ∷ en_term (y_mono m_word) ∷ en_heap ∷ []
+
+abbrev pub with_place : Context
+with_place = en_term (y_mono m_loc) ∷ en_term (y_mono m_word) ∷ en_heap ∷ []
+
+-- two words n and w, of which w is the innermost
+abbrev pub with_two : Context
+with_two = en_term (y_mono m_word) ∷ en_term (y_mono m_word) ∷ []
+
+pub record TheVariables : Type 0 where
+  -- at n + 1 the word x is twice the index where at n the word x - 2 is
+  pub next_number : Infers env with_number [] (p_unfold 0 1 (a_heap 2 ∷ a_term (t_var 1) ∷ a_term (t_var 0) ∷ [])) (f_imp (f_eq m_bool (t_bin Lt (t_var 1) (t_word 18446744073709551615)) (t_bool true)) (both_ways (f_rec 0 2 (t_bin Add (t_var 1) (t_word 1)) (more_terms (t_var 0) no_terms)) (f_rec 0 2 (t_var 1) (more_terms (t_bin Add (t_var 0) (t_word 18446744073709551614)) no_terms))))
+  pub first_number : Infers env with_number [] (p_unfold 0 0 (a_heap 2 ∷ a_term (t_var 0) ∷ [])) (both_ways (f_rec 0 2 (t_word 0) (more_terms (t_var 0) no_terms)) (f_eq m_word (t_var 0) (t_word 0)))
+  -- a chain of n + 1 cells from p is ex c . ex a . ex b . Join(h, a, b) /\ Cell(a, p, c) /\ a chain of n from snd c
+  pub next_cell : Infers with_chain with_place [] (p_unfold 0 1 (a_heap 2 ∷ a_term (t_var 1) ∷ a_term (t_var 0) ∷ [])) (f_imp (f_eq m_bool (t_bin Lt (t_var 1) (t_word 18446744073709551615)) (t_bool true)) (both_ways (f_rec 0 2 (t_bin Add (t_var 1) (t_word 1)) (more_terms (t_var 0) no_terms)) (f_ex_t (m_pair m_word m_loc) (f_ex_h (f_ex_h (f_and (f_join 5 1 0) (f_and (f_cell (m_pair m_word m_loc) 1 (t_var 3) (t_var 2)) (f_rec 0 0 (t_var 4) (more_terms (t_snd (t_var 2)) no_terms)))))))))
+  -- app(second(app(axiom doubles.1(@h, 0, 2), refl)), app(second(axiom doubles.0(@h, 0)), refl))
+  pub two_is_twice_one : Proves env with_heap [] (p_app (p_second (p_app (p_unfold 0 1 (a_heap 0 ∷ a_term (t_word 0) ∷ a_term (t_word 2) ∷ [])) p_refl)) (p_app (p_second (p_unfold 0 0 (a_heap 0 ∷ a_term (t_word 0) ∷ []))) p_refl)) (f_rec 0 0 (t_word 1) (more_terms (t_word 2) no_terms))
+  -- there are no unfoldings but at 0 and at the next word, and none of a predicate that isn't there
+  pub no_third_unfolding : (F : FormulaTree) → Infers env with_heap [] (p_unfold 0 2 (a_heap 0 ∷ a_term (t_word 4) ∷ [])) F → ⊥
+  pub no_predicate : (F : FormulaTree) → Infers env with_heap [] (p_unfold 1 0 (a_heap 0 ∷ [])) F → ⊥
+  -- induct(z . [z + w =[word] z + w], n, refl, y u v . refl)
+  pub other_variable : Proves env with_two [] (p_induct (f_eq m_word (t_bin Add (t_var 0) (t_var 1)) (t_bin Add (t_var 0) (t_var 1))) (t_var 1) p_refl p_refl) (f_eq m_word (t_bin Add (t_var 1) (t_var 0)) (t_bin Add (t_var 1) (t_var 0)))
+  -- induct(z . [w =[word] 5], n, t, y u v . t), where t says that w is 5
+  pub hypothesis_raised : Proves env with_two (is_five ∷ []) (p_induct (f_eq m_word (t_var 1) (t_word 5)) (t_var 1) (p_hyp 0) (p_hyp 0)) is_five
+  -- induct(z . [w =[word] 5], n, t, y u v . v)
+  pub from_the_word_before : Proves env with_two (is_five ∷ []) (p_induct (f_eq m_word (t_var 1) (t_word 5)) (t_var 1) (p_hyp 0) (p_hyp 2)) is_five
+  -- open a v = u; t, where t is the goal, which is raised past a
+  pub goal_raised : Proves env with_word (f_ex_h (f_emp 0) ∷ is_five ∷ []) (p_block (b_then (d_open (p_hyp 0)) (b_end (p_hyp 1)))) is_five
+  -- gen y; inst(u, y), where u says of each y that y is x
+  pub used_at_the_new : Proves env with_word (f_all_t m_word (f_eq m_word (t_var 0) (t_var 1)) ∷ []) (p_block (b_then d_gen (b_end (p_inst (p_hyp 0) (a_term (t_var 0)))))) (f_all_t m_word (f_eq m_word (t_var 0) (t_var 1)))

@@ -14,7 +14,7 @@ use Rattle.htt_truth.specs.Predicates.{RecTree}
 use Rattle.htt_typing.specs.Contexts.{en_heap, en_term, Context, Environment, IsHeap}
 use Rattle.htt_typing.specs.Typing.{in_formula, FormsFormula, Fits}
 use Rattle.logic_axioms.specs.Names.{AxiomName, text_of}
-use Rattle.logic_axioms.specs.Table.{ArgSort, heap_sort, term_sort, shape_of, SideCondition, formula_of}
+use Rattle.logic_axioms.specs.Table.{ArgSort, heap_sort, term_sort, fits_sorts, shape_of, SideCondition, formula_of}
 use Rattle.proof_rules.specs.Sequents.{SameTerm, SameFormula, raised, put_heap, PutArgs, terms_of, FormsMonos, FitsArgs, below_greatest, both_ways}
 
 mutual
@@ -26,12 +26,12 @@ mutual
     infers_app : {g : Context} {hs : List FormulaTree} {p q : ProofTree} {A B : FormulaTree} → Infers env g hs p (f_imp A B) → Proves env g hs q A → Infers env g hs (p_app p q) B
     infers_inst_term : {g : Context} {hs : List FormulaTree} {p : ProofTree} {m m' : TermTree} {t : MonoTree} {F F' : FormulaTree} → Infers env g hs p (f_all_t t F) → Fits env in_formula g m (y_mono t) m' [] → SubFormula m' sk_o zero F F' → Infers env g hs (p_inst p (a_term m)) F'
     infers_inst_heap : {g : Context} {hs : List FormulaTree} {p : ProofTree} {h : ℕ} {F : FormulaTree} → Infers env g hs p (f_all_h F) → IsHeap g h → Infers env g hs (p_inst p (a_heap h)) (put_heap h F)
-    infers_axiom : {g : Context} {hs : List FormulaTree} (axiom_name : AxiomName) {text : List ℕ} {monos : List MonoTree} {sorts : List ArgSort} {arguments arguments' : List ArgTree} {F : FormulaTree} → text_of axiom_name ≡ text → FormsMonos g monos → shape_of axiom_name monos ≡ Some sorts → SideCondition axiom_name monos → FitsArgs env g arguments sorts arguments' → formula_of axiom_name monos arguments' ≡ Some F → Infers env g hs (p_axiom text monos arguments) F
+    infers_axiom : {g : Context} {hs : List FormulaTree} (axiom_name : AxiomName) {text : List ℕ} {monos : List MonoTree} {sorts : List ArgSort} {arguments arguments' : List ArgTree} {F : FormulaTree} → text_of axiom_name ≡ text → FormsMonos g monos → shape_of axiom_name monos ≡ Some sorts → SideCondition axiom_name monos → fits_sorts sorts arguments ≡ true → FitsArgs env g arguments sorts arguments' → formula_of axiom_name monos arguments' ≡ Some F → Infers env g hs (p_axiom text monos arguments) F
     infers_lem : {g : Context} {hs : List FormulaTree} {F F' : FormulaTree} → FormsFormula env g F F' → Infers env g hs (p_lem F) (f_or F' (f_imp F' f_ff))
     infers_the : {g : Context} {hs : List FormulaTree} {F F' : FormulaTree} {p : ProofTree} → FormsFormula env g F F' → Proves env g hs p F' → Infers env g hs (p_the F p) F'
     -- what a recursive predicate says at 0 of a heap and values, and at the word after m
-    infers_at_zero : {g : Context} {hs : List FormulaTree} {number : ℕ} {r : RecTree} {h : ℕ} {arguments values : List ArgTree} {F : FormulaTree} → slice_get env.recs number ≡ Some r → FitsArgs env g arguments (heap_sort ∷ map term_sort r.params) (a_heap h ∷ values) → PutArgs (values ++ a_heap h ∷ []) r.at_zero F → Infers env g hs (p_unfold number 0 arguments) (both_ways (f_rec number h (t_word 0) (terms_of values)) F)
-    infers_at_next : {g : Context} {hs : List FormulaTree} {number : ℕ} {r : RecTree} {h : ℕ} {m : TermTree} {arguments values : List ArgTree} {F : FormulaTree} → slice_get env.recs number ≡ Some r → FitsArgs env g arguments (heap_sort ∷ term_sort m_word ∷ map term_sort r.params) (a_heap h ∷ a_term m ∷ values) → PutArgs (a_term m ∷ values ++ a_heap h ∷ []) r.at_next F → Infers env g hs (p_unfold number 1 arguments) (f_imp (below_greatest m) (both_ways (f_rec number h (folding (t_bin Add m (t_word 1))) (terms_of values)) F))
+    infers_at_zero : {g : Context} {hs : List FormulaTree} {number : ℕ} {r : RecTree} {h : ℕ} {arguments values : List ArgTree} {F : FormulaTree} → slice_get env.recs number ≡ Some r → fits_sorts (heap_sort ∷ map term_sort r.params) arguments ≡ true → FitsArgs env g arguments (heap_sort ∷ map term_sort r.params) (a_heap h ∷ values) → PutArgs (values ++ a_heap h ∷ []) r.at_zero F → Infers env g hs (p_unfold number 0 arguments) (both_ways (f_rec number h (t_word 0) (terms_of values)) F)
+    infers_at_next : {g : Context} {hs : List FormulaTree} {number : ℕ} {r : RecTree} {h : ℕ} {m : TermTree} {arguments values : List ArgTree} {F : FormulaTree} → slice_get env.recs number ≡ Some r → fits_sorts (heap_sort ∷ term_sort m_word ∷ map term_sort r.params) arguments ≡ true → FitsArgs env g arguments (heap_sort ∷ term_sort m_word ∷ map term_sort r.params) (a_heap h ∷ a_term m ∷ values) → PutArgs (a_term m ∷ values ++ a_heap h ∷ []) r.at_next F → Infers env g hs (p_unfold number 1 arguments) (f_imp (below_greatest m) (both_ways (f_rec number h (folding (t_bin Add m (t_word 1))) (terms_of values)) F))
     infers_at : {g : Context} {hs : List FormulaTree} {at : ℕ} {p : ProofTree} {F : FormulaTree} → Infers env g hs p F → Infers env g hs (p_at at p) F
 
   -- in this context, from these hypotheses, the proof proves the goal

@@ -4,7 +4,7 @@
 //! by its contract.
 #![tactic(auto)]
 
-ghost use Rattle.proof_rules.specs.Examples.{TheForms, TheGoals, TheInferences, TheStatements, TheUnfoldings};
+ghost use Rattle.proof_rules.specs.Examples.{TheForms, TheGoals, TheInferences, TheStatements, TheUnfoldings, TheVariables};
 ghost use Rattle.proof_rules.specs.Laws.{OneFit, OneInferred, OnePut, PositionsInfer, PositionsProve, PositionsState};
 
 /// A proof infers at most one formula.
@@ -33,4 +33,5 @@ pub fn examples_of_proofs()
     ensures unfoldings { TheUnfoldings }
     ensures inferences { TheInferences }
     ensures goals { TheGoals }
+    ensures variables { TheVariables }
 {}

@@ -1,10 +1,10 @@
 -- Worked examples of substitution.
-use Rattle.std.specs.Prelude.{◌≡◌, ℕ, true, Some}
-use Rattle.htt_syntax.specs.declared.mono.Op.TheVariants.{Add}
-use Rattle.htt_syntax.specs.Trees.{TermTree, CompTree, m_word, m_loc, m_pair, m_var, y_mono, triple, t_var, t_val, t_app, t_inst, t_lam, t_lam_t, t_do, t_fix, t_word, t_bool, t_pair, t_fst, t_bin, t_eq, t_sel, t_ann, x_param, x_body, c_ret, c_step, s_run, s_alloc, s_get, s_set, f_tt, f_cell, f_all_h}
+use Rattle.std.specs.Prelude.{◌≡◌, ℕ, true, false, Some}
+use Rattle.htt_syntax.specs.declared.mono.Op.TheVariants.{Add, Lt}
+use Rattle.htt_syntax.specs.Trees.{TermTree, CompTree, TripleTree, m_word, m_bool, m_loc, m_pair, m_var, y_mono, y_fun, y_all, y_hoare, triple, t_var, t_val, t_app, t_inst, t_lam, t_lam_t, t_do, t_fix, t_word, t_bool, t_pair, t_fst, t_bin, t_eq, t_sel, t_ann, x_param, x_body, c_ret, c_step, s_run, s_alloc, s_get, s_set, s_if, f_tt, f_and, f_cell, f_same, f_eq, f_all_h, f_ex_t, f_emp}
 use Rattle.canonical_trees.specs.Skeletons.{sk_o, sk_c, sk_arrow, sk_all}
-use Rattle.substitution.specs.Monotypes.{put_mono_term}
-use Rattle.substitution.specs.Substitution.{SubTerm, SubComp, SubFormula, App, Bind}
+use Rattle.substitution.specs.Monotypes.{put_mono_term, put_mono_ty, put_mono_comp}
+use Rattle.substitution.specs.Substitution.{SubTerm, SubComp, SubTy, SubFormula, App, Bind}
 
 abbrev pub plus : TermTree → ℕ → TermTree
 plus term n = t_bin Add term (t_word n)
@@ -70,3 +70,35 @@ pub record Others : Type 0 where
   pub recursion_stays : SubComp (t_word 3) sk_o 0 (c_step (s_run (t_app recursive (t_var 0)) (Some m_word)) (c_ret (t_var 0))) (c_step (s_run (t_app recursive (t_word 3)) (Some m_word)) (c_ret (t_var 0)))
   -- all h : heap . Cell[word](h, y, x), where 3 is put for x
   pub formula : SubFormula (t_word 3) sk_o 0 (f_all_h (f_cell m_word 0 (t_var 2) (t_var 1))) (f_all_h (f_cell m_word 0 (t_var 1) (t_word 3)))
+
+-- {l |->[word] x} y : word {y =[word] x /\ Same(mem, init)}, where x is the variable 0 and l the variable 1
+abbrev pub reads : TermTree → TermTree → TermTree → TripleTree
+reads place value outer = triple (f_cell m_word 0 place value) m_word (f_and (f_eq m_word (t_var 2) outer) (f_same 0 1))
+
+-- fun n . do l <- alloc[word] n; ret l
+abbrev pub allocates : TermTree
+allocates = t_lam (t_do (c_step (s_alloc m_word (t_var 0)) (c_ret (t_var 0))))
+
+pub record Binders : Type 0 where
+  -- 3 is put for x under mem, and under the result, init and mem
+  pub in_a_triple : SubTy (t_word 3) sk_o 0 (y_hoare (reads (t_var 2) (t_var 1) (t_var 3))) (y_hoare (reads (t_var 1) (t_word 3) (t_word 3)))
+  -- and so is the variable l, which is renamed past them
+  pub renamed_in_a_triple : SubTy (t_var 0) sk_o 0 (y_hoare (reads (t_var 2) (t_var 1) (t_var 3))) (y_hoare (reads (t_var 1) (t_var 1) (t_var 3)))
+  -- (y : word) -> {Emp(mem)} z : word {z =[word] x}
+  pub in_a_function_type : SubTy (t_word 3) sk_o 0 (y_fun (y_mono m_word) (y_hoare (triple (f_emp 0) m_word (f_eq m_word (t_var 2) (t_var 4))))) (y_fun (y_mono m_word) (y_hoare (triple (f_emp 0) m_word (f_eq m_word (t_var 2) (t_word 3)))))
+  -- ex y : word . x < y =[bool] true: another y that is put for x isn't captured
+  pub no_capture : SubFormula (t_var 0) sk_o 0 (f_ex_t m_word (f_eq m_bool (t_bin Lt (t_var 1) (t_var 0)) (t_bool true))) (f_ex_t m_word (f_eq m_bool (t_bin Lt (t_var 1) (t_var 0)) (t_bool true)))
+  -- fix f (n : word) : {tt} z : word {tt} . y <- f x; ret y, where 3 is put for x
+  pub under_a_recursion : SubTerm (t_word 3) sk_o 0 (t_fix 9 (x_param (y_mono m_word) (x_body (triple f_tt m_word f_tt) (c_step (s_run (t_app (t_var 0) (t_var 2)) (Some m_word)) (c_ret (t_var 0)))))) (t_fix 9 (x_param (y_mono m_word) (x_body (triple f_tt m_word f_tt) (c_step (s_run (t_app (t_var 0) (t_word 3)) (Some m_word)) (c_ret (t_var 0))))))
+  -- f (f (f (f 0))), where fun y . y + 1 is put for f
+  pub four_times : SubTerm plus_one (sk_arrow sk_o sk_o) 0 (t_app (t_var 0) (t_app (t_var 0) (t_app (t_var 0) (t_app (t_var 0) (t_word 0))))) (t_word 4)
+  -- y <- f 3; ret y, where allocates is put for f
+  pub called : SubComp allocates (sk_arrow sk_o sk_c) 0 (c_step (s_run (t_app (t_var 0) (t_word 3)) (Some m_loc)) (c_ret (t_var 0))) (c_step (s_alloc m_word (t_word 3)) (c_ret (t_var 0)))
+  -- a test that comes to be a literal stays
+  pub no_branch_taken : SubComp (t_bool true) sk_o 0 (c_step (s_if m_word (t_var 0) (c_ret (t_word 1)) (c_ret (t_word 2))) (c_ret (t_var 0))) (c_step (s_if m_word (t_bool true) (c_ret (t_word 1)) (c_ret (t_word 2))) (c_ret (t_var 0)))
+  -- the rest of a computation goes past the steps that are put before it
+  pub bound : Bind fresh (c_step (s_alloc m_loc (t_var 1)) (c_ret (t_fst (t_var 1)))) (c_step (s_alloc m_word (t_word 5)) (c_step (s_alloc m_loc (t_var 1)) (c_ret (t_var 1))))
+  -- word is put for a in [b] -> (x : a) -> {tt} y : b {tt}
+  pub monotype_in_a_type : put_mono_ty m_word 0 (y_all (y_fun (y_mono (m_var 1)) (y_hoare (triple f_tt (m_var 1) f_tt)))) ≡ y_all (y_fun (y_mono m_word) (y_hoare (triple f_tt (m_var 1) f_tt)))
+  -- bool is put for a in `l <- alloc[a] x; ret eq[a](true, false)`, where x is the variable 1
+  pub monotype_in_a_computation : put_mono_comp m_bool 0 (c_step (s_alloc (m_var 0) (t_var 1)) (c_ret (t_eq (m_var 1) (t_bool true) (t_bool false)))) ≡ c_step (s_alloc m_bool (t_var 0)) (c_ret (t_bool false))

@@ -2,7 +2,7 @@
 //! without a body states laws by its contract.
 #![tactic(auto)]
 
-ghost use Rattle.substitution.specs.Examples.{Applications, Computations, Monotypes, Others, Terms};
+ghost use Rattle.substitution.specs.Examples.{Applications, Binders, Computations, Monotypes, Others, Terms};
 ghost use Rattle.substitution.specs.Laws.{FilledSkeleton, OneApplication, OneBinding, OneComputation, OneFormula, OneTerm, OneType, SubstitutedSkeleton};
 
 /// A term that is put for a variable gives at most one tree.
@@ -36,4 +36,5 @@ pub fn examples_of_substitution()
     ensures monotypes { Monotypes }
     ensures computations { Computations }
     ensures others { Others }
+    ensures binders { Binders }
 {}

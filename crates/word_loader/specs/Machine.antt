@@ -5,6 +5,7 @@ use Rattle.htt_words.specs.declared.words.Kind.TheVariants as kind
 use Rattle.htt_syntax.specs.declared.mono.Op.{Op as Operation}
 use Rattle.htt_syntax.specs.declared.mono.Op.TheVariants as ops
 use Rattle.htt_values.specs.Values.{Value, v_word, v_bool, op_value}
+pub use Rattle.htt_values.specs.Heaps.{is_fresh}
 use Rattle.htt_values.specs.Heaps.{Heap, Block, with_block, without_block}
 use Rattle.word_loader.specs.declared.code.Code.{Code}
 use Rattle.word_loader.specs.declared.code.Function.{Function}
@@ -78,15 +79,6 @@ with_top (above old d below) frame = above frame d below
 -- the frame goes on at a place of its body with these locals
 abbrev pub goes_on : Stack → ℕ → List ℕ → Stack
 goes_on stack next locals = with_top stack (record (top stack) { next = next; locals = locals })
-
--- a location that may be chosen: not 0, and not in use
-abbrev pub is_fresh : Heap → ℕ → Bool
-is_fresh h zero = false
-is_fresh h (suc l) = is_free (h (suc l))
-  where
-    is_free : Option Block → Bool
-    is_free None = true
-    is_free (Some block) = false
 
 -- the machine that takes the first of the choices, if it may be chosen
 abbrev pub with_choice : Heap → List ℕ → (ℕ → List ℕ → Machine) → Machine

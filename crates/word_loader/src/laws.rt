@@ -1,6 +1,6 @@
 //! What holds of the written machine for every code.
 
-ghost use Rattle.word_loader.specs.Laws.{ChoicesAreHandedOn, OverIsFinal, WorkedRuns};
+ghost use Rattle.word_loader.specs.Laws.{ChoicesAreHandedOn, OverIsFinal, WorkedCode, WorkedRuns};
 
 /// A machine that has halted, has faulted or asks stays so with more steps.
 pub fn over_is_final()
@@ -16,4 +16,9 @@ pub fn choices_are_handed_on()
 /// Small runs, worked out by hand.
 pub fn worked_runs()
     ensures { WorkedRuns }
+{}
+
+/// Valid code and code that isn't, worked out by hand.
+pub fn worked_code()
+    ensures { WorkedCode }
 {}

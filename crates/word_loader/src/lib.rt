@@ -7,4 +7,4 @@ mod code;
 mod laws;
 
 pub use code::{Code, Function, Instr};
-pub use laws::{choices_are_handed_on, over_is_final, worked_runs};
+pub use laws::{choices_are_handed_on, over_is_final, worked_code, worked_runs};

@@ -1,10 +1,10 @@
 use Rattle.std.proofs.Common.{refl}
 use Rattle.htt_renaming.specs.Renaming.{lift, lifts, rename_mono, rename_term}
-use Rattle.htt_states.specs.States.{past, at_heaps, at_heap, at_result, start, owes_block, owed, after, some_values, within, ending, finish, last}
+use Rattle.htt_states.specs.States.{past, at_heaps, at_heap, at_result, start, owes_block, owed, after, branch, some_values, within, ending, finish, merge, last}
 use Rattle.htt_states.proofs.worked_states.Goals as goal
 
 pub returns : goal.returns
-unfolding lift lifts rename_mono rename_term past at_heaps at_heap at_result start owes_block owed after some_values within ending finish last
+unfolding lift lifts rename_mono rename_term past at_heaps at_heap at_result start owes_block owed after branch some_values within ending finish merge last
 returns c = record {
   two = refl;
   free_owes = refl;
@@ -14,4 +14,17 @@ returns c = record {
   run_ends = refl;
   claim_goes_on = refl;
   set_goes_on = refl;
+  alloc_goes_on = refl;
+  alloc_owes = refl;
+  free_goes_on = refl;
+  set_owes = refl;
+  run_owes = refl;
+  run_writes = refl;
+  claim_owes = refl;
+  three = refl;
+  three_end = refl;
+  two_variables_end = refl;
+  monotypes_end = refl;
+  branches = refl;
+  branches_meet = refl;
 }

@@ -17,4 +17,16 @@ returns c = record {
   tail_calls = refl;
   jumps = refl;
   shifts = refl;
+  goes_on = refl;
+  first_chosen = refl;
+  second_chosen = refl;
+  written = refl;
+  freed = refl;
+  freed_twice = refl;
+  set_of_other_length = refl;
+  free_of_other_length = refl;
+  other_locals = refl;
+  tail_call_inside = refl;
+  tail_call_outside = refl;
+  before_the_end = λ x. x;
 }

@@ -1,0 +1,4 @@
+pub mod Shapes
+pub mod Formed
+pub mod Laws
+pub mod Examples

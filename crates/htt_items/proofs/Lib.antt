@@ -1,0 +1,4 @@
+pub mod MoreHeads
+pub mod Environments
+pub mod Derived
+pub mod Worked

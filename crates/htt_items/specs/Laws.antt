@@ -1,0 +1,21 @@
+-- The laws of environments and items.
+use Rattle.std.specs.Prelude.{◌≡◌, List}
+use Rattle.htt_typing.specs.Contexts.{Context, Environment, Obligation}
+use Rattle.typing_canonical.specs.Environments.{heads_of, IsCanonicalEnvironment, IsCanonicalContext}
+use Rattle.typing_canonical.specs.Laws.{AreCanonical}
+use Rattle.htt_items.specs.Environments.{IsFormedEnvironment}
+use Rattle.htt_items.specs.Items.{ItemTree, Derives}
+
+-- a formed environment and its context are canonical, so what the typing rules give in it is canonical
+pub record FormedIsCanonical : Type 0 where
+  pub environment : (env : Environment) (g : Context) → IsFormedEnvironment env g → IsCanonicalEnvironment env
+  pub context : (env : Environment) (g : Context) → IsFormedEnvironment env g → IsCanonicalContext (heads_of env) g
+
+-- an item gives one environment and one list of obligations
+abbrev pub ItemsGiveOne : Type 0
+ItemsGiveOne = (env : Environment) (item : ItemTree) (next other : Environment) (o p : List Obligation) → Derives env item next o → Derives env item other p → (next ≡ other) × (o ≡ p)
+
+-- an item keeps the environment canonical, and owes canonical goals
+pub record ItemsKeepCanonical : Type 0 where
+  pub environment : (env next : Environment) (item : ItemTree) (o : List Obligation) → IsCanonicalEnvironment env → Derives env item next o → IsCanonicalEnvironment next
+  pub owed : (env next : Environment) (item : ItemTree) (o : List Obligation) → IsCanonicalEnvironment env → Derives env item next o → AreCanonical (heads_of env) o

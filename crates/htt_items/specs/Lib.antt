@@ -1,0 +1,4 @@
+pub mod Environments
+pub mod Items
+pub mod Laws
+pub mod Examples

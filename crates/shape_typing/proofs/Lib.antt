@@ -1,0 +1,5 @@
+pub mod Fillings
+pub mod Folded
+pub mod Renamed
+pub mod Filled
+pub mod Substituted

@@ -1,0 +1,2 @@
+pub mod Reindexing
+pub mod Laws

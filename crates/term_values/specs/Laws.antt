@@ -1,0 +1,20 @@
+-- What leaves the value of a term as it is.
+use Rattle.std.specs.Prelude.{◌≡◌, ◌↔◌, List}
+use Rattle.htt_syntax.specs.Trees.{TermTree, FormulaTree}
+use Rattle.canonical_trees.specs.Folding.{folding}
+use Rattle.htt_truth.specs.Worlds.{World}
+use Rattle.htt_truth.specs.TermValue.{term_value}
+use Rattle.htt_truth.specs.Truth.{Holds}
+use Rattle.htt_truth.specs.Predicates.{RecTree, recs_of}
+use Rattle.htt_typing.specs.Places.{plain_term, plain_formula}
+use Rattle.proof_rules.specs.Sequents.{SameTerm, SameFormula}
+
+abbrev pub FoldingKeepsValues : Type 0
+FoldingKeepsValues = (w : World) (M : TermTree) → term_value w (folding M) ≡ term_value w M
+
+-- Terms that differ in positions alone have one value, and such formulas are true together.
+pub record PositionsKeepTruth : Type 0 where
+  pub plain_values : (w : World) (M : TermTree) → term_value w (plain_term M) ≡ term_value w M
+  pub plain_truths : (table : List RecTree) (w : World) (F : FormulaTree) → Holds (recs_of table) w (plain_formula F) ↔ Holds (recs_of table) w F
+  pub same_values : (w : World) (M N : TermTree) → SameTerm M N → term_value w M ≡ term_value w N
+  pub same_truths : (table : List RecTree) (w : World) (F G : FormulaTree) → SameFormula F G → Holds (recs_of table) w F ↔ Holds (recs_of table) w G

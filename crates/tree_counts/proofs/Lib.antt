@@ -1,0 +1,4 @@
+pub mod NodesKept
+pub mod DepthKept
+pub mod Worked
+pub mod Shallow

@@ -1,0 +1,4 @@
+pub mod Nodes
+pub mod Depth
+pub mod Laws
+pub mod Examples

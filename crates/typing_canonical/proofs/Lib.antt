@@ -1,0 +1,3 @@
+pub mod StatesKept
+pub mod Entries
+pub mod Typed

@@ -1,0 +1,16 @@
+-- The induction principle of words.
+use Rattle.std.proofs.Common.{◌≡◌, ℕ, zero, suc, ◌+◌, ◌<◌, ◌∙◌, subst, arith}
+use Rattle.std.specs.Prelude.{◌^◌, ◌%◌}
+use Rattle.htt_syntax.specs.declared.mono.Op.TheVariants.{Add}
+use Rattle.htt_values.specs.Values.{IsWord}
+use Rattle.word_laws.specs.Laws.{IsBelow, word_op}
+use Rattle.word_laws.proofs.Order.{is_below, next_word}
+
+-- What is so of 0, and of the next word of each word below the greatest of which it is so, is so of
+-- each word.
+pub word_induction : (P : ℕ → Type 0) → P 0 → ((y : ℕ) → IsBelow y 18446744073709551615 → P y → P (word_op Add y 1)) → (n : ℕ) → IsWord n → P n
+word_induction P base step zero p = base
+word_induction P base step (suc n) p =
+    let l : n < 18446744073709551615 = omega (arith, p) in
+    let e : (n + 1) % 2 ^ 64 ≡ suc n = next_word n 18446744073709551615 (omega arith) l ∙ omega arith in
+    subst P e (step n (is_below n 18446744073709551615 l) (word_induction P base step n (omega (arith, p))))

@@ -1,0 +1,4 @@
+pub mod Sums
+pub mod Order
+pub mod Bits
+pub mod Induction
