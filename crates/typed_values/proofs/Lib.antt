@@ -1,0 +1,9 @@
+pub mod FirstOrder
+pub mod Formed
+pub mod ShapesOf
+pub mod Expanded
+pub mod Wider
+pub mod TypedForms
+pub mod Environments
+pub mod Values
+pub mod Sorted

@@ -1,0 +1,3 @@
+pub mod FirstOrder
+pub mod Environments
+pub mod Laws
