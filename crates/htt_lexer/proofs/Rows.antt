@@ -1,0 +1,126 @@
+-- What holds of each row of a table holds of each spelling that the table has.
+use Rattle.std.proofs.Common.{◌≡◌, ℕ, ◌+◌, ◌<◌, ◌≤◌, List, [], ◌∷◌, ◌++◌, length, map, drop, get_or, suc, Bool, true, false, ◌&&◌, ◌||◌, cond, refl, sym, ◌∙◌, ap, subst, arith, nat_lt, eq-eqb}
+use Rattle.std.specs.Prelude.{Option, Some, None, not, codes, ◌==◌}
+use Rattle.std.specs.List.{list_all}
+use Rattle.std.specs.Char.{is_ascii_alphabetic, is_ascii_digit}
+use Rattle.std.specs.Str.{bytes_eq}
+use denote.Ref.{Bor}
+use Rattle.std.proofs.Math.Seq.{drop-cons}
+use Rattle.std.proofs.lemmas.Bool.Decides.{nat_tests}
+use Rattle.std.proofs.lemmas.Slice.Eq.{bytes_eq-Decides}
+use Rattle.std.specs.Cmp.Lexicographic.{same_text}
+use Rattle.htt_tokens.specs.declared.tokens.Keyword.{Keyword}
+use Rattle.htt_tokens.specs.declared.tokens.Sign.{Sign}
+use Rattle.htt_lexer.specs.Tables.{named, keywords, one_sign, spelled}
+use Rattle.htt_lexer.specs.Tokens.{is_blank}
+
+-- ---- tests
+
+pub by_cond : {A : Type 0} (P : A → Type 0) (t : Bool) (x y : A) → (t ≡ true → P x) → (t ≡ false → P y) → P (cond t x y)
+by_cond P true x y when unless = when refl
+by_cond P false x y when unless = unless refl
+
+pub by_option : {A : Type 0} (P : Option A → Type 0) (o : Option A) → (o ≡ None → P None) → ((x : A) → o ≡ Some x → P (Some x)) → P o
+by_option P None none some = none refl
+by_option P (Some x) none some = some x refl
+
+pub not_true : (t : Bool) → (t ≡ true → ⊥) → t ≡ false
+not_true true h = absurd (h refl)
+not_true false h = refl
+
+pub both_true : (x y : Bool) → (x && y) ≡ true → (x ≡ true) × (y ≡ true)
+both_true true y h = (refl, h)
+both_true false y h = cc
+
+pub either : (x y : Bool) (P : Type 0) → (x ≡ true → P) → (y ≡ true → P) → (x || y) ≡ true → P
+either true y P left right h = left refl
+either false y P left right h = right h
+
+pub equal : (b k : ℕ) → (b == k) ≡ true → b ≡ k
+equal b k h = grind (arith, nat_tests)
+
+-- a byte that passes isn't one that fails
+pub apart : (p : ℕ → Bool) (b k : ℕ) → p b ≡ true → p k ≡ false → (b == k) ≡ false
+apart p b k passes fails = not_true (b == k) (λ e. let same = ap p (equal b k e) in cc)
+
+-- ---- tables
+
+pub of_row : {A : Type 0} (test : List ℕ → Bool) (rows : List (List ℕ × A)) (spelling : List ℕ) (x : A) →
+    list_all (λ row. test row.0) rows ≡ true → named rows spelling ≡ Some x → test spelling ≡ true
+of_row test [] spelling x all e = cc
+of_row test (row ∷ rows) spelling x all e =
+    let h = both_true (test row.0) (list_all (λ r. test r.0) rows) all in
+    by_cond (λ o. o ≡ Some x → test spelling ≡ true) (bytes_eq spelling row.0) (Some row.1) (named rows spelling)
+    (λ same _. ap test (same_text spelling row.0 (sym same)) ∙ h.0)
+    (λ _ rest. of_row test rows spelling x h.1 rest) e
+
+-- how a sign begins: with none of a blank, a digit and a letter
+abbrev pub is_plain : ℕ → Bool
+is_plain b = nat_lt b 128 && (not (is_blank b) && (not (is_ascii_digit b) && (not (is_ascii_alphabetic b) && not (b == 95))))
+
+abbrev pub begins_plain : List ℕ → Bool
+begins_plain [] = false
+begins_plain (b ∷ bs) = is_plain b
+
+-- so long is a sign
+abbrev pub is_sign_length : List ℕ → Bool
+is_sign_length spelling = nat_lt 0 (length spelling) && nat_lt (length spelling) 4
+
+pub sign_begins : (spelling : List ℕ) (s : Sign) → named one_sign spelling ≡ Some s → begins_plain spelling ≡ true
+unfolding one_sign
+sign_begins spelling s = of_row begins_plain one_sign spelling s refl
+
+pub sign_length_bounds : (spelling : List ℕ) (s : Sign) → named one_sign spelling ≡ Some s → (0 < length spelling) × (length spelling < 4)
+unfolding one_sign
+sign_length_bounds spelling s e =
+    let h = both_true (nat_lt 0 (length spelling)) (nat_lt (length spelling) 4) (of_row is_sign_length one_sign spelling s refl e) in
+    (grind (arith, nat_tests), grind (arith, nat_tests))
+
+pub long_is_none : (spelling : List ℕ) → 3 < length spelling → named one_sign spelling ≡ None
+long_is_none spelling long =
+    by_option (λ o. o ≡ None) (named one_sign spelling) (λ _. refl) (λ s e. absurd (omega (arith, long, (sign_length_bounds spelling s e).1)))
+
+-- ---- a table from one row to the next
+
+pub row_here : {A : Type 0} (table : List (Bor (List ℕ) × A)) (i : ℕ) (row : Bor (List ℕ) × A) (spelling : List ℕ) → i < length table → row ≡ get_or table i row →
+    bytes_eq spelling row.0.now ≡ true → named (map spelled (drop i table)) spelling ≡ Some row.1
+row_here table i row spelling within is same = rw (drop-cons table i row within, sym is, same) refl
+
+pub row_elsewhere : {A : Type 0} (table : List (Bor (List ℕ) × A)) (i : ℕ) (row : Bor (List ℕ) × A) (spelling : List ℕ) → i < length table → row ≡ get_or table i row →
+    bytes_eq spelling row.0.now ≡ false → named (map spelled (drop i table)) spelling ≡ named (map spelled (drop (i + 1) table)) spelling
+row_elsewhere table i row spelling within is other =
+    let next : suc i ≡ i + 1 = omega arith in
+    rw (drop-cons table i row within, sym is, other) (ap (λ k. named (map spelled (drop k table)) spelling) next)
+
+-- ---- tables by length
+
+-- the rows with a spelling of this length
+abbrev pub of_length : {A : Type 0} → ℕ → List (List ℕ × A) → List (List ℕ × A)
+of_length n [] = []
+of_length n (row ∷ rows) = cond (length row.0 == n) (row ∷ of_length n rows) (of_length n rows)
+
+other_length : (n : ℕ) (spelling text : List ℕ) → length spelling ≡ n → (length text == n) ≡ false → bytes_eq spelling text ≡ false
+other_length n spelling text e other =
+    not_true (bytes_eq spelling text) (λ same.
+    let whole = ap (λ t. length t == n) (same_text spelling text (sym same)) in
+    let own : (length spelling == n) ≡ true = rw e (eq-eqb n n refl) in
+    cc)
+
+-- a spelling of a length is looked up among the rows of that length
+pub named-of_length : {A : Type 0} (n : ℕ) (rows : List (List ℕ × A)) (spelling : List ℕ) → length spelling ≡ n → named (of_length n rows) spelling ≡ named rows spelling
+named-of_length n [] spelling e = refl
+named-of_length n (row ∷ rows) spelling e =
+    let rest = named-of_length n rows spelling e in
+    by_cond (λ some. named some spelling ≡ named (row ∷ rows) spelling) (length row.0 == n) (row ∷ of_length n rows) (of_length n rows)
+    (λ _. ap (λ o. cond (bytes_eq spelling row.0) (Some row.1) o) rest)
+    (λ other. rw (other_length n spelling row.0 e other) rest)
+
+-- so long is a keyword
+abbrev pub is_word_length : List ℕ → Bool
+is_word_length word = nat_lt 1 (length word) && nat_lt (length word) 8
+
+pub word_length_bounds : (word : List ℕ) (k : Keyword) → named keywords word ≡ Some k → (1 < length word) × (length word < 8)
+unfolding keywords
+word_length_bounds word k e =
+    let h = both_true (nat_lt 1 (length word)) (nat_lt (length word) 8) (of_row is_word_length keywords word k refl e) in
+    (grind (arith, nat_tests), grind (arith, nat_tests))

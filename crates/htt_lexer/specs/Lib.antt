@@ -1,0 +1,4 @@
+pub mod Tables
+pub mod Tokens
+pub mod Pieces
+pub mod Refusals
