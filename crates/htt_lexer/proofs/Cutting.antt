@@ -13,7 +13,7 @@ use Rattle.htt_tokens.specs.declared.tokens.Sign.{Sign}
 use Rattle.htt_tokens.specs.declared.tokens.Token as tokens
 use Rattle.htt_lexer.specs.declared.pieces.Piece.{Piece}
 use Rattle.htt_lexer.specs.declared.pieces.Piece.TheVariants.{End, Gap, Token, NoToken, TooLarge}
-use Rattle.htt_lexer.specs.Tables.{named, one_sign}
+use Rattle.htt_lexer.specs.Tables.{lookup, sign_table}
 use Rattle.htt_lexer.specs.Tokens.{IsLongest, Stops, IsGap, blank, comment, IsToken, word, number, sign, is_blank, is_comment, Reads, here, gap, token}
 use Rattle.htt_lexer.specs.Pieces.{piece_of}
 use Rattle.htt_lexer.proofs.Rows.{both_true, equal, of_row}
@@ -46,9 +46,9 @@ is_small b = nat_lt b 128
 small : (b : ℕ) → is_small b ≡ true → b < 128
 small b h = grind (arith, nat_tests)
 
-sign_small : (spelling : List ℕ) (s : Sign) → named one_sign spelling ≡ Some s → list_all is_small spelling ≡ true
-unfolding one_sign
-sign_small spelling s = of_row (list_all is_small) one_sign spelling s refl
+sign_small : (spelling : List ℕ) (s : Sign) → lookup sign_table spelling ≡ Some s → list_all is_small spelling ≡ true
+unfolding sign_table
+sign_small spelling s = of_row (list_all is_small) sign_table spelling s refl
 
 line_feed : (b : ℕ) → is_comment b ≡ false → b < 128
 line_feed b h = grind (arith, nat_tests)

@@ -16,7 +16,7 @@ use Rattle.htt_tokens.specs.declared.tokens.Kind.{Kind}
 use Rattle.htt_tokens.specs.declared.tokens.Kind.TheVariants as kinds
 use Rattle.htt_lexer.specs.declared.pieces.Piece.{Piece}
 use Rattle.htt_lexer.specs.declared.pieces.Piece.TheVariants.{End, Gap, Token, NoToken, TooLarge}
-use Rattle.htt_lexer.specs.Tables.{named, one_sign}
+use Rattle.htt_lexer.specs.Tables.{lookup, sign_table}
 use Rattle.htt_lexer.specs.Tokens.{IsLongest, IsLongestSign, IsGap, blank, comment, IsToken, word, number, sign, is_blank, is_comment, word_kind}
 use Rattle.htt_lexer.specs.Refusals.{BeginsTooLarge, BeginsNothing}
 use Rattle.htt_lexer.specs.Pieces.{number_of, word_piece, piece_of_number, number_piece, sign_piece, starts_word, word_length, begins_comment, comment_piece, piece_of}
@@ -84,8 +84,8 @@ plain_text b bytes u no_comment h =
 
 -- ---- the signs as a table
 
-short : signs.IsShort (named one_sign)
-unfolding one_sign
+short : signs.IsShort (lookup sign_table)
+unfolding sign_table
 short = record { empty = refl; long = long_is_none }
 
 -- ---- what stands at the front, told from the grammar
@@ -128,7 +128,7 @@ sign_text : (spelling rest : List ℕ) (s : Sign) → IsUtf8 (spelling ++ rest) 
 sign_text [] rest s u h = let none : begins_plain [] ≡ true = sign_begins [] s h.is in cc
 sign_text (b ∷ more) rest s u h =
     plain_text b (more ++ rest) u (no_comment_at (b ∷ more) rest b (more ++ rest) refl h.no_comment) (plain b (sign_begins (b ∷ more) s h.is))
-    ∙ signs.front-longest (named one_sign) (b ∷ more) rest s short h.is h.longest
+    ∙ signs.front-longest (lookup sign_table) (b ∷ more) rest s short h.is h.longest
 
 pub token_piece : {piece rest : List ℕ} {kind : Kind} → IsUtf8 (piece ++ rest) → IsToken piece rest kind → piece_of (piece ++ rest) ≡ Token kind (length piece)
 token_piece {rest = rest} u (word {c = c} {others = others} w) =
@@ -225,7 +225,7 @@ word_cut text u starts =
 not_comment : (b : ℕ) (bytes spelling rest : List ℕ) → begins_comment b bytes ≡ false → b ∷ bytes ≡ spelling ++ rest → (after : List ℕ) → spelling ++ rest ≡ codes "--" ++ after → ⊥
 not_comment b bytes spelling rest none whole after e = let dashes = ap begins_dashes (whole ∙ e) in cc
 
-sign_cut : (b : ℕ) (bytes : List ℕ) (piece : Piece) → begins_comment b bytes ≡ false → signs.Finds (named one_sign) (b ∷ bytes) piece → signs.OnlySigns piece → Cuts (b ∷ bytes) piece
+sign_cut : (b : ℕ) (bytes : List ℕ) (piece : Piece) → begins_comment b bytes ≡ false → signs.Finds (lookup sign_table) (b ∷ bytes) piece → signs.OnlySigns piece → Cuts (b ∷ bytes) piece
 sign_cut b bytes (Token (kinds.Sign s) n) none h only =
     let plain_start = sign_begins h.spelling s h.is in
     seam_cut (λ piece rest. IsToken piece rest (kinds.Sign s)) (b ∷ bytes) h.spelling h.rest n h.whole h.size (begins_some h.spelling plain_start)
@@ -241,7 +241,7 @@ cuts (b ∷ bytes) u =
     by_cond P (is_blank b) _ _ (λ h. record { some = omega arith; within = omega arith; is = blank h }) (λ _.
     by_cond P (is_ascii_digit b) _ _ (number_cut b bytes) (λ _.
     by_cond P (starts_word (chars (b ∷ bytes))) _ _ (word_cut (b ∷ bytes) u) (λ _.
-    sign_cut b bytes (sign_piece (b ∷ bytes)) none (signs.finds (named one_sign) (b ∷ bytes) short) (signs.only_signs (named one_sign) (b ∷ bytes))))))
+    sign_cut b bytes (sign_piece (b ∷ bytes)) none (signs.finds (lookup sign_table) (b ∷ bytes) short) (signs.only_signs (lookup sign_table) (b ∷ bytes))))))
 
 not_at_end : (text : List ℕ) → piece_of text ≡ NoToken → 0 < length text
 not_at_end [] told = cc
@@ -255,3 +255,13 @@ nothing text u told = record {
   no_token = λ piece rest kind e is. let other = token_piece (subst IsUtf8 e u) is in let same = ap piece_of e in cc;
   no_number = λ h. let other = large_piece text h in cc;
 }
+
+-- a gap has a byte at least, and so has a token
+pub gap_some : {piece rest : List ℕ} → IsGap piece rest → 0 < length piece
+gap_some (blank h) = omega arith
+gap_some (comment h) = omega arith
+
+pub token_some : {piece rest : List ℕ} {kind : Kind} → IsToken piece rest kind → 0 < length piece
+token_some (word {c = c} {others = others} w) = some_letter c others
+token_some (number longest fits) = omega arith
+token_some (sign {spelling = spelling} {s = s} h) = begins_some spelling (sign_begins spelling s h.is)

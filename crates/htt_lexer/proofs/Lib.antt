@@ -5,3 +5,6 @@ pub mod Signs
 pub mod Fronts
 pub mod Searches
 pub mod Cutting
+pub mod Sameness
+pub mod Spans
+pub mod TokenLaws

@@ -11,7 +11,7 @@ use Rattle.std.proofs.lemmas.Slice.Eq.{bytes_eq-Decides}
 use Rattle.std.specs.Cmp.Lexicographic.{same_text}
 use Rattle.htt_tokens.specs.declared.tokens.Keyword.{Keyword}
 use Rattle.htt_tokens.specs.declared.tokens.Sign.{Sign}
-use Rattle.htt_lexer.specs.Tables.{named, keywords, one_sign, spelled}
+use Rattle.htt_lexer.specs.Tables.{lookup, keyword_table, sign_table, spelled}
 use Rattle.htt_lexer.specs.Tokens.{is_blank}
 
 -- ---- tests
@@ -46,11 +46,11 @@ apart p b k passes fails = not_true (b == k) (λ e. let same = ap p (equal b k e
 -- ---- tables
 
 pub of_row : {A : Type 0} (test : List ℕ → Bool) (rows : List (List ℕ × A)) (spelling : List ℕ) (x : A) →
-    list_all (λ row. test row.0) rows ≡ true → named rows spelling ≡ Some x → test spelling ≡ true
+    list_all (λ row. test row.0) rows ≡ true → lookup rows spelling ≡ Some x → test spelling ≡ true
 of_row test [] spelling x all e = cc
 of_row test (row ∷ rows) spelling x all e =
     let h = both_true (test row.0) (list_all (λ r. test r.0) rows) all in
-    by_cond (λ o. o ≡ Some x → test spelling ≡ true) (bytes_eq spelling row.0) (Some row.1) (named rows spelling)
+    by_cond (λ o. o ≡ Some x → test spelling ≡ true) (bytes_eq spelling row.0) (Some row.1) (lookup rows spelling)
     (λ same _. ap test (same_text spelling row.0 (sym same)) ∙ h.0)
     (λ _ rest. of_row test rows spelling x h.1 rest) e
 
@@ -66,31 +66,31 @@ begins_plain (b ∷ bs) = is_plain b
 abbrev pub is_sign_length : List ℕ → Bool
 is_sign_length spelling = nat_lt 0 (length spelling) && nat_lt (length spelling) 4
 
-pub sign_begins : (spelling : List ℕ) (s : Sign) → named one_sign spelling ≡ Some s → begins_plain spelling ≡ true
-unfolding one_sign
-sign_begins spelling s = of_row begins_plain one_sign spelling s refl
+pub sign_begins : (spelling : List ℕ) (s : Sign) → lookup sign_table spelling ≡ Some s → begins_plain spelling ≡ true
+unfolding sign_table
+sign_begins spelling s = of_row begins_plain sign_table spelling s refl
 
-pub sign_length_bounds : (spelling : List ℕ) (s : Sign) → named one_sign spelling ≡ Some s → (0 < length spelling) × (length spelling < 4)
-unfolding one_sign
+pub sign_length_bounds : (spelling : List ℕ) (s : Sign) → lookup sign_table spelling ≡ Some s → (0 < length spelling) × (length spelling < 4)
+unfolding sign_table
 sign_length_bounds spelling s e =
-    let h = both_true (nat_lt 0 (length spelling)) (nat_lt (length spelling) 4) (of_row is_sign_length one_sign spelling s refl e) in
+    let h = both_true (nat_lt 0 (length spelling)) (nat_lt (length spelling) 4) (of_row is_sign_length sign_table spelling s refl e) in
     (grind (arith, nat_tests), grind (arith, nat_tests))
 
-pub long_is_none : (spelling : List ℕ) → 3 < length spelling → named one_sign spelling ≡ None
+pub long_is_none : (spelling : List ℕ) → 3 < length spelling → lookup sign_table spelling ≡ None
 long_is_none spelling long =
-    by_option (λ o. o ≡ None) (named one_sign spelling) (λ _. refl) (λ s e. absurd (omega (arith, long, (sign_length_bounds spelling s e).1)))
+    by_option (λ o. o ≡ None) (lookup sign_table spelling) (λ _. refl) (λ s e. absurd (omega (arith, long, (sign_length_bounds spelling s e).1)))
 
 -- ---- a table from one row to the next
 
 pub row_here : {A : Type 0} (table : List (Bor (List ℕ) × A)) (i : ℕ) (row : Bor (List ℕ) × A) (spelling : List ℕ) → i < length table → row ≡ get_or table i row →
-    bytes_eq spelling row.0.now ≡ true → named (map spelled (drop i table)) spelling ≡ Some row.1
+    bytes_eq spelling row.0.now ≡ true → lookup (map spelled (drop i table)) spelling ≡ Some row.1
 row_here table i row spelling within is same = rw (drop-cons table i row within, sym is, same) refl
 
 pub row_elsewhere : {A : Type 0} (table : List (Bor (List ℕ) × A)) (i : ℕ) (row : Bor (List ℕ) × A) (spelling : List ℕ) → i < length table → row ≡ get_or table i row →
-    bytes_eq spelling row.0.now ≡ false → named (map spelled (drop i table)) spelling ≡ named (map spelled (drop (i + 1) table)) spelling
+    bytes_eq spelling row.0.now ≡ false → lookup (map spelled (drop i table)) spelling ≡ lookup (map spelled (drop (i + 1) table)) spelling
 row_elsewhere table i row spelling within is other =
     let next : suc i ≡ i + 1 = omega arith in
-    rw (drop-cons table i row within, sym is, other) (ap (λ k. named (map spelled (drop k table)) spelling) next)
+    rw (drop-cons table i row within, sym is, other) (ap (λ k. lookup (map spelled (drop k table)) spelling) next)
 
 -- ---- tables by length
 
@@ -107,11 +107,11 @@ other_length n spelling text e other =
     cc)
 
 -- a spelling of a length is looked up among the rows of that length
-pub named-of_length : {A : Type 0} (n : ℕ) (rows : List (List ℕ × A)) (spelling : List ℕ) → length spelling ≡ n → named (of_length n rows) spelling ≡ named rows spelling
-named-of_length n [] spelling e = refl
-named-of_length n (row ∷ rows) spelling e =
-    let rest = named-of_length n rows spelling e in
-    by_cond (λ some. named some spelling ≡ named (row ∷ rows) spelling) (length row.0 == n) (row ∷ of_length n rows) (of_length n rows)
+pub lookup-of_length : {A : Type 0} (n : ℕ) (rows : List (List ℕ × A)) (spelling : List ℕ) → length spelling ≡ n → lookup (of_length n rows) spelling ≡ lookup rows spelling
+lookup-of_length n [] spelling e = refl
+lookup-of_length n (row ∷ rows) spelling e =
+    let rest = lookup-of_length n rows spelling e in
+    by_cond (λ some. lookup some spelling ≡ lookup (row ∷ rows) spelling) (length row.0 == n) (row ∷ of_length n rows) (of_length n rows)
     (λ _. ap (λ o. cond (bytes_eq spelling row.0) (Some row.1) o) rest)
     (λ other. rw (other_length n spelling row.0 e other) rest)
 
@@ -119,8 +119,8 @@ named-of_length n (row ∷ rows) spelling e =
 abbrev pub is_word_length : List ℕ → Bool
 is_word_length word = nat_lt 1 (length word) && nat_lt (length word) 8
 
-pub word_length_bounds : (word : List ℕ) (k : Keyword) → named keywords word ≡ Some k → (1 < length word) × (length word < 8)
-unfolding keywords
+pub word_length_bounds : (word : List ℕ) (k : Keyword) → lookup keyword_table word ≡ Some k → (1 < length word) × (length word < 8)
+unfolding keyword_table
 word_length_bounds word k e =
-    let h = both_true (nat_lt 1 (length word)) (nat_lt (length word) 8) (of_row is_word_length keywords word k refl e) in
+    let h = both_true (nat_lt 1 (length word)) (nat_lt (length word) 8) (of_row is_word_length keyword_table word k refl e) in
     (grind (arith, nat_tests), grind (arith, nat_tests))

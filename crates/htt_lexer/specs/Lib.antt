@@ -2,3 +2,5 @@ pub mod Tables
 pub mod Tokens
 pub mod Pieces
 pub mod Refusals
+pub mod Laws
+pub mod Examples

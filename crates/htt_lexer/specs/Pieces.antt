@@ -9,7 +9,7 @@ use Rattle.unicode_ident.specs.Ident.{is_xid_continue}
 use Rattle.htt_tokens.specs.declared.tokens.Kind.TheVariants as kinds
 use Rattle.htt_lexer.specs.declared.pieces.Piece.{Piece}
 use Rattle.htt_lexer.specs.declared.pieces.Piece.TheVariants.{End, Gap, Token, NoToken, TooLarge}
-use Rattle.htt_lexer.specs.Tables.{named, one_sign}
+use Rattle.htt_lexer.specs.Tables.{lookup, sign_table}
 use Rattle.htt_lexer.specs.Tokens.{is_blank, is_comment, begins_word, word_kind}
 
 -- a number that is below 2 ^ 64
@@ -40,7 +40,7 @@ word_piece text = Token (word_kind (take (word_length (chars text)) text)) (word
 
 -- the sign that the first bytes spell, up to so many
 abbrev pub sign_within : ℕ → List ℕ → Option Piece
-sign_within most text = option_map (λ s. Token (kinds.Sign s) (length (take most text))) (named one_sign (take most text))
+sign_within most text = option_map (λ s. Token (kinds.Sign s) (length (take most text))) (lookup sign_table (take most text))
 
 abbrev pub sign_piece : List ℕ → Piece
 sign_piece text = unwrap_or (option_or (sign_within 3 text) (option_or (sign_within 2 text) (sign_within 1 text))) NoToken

@@ -8,16 +8,16 @@ use Rattle.htt_tokens.specs.declared.tokens.Sign.{Sign}
 use Rattle.htt_tokens.specs.declared.tokens.Sign.TheVariants as signs
 
 -- what the table has for this spelling, if anything
-abbrev pub named : {A : Type 0} → List (List ℕ × A) → List ℕ → Option A
-named [] spelling = None
-named (row ∷ rows) spelling = if bytes_eq spelling row.0 then Some row.1 else named rows spelling
+abbrev pub lookup : {A : Type 0} → List (List ℕ × A) → List ℕ → Option A
+lookup [] spelling = None
+lookup (row ∷ rows) spelling = if bytes_eq spelling row.0 then Some row.1 else lookup rows spelling
 
 -- a row of the code's tables as one of these
 abbrev pub spelled : {A : Type 0} → Bor (List ℕ) × A → List ℕ × A
 spelled row = (row.0.now, row.1)
 
-unfoldable pub keywords : List (List ℕ × Keyword)
-keywords =
+unfoldable pub keyword_table : List (List ℕ × Keyword)
+keyword_table =
     (codes "type", words.TypeWord) ∷
     (codes "pred", words.PredWord) ∷
     (codes "def", words.DefWord) ∷
@@ -85,8 +85,8 @@ keywords =
     []
 
 -- `_` is a sign too, but stands alone, so it is told among the words
-unfoldable pub one_sign : List (List ℕ × Sign)
-one_sign =
+unfoldable pub sign_table : List (List ℕ × Sign)
+sign_table =
     (codes "(", signs.OpenParenSign) ∷
     (codes ")", signs.CloseParenSign) ∷
     (codes "[", signs.OpenBracketSign) ∷

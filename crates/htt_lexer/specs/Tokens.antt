@@ -11,7 +11,7 @@ use Rattle.htt_tokens.specs.declared.tokens.Sign.TheVariants as signs
 use Rattle.htt_tokens.specs.declared.tokens.Kind.{Kind}
 use Rattle.htt_tokens.specs.declared.tokens.Kind.TheVariants as kinds
 use Rattle.htt_tokens.specs.declared.tokens.Token.{Token}
-use Rattle.htt_lexer.specs.Tables.{named, keywords, one_sign}
+use Rattle.htt_lexer.specs.Tables.{lookup, keyword_table, sign_table}
 
 -- space, tab, carriage return, line feed
 abbrev pub is_blank : ℕ → Bool
@@ -31,7 +31,7 @@ keyword_or_name None = kinds.Name
 keyword_or_name (Some word) = kinds.Keyword word
 
 abbrev pub word_kind : List ℕ → Kind
-word_kind word = if bytes_eq word (codes "_") then kinds.Sign signs.UnderscoreSign else keyword_or_name (named keywords word)
+word_kind word = if bytes_eq word (codes "_") then kinds.Sign signs.UnderscoreSign else keyword_or_name (lookup keyword_table word)
 
 -- what follows doesn't begin with a byte that would go on
 abbrev pub Stops : (ℕ → Bool) → List ℕ → Type 0
@@ -51,8 +51,8 @@ pub record IsWord (c : ℕ) (others rest : List ℕ) : Type 0 where
 
 -- a sign, where no longer sign and no comment begins
 pub record IsLongestSign (spelling rest : List ℕ) (s : Sign) : Type 0 where
-  pub is : named one_sign spelling ≡ Some s
-  pub longest : (b : ℕ) (more after : List ℕ) → rest ≡ b ∷ more ++ after → named one_sign (spelling ++ b ∷ more) ≡ None
+  pub is : lookup sign_table spelling ≡ Some s
+  pub longest : (b : ℕ) (more after : List ℕ) → rest ≡ b ∷ more ++ after → lookup sign_table (spelling ++ b ∷ more) ≡ None
   pub no_comment : (after : List ℕ) → spelling ++ rest ≡ codes "--" ++ after → ⊥
 
 -- the bytes of what separates tokens: a blank, or a comment with its end before this rest

@@ -4,8 +4,11 @@
 //! to answer exactly those.
 #![tactic(auto)]
 
+mod laws;
 mod lexer;
 mod pieces;
 mod tables;
 
+pub use htt_tokens::{Keyword, Kind, Sign, Token};
+pub use laws::token_laws;
 pub use lexer::{LexStop, tokens};

@@ -2,7 +2,7 @@
 //! with few others.
 
 ghost use Rattle.std.specs.Prelude.{◌≡◌, map};
-ghost use Rattle.htt_lexer.specs.Tables.{keywords, named, one_sign, spelled};
+ghost use Rattle.htt_lexer.specs.Tables.{keyword_table, lookup, sign_table, spelled};
 
 use htt_tokens::{Keyword, Sign};
 
@@ -128,7 +128,7 @@ const SIGNS_OF_THREE: [(&str, Sign); 1] = [
 
 /// What a table has for a spelling, if anything.
 fn row_of<T: Copy>(table: &[(&str, T)], spelling: &[u8]) -> Option<T>
-    ensures { result ≡ named (map spelled table.now) spelling.now }
+    ensures { result ≡ lookup (map spelled table.now) spelling.now }
 {
     for (text, meaning) in table {
         if spelling == text.as_bytes() {
@@ -140,7 +140,7 @@ fn row_of<T: Copy>(table: &[(&str, T)], spelling: &[u8]) -> Option<T>
 
 /// The keyword of this spelling, if any.
 pub fn keyword_of(word: &[u8]) -> Option<Keyword>
-    ensures { result ≡ named keywords word.now }
+    ensures { result ≡ lookup keyword_table word.now }
 {
     match word.len() {
         2 => row_of(&WORDS_OF_TWO, word),
@@ -155,7 +155,7 @@ pub fn keyword_of(word: &[u8]) -> Option<Keyword>
 
 /// The sign of this spelling, if any.
 pub fn sign_of(spelling: &[u8]) -> Option<Sign>
-    ensures { result ≡ named one_sign spelling.now }
+    ensures { result ≡ lookup sign_table spelling.now }
 {
     match spelling.len() {
         1 => row_of(&SIGNS_OF_ONE, spelling),
