@@ -1,22 +1,20 @@
 -- The tokens of a text from one piece to the next.
-use Rattle.std.proofs.Common.{◌≡◌, ℕ, suc, ◌+◌, ◌-◌, ◌<◌, ◌≤◌, List, [], ◌∷◌, ◌++◌, length, take, drop, Bool, true, false, refl, sym, ◌∙◌, ap, subst, arith, append_assoc, append-nil, nat_lt, get_or}
-use Rattle.std.specs.Prelude.{IsUtf8, codes, ◌==◌, Some}
+use Rattle.std.proofs.Common.{◌≡◌, ℕ, ◌+◌, ◌<◌, ◌≤◌, List, [], ◌∷◌, ◌++◌, length, take, drop, Bool, true, false, refl, sym, ◌∙◌, ap, subst, arith, nat_lt, get_or}
+use Rattle.std.specs.Prelude.{IsUtf8, Some}
 use Rattle.std.specs.List.{list_all}
-use Rattle.std.specs.Char.{is_ascii_digit, encode_utf8}
-use Rattle.std.specs.Str.{encode_utf8_all}
+use Rattle.std.specs.Char.{is_ascii_digit}
 use Rattle.std.proofs.Math.Seq.{drop-append_seam, get_or-append_seam}
-use Rattle.std.proofs.lemmas.List.{take-append-drop, length-take-le, take_all, drop-drop, length-drop, length-append}
+use Rattle.std.proofs.lemmas.List.{take-append-drop, length-take-le, drop-drop, length-drop, length-append}
 use Rattle.std.proofs.lemmas.Bool.Decides.{nat_tests}
 use Rattle.std.proofs.lemmas.Str.{IsUtf8-past_char, IsUtf8-drop, IsUtf8-nil, IsCharBoundary-before_ascii, encode_ascii}
 use Rattle.htt_tokens.specs.declared.tokens.Kind.{Kind}
 use Rattle.htt_tokens.specs.declared.tokens.Sign.{Sign}
 use Rattle.htt_tokens.specs.declared.tokens.Token as tokens
 use Rattle.htt_lexer.specs.declared.pieces.Piece.{Piece}
-use Rattle.htt_lexer.specs.declared.pieces.Piece.TheVariants.{End, Gap, Token, NoToken, TooLarge}
 use Rattle.htt_lexer.specs.Tables.{lookup, sign_table}
-use Rattle.htt_lexer.specs.Tokens.{IsLongest, Stops, IsGap, blank, comment, IsToken, word, number, sign, is_blank, is_comment, Reads, here, gap, token}
+use Rattle.htt_lexer.specs.Tokens.{Stops, IsGap, blank, comment, IsToken, word, number, sign, is_blank, is_comment, Reads, here, gap, token}
 use Rattle.htt_lexer.specs.Pieces.{piece_of}
-use Rattle.htt_lexer.proofs.Rows.{both_true, equal, of_row}
+use Rattle.htt_lexer.proofs.Rows.{both_true, of_row}
 use Rattle.htt_lexer.proofs.Words.{rest_utf8}
 use Rattle.htt_lexer.proofs.Fronts.{Cut, Cuts, cuts}
 

@@ -1,9 +1,9 @@
 -- A gap or a token at the front of a text is the piece that the text's first bytes tell, and the piece
 -- that is told is one of the grammar.
-use Rattle.std.proofs.Common.{◌≡◌, ℕ, suc, ◌+◌, ◌^◌, ◌<◌, ◌≤◌, List, [], ◌∷◌, ◌++◌, length, take, drop, Bool, true, false, ◌&&◌, ◌||◌, cond, refl, sym, ◌∙◌, ap, subst, arith, nat_lt}
-use Rattle.std.specs.Prelude.{Option, Some, None, ◌==◌, not, IsUtf8, codes}
-use Rattle.std.specs.List.{prefix_len, list_all}
-use Rattle.std.specs.Char.{encode_utf8, is_ascii_alphabetic, is_ascii_digit}
+use Rattle.std.proofs.Common.{◌≡◌, ℕ, suc, ◌+◌, ◌^◌, ◌<◌, ◌≤◌, List, [], ◌∷◌, ◌++◌, length, take, drop, Bool, true, false, cond, refl, sym, ◌∙◌, ap, subst, arith, nat_lt}
+use Rattle.std.specs.Prelude.{◌==◌, IsUtf8, codes}
+use Rattle.std.specs.List.{prefix_len}
+use Rattle.std.specs.Char.{encode_utf8, is_ascii_digit}
 use Rattle.std.specs.Str.{chars, encode_utf8_all}
 use Rattle.std.specs.Str.Parse.{digits_value}
 use Rattle.std.proofs.lemmas.Bool.Decides.{nat_tests}
@@ -22,7 +22,7 @@ use Rattle.htt_lexer.specs.Refusals.{BeginsTooLarge, BeginsNothing}
 use Rattle.htt_lexer.specs.Pieces.{number_of, word_piece, piece_of_number, number_piece, sign_piece, starts_word, word_length, begins_comment, comment_piece, piece_of}
 use Rattle.htt_lexer.proofs.Rows.{by_cond, both_true, not_true, equal, apart, is_plain, begins_plain, sign_begins, long_is_none}
 use Rattle.htt_lexer.proofs.Runs.{prefix_len-run, longest_run, word_of-small, word_of-none, below, above}
-use Rattle.htt_lexer.proofs.Words.{is_letter, word_byte, Found, word_found, HasWord, word_at}
+use Rattle.htt_lexer.proofs.Words.{is_letter, word_byte, word_found, word_at}
 use Rattle.htt_lexer.proofs.Signs as signs
 
 -- ---- the first byte

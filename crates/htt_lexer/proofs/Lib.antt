@@ -8,3 +8,4 @@ pub mod Cutting
 pub mod Sameness
 pub mod Spans
 pub mod TokenLaws
+pub mod Examples

@@ -1,6 +1,6 @@
 -- Runs that can't be longer, and the numbers that runs of digits write.
-use Rattle.std.proofs.Common.{◌≡◌, ℕ, suc, ◌+◌, ◌*◌, ◌^◌, ◌<◌, ◌≤◌, List, [], ◌∷◌, ◌++◌, length, take, drop, Bool, true, false, cond, refl, subst, arith, nat_lt, lt-ltb, lit≤, get_or}
-use Rattle.std.specs.Prelude.{Option, Some, None}
+use Rattle.std.proofs.Common.{◌≡◌, ℕ, suc, ◌+◌, ◌*◌, ◌^◌, ◌<◌, ◌≤◌, List, [], ◌∷◌, ◌++◌, length, take, drop, Bool, true, false, refl, subst, arith, nat_lt, lt-ltb, lit≤, get_or}
+use Rattle.std.specs.Prelude.{Some, None}
 use Rattle.std.specs.List.{AllPass, prefix_len, take_while, list_all}
 use Rattle.std.specs.Char.{digit_value}
 use Rattle.std.specs.Str.Parse.{digits_value}

@@ -1,10 +1,10 @@
 -- What std's searches in a text say of the word at its front.
-use Rattle.std.proofs.Common.{◌≡◌, ℕ, ◌+◌, ◌≤◌, List, [], ◌∷◌, ◌++◌, length, take, drop, Bool, true, false, refl, sym, ◌∙◌, ap, subst, arith, append-nil}
+use Rattle.std.proofs.Common.{◌≡◌, ℕ, ◌≤◌, List, [], ◌∷◌, ◌++◌, length, take, drop, Bool, true, false, refl, sym, ◌∙◌, ap, subst, append-nil}
 use Rattle.std.specs.Prelude.{Option, Some, None, IsUtf8, not}
 use Rattle.std.specs.Bool.{MatchBool}
 use Rattle.std.specs.Option.{MatchOption, unwrap_or}
-use Rattle.std.specs.List.{prefix_len, list_all}
-use Rattle.std.specs.Char.{IsScalar, encode_utf8}
+use Rattle.std.specs.List.{list_all}
+use Rattle.std.specs.Char.{IsScalar}
 use Rattle.std.specs.Str.{chars, encode_utf8_all, all_scalars, NonePass, NoCharPasses}
 use Rattle.std.specs.Str.Pattern.{FindsBy, FindsPrefixBy, HasPrefixMatch, MatchBeginsAt}
 use Rattle.std.proofs.Math.Utf8.{scalar}

@@ -1,5 +1,5 @@
 -- The longest sign at the front of a text.
-use Rattle.std.proofs.Common.{◌≡◌, ℕ, suc, ◌+◌, ◌<◌, ◌≤◌, List, [], ◌∷◌, ◌++◌, length, take, drop, Bool, true, false, refl, sym, ◌∙◌, ap, subst, arith}
+use Rattle.std.proofs.Common.{◌≡◌, ℕ, ◌<◌, List, [], ◌∷◌, ◌++◌, length, take, refl, sym, arith}
 use Rattle.std.specs.Prelude.{Option, Some, None}
 use Rattle.std.specs.Option.{option_map, option_or, unwrap_or}
 use Rattle.htt_tokens.specs.declared.tokens.Sign.{Sign}
@@ -82,18 +82,18 @@ finds look (x ∷ y ∷ []) short =
     by_option (λ o. Finds look (x ∷ y ∷ []) (unwrap_or (option_or (option_map (λ s. Token (kinds.Sign s) (length (x ∷ y ∷ []))) o) (option_or (option_map (λ s. Token (kinds.Sign s) (length (x ∷ y ∷ []))) o) (within look 1 (x ∷ y ∷ [])))) NoToken))
     (look (x ∷ y ∷ []))
     (λ none. by_option (λ o. Finds look (x ∷ y ∷ []) (unwrap_or (option_map (λ s. Token (kinds.Sign s) (length (x ∷ []))) o) NoToken))
-        (look (x ∷ [])) (λ _. tt)
-        (λ s is. record { spelling = x ∷ []; rest = y ∷ []; whole = refl; size = refl; is = is; longest = two_after look x y [] short none (λ z more e. cc) }))
+    (look (x ∷ [])) (λ _. tt)
+    (λ s is. record { spelling = x ∷ []; rest = y ∷ []; whole = refl; size = refl; is = is; longest = two_after look x y [] short none (λ z more e. cc) }))
     (λ s is. record { spelling = x ∷ y ∷ []; rest = []; whole = refl; size = refl; is = is; longest = none_after look (x ∷ y ∷ []) })
 finds look (x ∷ y ∷ z ∷ text) short =
     by_option (λ o. Finds look (x ∷ y ∷ z ∷ text) (unwrap_or (option_or (option_map (λ s. Token (kinds.Sign s) (length (x ∷ y ∷ z ∷ []))) o) (option_or (within look 2 (x ∷ y ∷ z ∷ text)) (within look 1 (x ∷ y ∷ z ∷ text)))) NoToken))
     (look (x ∷ y ∷ z ∷ []))
     (λ three. by_option (λ o. Finds look (x ∷ y ∷ z ∷ text) (unwrap_or (option_or (option_map (λ s. Token (kinds.Sign s) (length (x ∷ y ∷ []))) o) (within look 1 (x ∷ y ∷ z ∷ text))) NoToken))
-        (look (x ∷ y ∷ []))
-        (λ two. by_option (λ o. Finds look (x ∷ y ∷ z ∷ text) (unwrap_or (option_map (λ s. Token (kinds.Sign s) (length (x ∷ []))) o) NoToken))
-            (look (x ∷ [])) (λ _. tt)
-            (λ s is. record { spelling = x ∷ []; rest = y ∷ z ∷ text; whole = refl; size = refl; is = is; longest = two_after look x y (z ∷ text) short two (λ v more e. let same : z ≡ v = cc in rw (sym same) three) }))
-        (λ s is. record { spelling = x ∷ y ∷ []; rest = z ∷ text; whole = refl; size = refl; is = is; longest = one_after look x y z text short three }))
+    (look (x ∷ y ∷ []))
+    (λ two. by_option (λ o. Finds look (x ∷ y ∷ z ∷ text) (unwrap_or (option_map (λ s. Token (kinds.Sign s) (length (x ∷ []))) o) NoToken))
+    (look (x ∷ [])) (λ _. tt)
+    (λ s is. record { spelling = x ∷ []; rest = y ∷ z ∷ text; whole = refl; size = refl; is = is; longest = two_after look x y (z ∷ text) short two (λ v more e. let same : z ≡ v = cc in rw (sym same) three) }))
+    (λ s is. record { spelling = x ∷ y ∷ []; rest = z ∷ text; whole = refl; size = refl; is = is; longest = one_after look x y z text short three }))
     (λ s is. record { spelling = x ∷ y ∷ z ∷ []; rest = text; whole = refl; size = refl; is = is; longest = long_after look x y z text short })
 
 -- nothing else is found
@@ -107,8 +107,8 @@ only_signs look text =
     by_option (λ o. OnlySigns (unwrap_or (option_or (option_map (λ s. Token (kinds.Sign s) (length (take 3 text))) o) (option_or (within look 2 text) (within look 1 text))) NoToken))
     (look (take 3 text))
     (λ _. by_option (λ o. OnlySigns (unwrap_or (option_or (option_map (λ s. Token (kinds.Sign s) (length (take 2 text))) o) (within look 1 text)) NoToken))
-        (look (take 2 text))
-        (λ _. by_option (λ o. OnlySigns (unwrap_or (option_map (λ s. Token (kinds.Sign s) (length (take 1 text))) o) NoToken))
-            (look (take 1 text)) (λ _. tt) (λ _ _. tt))
-        (λ _ _. tt))
+    (look (take 2 text))
+    (λ _. by_option (λ o. OnlySigns (unwrap_or (option_map (λ s. Token (kinds.Sign s) (length (take 1 text))) o) NoToken))
+    (look (take 1 text)) (λ _. tt) (λ _ _. tt))
+    (λ _ _. tt))
     (λ _ _. tt)

@@ -1,10 +1,8 @@
 -- The tokens of a text stand in order, and each is what its slice says.
-use Rattle.std.proofs.Common.{◌≡◌, ℕ, ◌+◌, ◌-◌, ◌<◌, ◌≤◌, List, [], ◌∷◌, ◌++◌, length, take, drop, refl, sym, ◌∙◌, ap, subst, arith}
+use Rattle.std.proofs.Common.{◌≡◌, ℕ, ◌+◌, ◌-◌, ◌≤◌, List, [], ◌∷◌, ◌++◌, length, take, drop, sym, ◌∙◌, ap, subst, arith}
 use Rattle.std.proofs.Math.Seq.{take-append_seam, drop-append_seam}
 use Rattle.std.proofs.lemmas.List.{drop-drop, length-drop, length-append}
-use Rattle.htt_tokens.specs.declared.tokens.Kind.{Kind}
-use Rattle.htt_lexer.specs.declared.pieces.Piece.TheVariants.{Gap, Token}
-use Rattle.htt_lexer.specs.Tokens.{IsGap, IsToken, Reads, here, gap, token}
+use Rattle.htt_lexer.specs.Tokens.{IsToken, Reads, here, gap, token}
 use Rattle.htt_lexer.specs.Laws.{InOrder}
 use Rattle.htt_lexer.proofs.Cutting.{Tokens}
 use Rattle.htt_lexer.proofs.Fronts.{token_some}
@@ -34,7 +32,9 @@ in_order text (gap {at = at} {piece = piece} {rest = rest} {tokens = ts} is read
 in_order text (token {at = at} {piece = piece} {rest = rest} {kind = kind} is reads) within e =
     let s = stands text at piece rest within e in
     let size : (at + length piece) - at ≡ length piece = omega arith in
-    let slice : take ((at + length piece) - at) (drop at text) ≡ piece = ap (λ n. take n (drop at text)) size ∙ s.front in
-    (omega arith, omega (arith, token_some is),
-     subst (λ r. IsToken (take ((at + length piece) - at) (drop at text)) r kind) s.back (subst (λ p. IsToken p rest kind) (sym slice) is),
-     in_order text reads s.within s.back)
+    let slice : take ((at + length piece) - at) (drop at text) ≡ piece = ap (λ n. take n (drop at text)) size ∙ s.front in (
+      omega arith,
+      omega (arith, token_some is),
+      subst (λ r. IsToken (take ((at + length piece) - at) (drop at text)) r kind) s.back (subst (λ p. IsToken p rest kind) (sym slice) is),
+      in_order text reads s.within s.back,
+    )

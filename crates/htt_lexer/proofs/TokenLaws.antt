@@ -1,21 +1,20 @@
 -- A text has one list of tokens, or one cause for which it is refused, and not both.
-use Rattle.std.proofs.Common.{◌≡◌, ℕ, ◌+◌, ◌^◌, ◌<◌, ◌≤◌, List, [], ◌∷◌, ◌++◌, length, take, drop, refl, sym, ◌∙◌, ap, subst, arith}
+use Rattle.std.proofs.Common.{◌≡◌, ℕ, ◌^◌, ◌<◌, ◌≤◌, List, [], ◌∷◌, ◌++◌, length, refl, sym, ◌∙◌, ap, subst, arith}
 use Rattle.std.specs.Prelude.{IsUtf8}
 use Rattle.std.specs.Str.{IsValidUpTo}
 use Rattle.std.specs.Str.Parse.{digits_value}
 use Rattle.std.proofs.Math.Seq.{take-length}
 use Rattle.std.proofs.lemmas.List.{length-append}
 use Rattle.std.proofs.lemmas.Str.{utf8_valid_len-IsValidUpTo}
-use Rattle.htt_tokens.specs.declared.tokens.Kind.{Kind}
 use Rattle.htt_lexer.specs.declared.lexer.LexStop.{LexStop}
 use Rattle.htt_lexer.specs.declared.lexer.LexStop.TheVariants.{NotUtf8, BadChar, LiteralTooLarge, NoMemory}
-use Rattle.htt_lexer.specs.Tokens.{IsGap, IsToken, Reads, here, gap, token, AreTokens}
+use Rattle.htt_lexer.specs.Tokens.{Reads, here, gap, token, AreTokens}
 use Rattle.htt_lexer.specs.Pieces.{piece_of}
-use Rattle.htt_lexer.specs.Refusals.{BeginsTooLarge, BeginsNothing, StopsAt, Refuses}
+use Rattle.htt_lexer.specs.Refusals.{BeginsTooLarge, BeginsNothing, Refuses}
 use Rattle.htt_lexer.specs.Laws.{IsCause, TokenLaws}
 use Rattle.htt_lexer.proofs.Cutting.{Tokens, past_gap, past_token}
 use Rattle.htt_lexer.proofs.Fronts.{gap_piece, gap_some, token_piece, token_some, large_piece}
-use Rattle.htt_lexer.proofs.Sameness.{IsFinal, SameRead, same_read}
+use Rattle.htt_lexer.proofs.Sameness.{IsFinal, same_read}
 use Rattle.htt_lexer.proofs.Spans.{in_order}
 
 -- ---- where a reading can't go on

@@ -1,18 +1,17 @@
 -- The word at the front of a text, by its characters and by its bytes.
-use Rattle.std.proofs.Common.{◌≡◌, ℕ, suc, ◌+◌, ◌<◌, ◌≤◌, List, [], ◌∷◌, ◌++◌, length, take, drop, Bool, true, false, ◌&&◌, ◌||◌, cond, refl, sym, ◌∙◌, ap, subst, arith, append_assoc, nat_lt}
-use Rattle.std.specs.Prelude.{IsUtf8, not, ◌==◌}
+use Rattle.std.proofs.Common.{◌≡◌, ℕ, suc, ◌+◌, ◌<◌, ◌≤◌, List, [], ◌∷◌, ◌++◌, length, take, drop, Bool, true, false, ◌||◌, refl, sym, ◌∙◌, ap, subst, arith, append_assoc}
+use Rattle.std.specs.Prelude.{IsUtf8, ◌==◌}
 use Rattle.std.specs.List.{prefix_len, take_while, list_all}
-use Rattle.std.specs.Char.{encode_utf8, is_ascii_alphabetic, is_ascii_digit, is_ascii_alphanumeric}
+use Rattle.std.specs.Char.{encode_utf8, is_ascii_alphabetic}
 use Rattle.std.specs.Str.{encode_utf8_all, chars}
 use Rattle.std.proofs.Math.Seq.{take-append_seam}
 use Rattle.std.proofs.lemmas.List.{take-append-drop, length-append, length-take-le}
-use Rattle.std.proofs.lemmas.Bool.Decides.{nat_tests}
-use Rattle.std.proofs.lemmas.Str.{chars-nil, chars_past_char, encodes-chars, char_from_byte, cons_from_encodes, encodes-append, IsUtf8-past_char, encode_ascii}
+use Rattle.std.proofs.lemmas.Str.{chars_past_char, encodes-chars, char_from_byte, cons_from_encodes, encodes-append, IsUtf8-past_char}
 use Rattle.unicode_ident.specs.Ident.{is_xid_start, is_xid_continue}
 use Rattle.unicode_ident.proofs.IdentLemmas.{is_xid_start-ascii, is_xid_continue-ascii, is_xid_start-is_xid_continue}
-use Rattle.htt_lexer.specs.Tokens.{Stops, IsWord, begins_word, is_blank}
+use Rattle.htt_lexer.specs.Tokens.{Stops, IsWord, begins_word}
 use Rattle.htt_lexer.specs.Pieces.{starts_word, word_length}
-use Rattle.htt_lexer.proofs.Rows.{either, both_true, not_true, equal}
+use Rattle.htt_lexer.proofs.Rows.{either, equal}
 use Rattle.htt_lexer.proofs.Runs.{prefix_len-run, longest_run}
 
 -- ---- the characters of a text that begins with some

@@ -1,5 +1,5 @@
 -- Texts with their tokens, or with the cause for which they are refused, worked out by hand.
-use Rattle.std.specs.Prelude.{ℕ, List, [], ◌∷◌, codes}
+use Rattle.std.specs.Prelude.{ℕ, [], ◌∷◌, codes}
 use Rattle.htt_tokens.specs.declared.tokens.Keyword.TheVariants as words
 use Rattle.htt_tokens.specs.declared.tokens.Sign.TheVariants as signs
 use Rattle.htt_tokens.specs.declared.tokens.Kind.{Kind}
@@ -24,7 +24,7 @@ pub record WorkedExamples : Type 0 where
   pub case_tells_keywords : AreTokens (codes "emp Emp EMP") (a (Keyword words.EmpWord) 0 3 ∷ a (Keyword words.CapitalEmpWord) 4 7 ∷ a Name 8 11 ∷ [])
   pub name_of_two_bytes : AreTokens (195 ∷ 182 ∷ []) (a Name 0 2 ∷ [])
   pub last_number : AreTokens (codes "18446744073709551615") (a (Number 18446744073709551615) 0 20 ∷ [])
-  pub number_too_large : Refuses (codes "% 18446744073709551616") (BadChar 0)
+  pub sign_before_number : Refuses (codes "% 18446744073709551616") (BadChar 0)
   pub form_feed : Refuses (49 ∷ 12 ∷ []) (BadChar 1)
   pub large : Refuses (codes "x18446744073709551616 18446744073709551616") (LiteralTooLarge 22)
   pub byte_in_a_comment : Refuses (45 ∷ 45 ∷ 32 ∷ 255 ∷ []) (NotUtf8 3)

@@ -13,7 +13,7 @@ use std::alloc::{AllocFailed, Global};
 use thiserror::Error;
 
 /// Why a text has no tokens. Places are counted in bytes, from 0.
-#[derive(Debug, Drop, Error)]
+#[derive(Debug, PartialEq, Eq, Drop, Error)]
 pub enum LexStop {
     /// The bytes aren't UTF-8; `at` is the length of the longest prefix that is.
     #[error("the bytes from {at} on aren't UTF-8")]

@@ -8,7 +8,9 @@ mod laws;
 mod lexer;
 mod pieces;
 mod tables;
+#[cfg(test)]
+mod tests;
 
 pub use htt_tokens::{Keyword, Kind, Sign, Token};
-pub use laws::token_laws;
+pub use laws::{token_laws, worked_examples};
 pub use lexer::{LexStop, tokens};

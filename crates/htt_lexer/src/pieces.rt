@@ -16,7 +16,7 @@ use unicode_ident::{is_xid_continue, is_xid_start};
 
 /// What stands at the front of a text: nothing, a gap or a token with the number of its bytes, bytes
 /// that begin neither, or a number that is too large.
-#[derive(Clone, Copy, Debug, PartialEq, Eq)]
+#[derive(Clone, Copy)]
 pub enum Piece {
     End,
     Gap(usize),

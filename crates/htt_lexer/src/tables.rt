@@ -122,9 +122,7 @@ const SIGNS_OF_TWO: [(&str, Sign); 8] = [
     ("\\/", Sign::OrSign),
 ];
 
-const SIGNS_OF_THREE: [(&str, Sign); 1] = [
-    ("|->", Sign::PointsToSign),
-];
+const SIGNS_OF_THREE: [(&str, Sign); 1] = [("|->", Sign::PointsToSign)];
 
 /// What a table has for a spelling, if anything.
 fn row_of<T: Copy>(table: &[(&str, T)], spelling: &[u8]) -> Option<T>

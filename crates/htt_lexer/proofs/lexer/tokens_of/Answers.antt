@@ -1,8 +1,8 @@
-use Rattle.std.proofs.Common.{◌≡◌, ◌+◌, ◌∙◌, sym, ap, subst, arith, is_ok, take, drop, length}
+use Rattle.std.proofs.Common.{◌+◌, ◌∙◌, sym, ap, subst, arith, is_ok, drop}
 use Rattle.std.proofs.ResultArms.{chosen}
 use Rattle.std.proofs.lemmas.Str.{IsCharBoundary-from_drop}
 use Rattle.htt_lexer.specs.Tokens.{IsGap, IsToken}
-use Rattle.htt_lexer.specs.declared.pieces.Piece.TheVariants.{End, Gap, Token, NoToken, TooLarge}
+use Rattle.htt_lexer.specs.declared.pieces.Piece.TheVariants.{Gap, Token, TooLarge}
 use Rattle.htt_lexer.specs.Pieces.{piece_of}
 use Rattle.htt_lexer.proofs.Fronts.{nothing}
 use Rattle.htt_lexer.proofs.Cutting.{Cutting, cut_at, cut_within, cutting_begun, cutting_gap, cutting_token}
@@ -46,12 +46,24 @@ loop-tokens-preserved c =
 
 pub returns-in-NoToken-clause-refused : goal.returns-in-NoToken-clause-refused
 returns-in-NoToken-clause-refused c =
-    let cutting = c.loop-tokens.invariant in
-    (c.utf8.text, record { tokens = c.loop-tokens.tokens.items; left = drop c.loop-tokens.at c.args.text.now; reads = cutting.reads;
-      fault = nothing _ cutting.utf8 (ap piece_of (sym c.range_from.ensures.value) ∙ sym c.piece_of.ensures ∙ c.in-NoToken.is) })
+    let cutting = c.loop-tokens.invariant in (
+      c.utf8.text,
+      record {
+        tokens = c.loop-tokens.tokens.items;
+        left = drop c.loop-tokens.at c.args.text.now;
+        reads = cutting.reads;
+        fault = nothing _ cutting.utf8 (ap piece_of (sym c.range_from.ensures.value) ∙ sym c.piece_of.ensures ∙ c.in-NoToken.is);
+      },
+    )
 
 pub returns-in-TooLarge-clause-refused : goal.returns-in-TooLarge-clause-refused
 returns-in-TooLarge-clause-refused c =
-    let cutting = c.loop-tokens.invariant in
-    (c.utf8.text, record { tokens = c.loop-tokens.tokens.items; left = drop c.loop-tokens.at c.args.text.now; reads = cutting.reads;
-      fault = cut_at _ _ _ TooLarge cutting (ap piece_of (sym c.range_from.ensures.value) ∙ sym c.piece_of.ensures ∙ c.in-TooLarge.is) })
+    let cutting = c.loop-tokens.invariant in (
+      c.utf8.text,
+      record {
+        tokens = c.loop-tokens.tokens.items;
+        left = drop c.loop-tokens.at c.args.text.now;
+        reads = cutting.reads;
+        fault = cut_at _ _ _ TooLarge cutting (ap piece_of (sym c.range_from.ensures.value) ∙ sym c.piece_of.ensures ∙ c.in-TooLarge.is);
+      },
+    )

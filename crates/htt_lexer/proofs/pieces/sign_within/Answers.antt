@@ -1,4 +1,4 @@
-use Rattle.std.proofs.Common.{◌≡◌, ap, sym, ◌∙◌, take, length, arith}
+use Rattle.std.proofs.Common.{◌≡◌, ap, sym, ◌∙◌, take, length}
 use Rattle.std.proofs.lemmas.List.{take_min}
 use Rattle.std.specs.Option.{option_map}
 use Rattle.htt_tokens.specs.declared.tokens.Kind.TheVariants.{Sign}

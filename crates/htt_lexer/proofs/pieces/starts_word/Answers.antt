@@ -1,6 +1,5 @@
 use Rattle.std.proofs.Common.{rules, of_calls}
 use Rattle.std.proofs.lemmas.Fn.{always_returns_same}
-use Rattle.htt_lexer.specs.Tokens.{begins_word}
 use Rattle.htt_lexer.proofs.Searches.{starts_told}
 use Rattle.htt_lexer.proofs.pieces.starts_word.Goals as goal
 

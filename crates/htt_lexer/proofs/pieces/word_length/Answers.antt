@@ -1,6 +1,6 @@
 use Rattle.std.proofs.Common.{rules, of_calls, ◌∙◌}
 use Rattle.std.proofs.lemmas.Fn.{always_returns_same}
-use Rattle.htt_lexer.proofs.Searches.{ends_word, ends_told}
+use Rattle.htt_lexer.proofs.Searches.{ends_told}
 use Rattle.htt_lexer.proofs.pieces.word_length.Goals as goal
 
 pub returns : goal.returns

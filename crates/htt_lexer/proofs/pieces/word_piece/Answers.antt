@@ -1,4 +1,3 @@
-use Rattle.std.proofs.Common.{◌≡◌, sym, ◌∙◌, ap, take, length}
 use Rattle.htt_lexer.proofs.Words.{word_length_within}
 use Rattle.htt_lexer.proofs.pieces.word_piece.Goals as goal
 

@@ -1,4 +1,4 @@
-use Rattle.std.proofs.Common.{◌≡◌, ap, sym, ◌∙◌}
+use Rattle.std.proofs.Common.{ap, sym, ◌∙◌}
 use Rattle.std.specs.Str.{bytes_eq}
 use Rattle.htt_lexer.proofs.Rows.{row_here, row_elsewhere}
 use Rattle.htt_lexer.proofs.tables.row_of.Goals as goal
