@@ -21,7 +21,7 @@ use Rattle.htt_lexer.specs.Tokens.{IsLongest, IsLongestSign, IsGap, blank, comme
 use Rattle.htt_lexer.specs.Refusals.{BeginsTooLarge, BeginsNothing}
 use Rattle.htt_lexer.specs.Pieces.{number_of, word_piece, piece_of_number, number_piece, sign_piece, starts_word, word_length, begins_comment, comment_piece, piece_of}
 use Rattle.htt_lexer.proofs.Rows.{by_cond, both_true, not_true, equal, apart, is_plain, begins_plain, sign_begins, long_is_none}
-use Rattle.htt_lexer.proofs.Runs.{prefix_len-run, longest_run, word_of-small, word_of-none, below, above}
+use Rattle.htt_lexer.proofs.Runs.{prefix_len-run, longest_run, limited-small, limited-none, below, above}
 use Rattle.htt_lexer.proofs.Words.{is_letter, word_byte, word_found, word_at}
 use Rattle.htt_lexer.proofs.Signs as signs
 
@@ -138,13 +138,13 @@ token_piece {rest = rest} u (word {c = c} {others = others} w) =
     ∙ ap (λ m. Token (word_kind (take m (letters ++ rest))) m) found.size
     ∙ ap (λ l. Token (word_kind l) (length letters)) (take-append_seam letters rest)
 token_piece {rest = rest} u (number {b = b} {run = run} longest fits) =
-    digits_text b run rest longest ∙ ap (λ o. piece_of_number o (length (b ∷ run))) (word_of-small (digits_value 10 (b ∷ run)) fits)
+    digits_text b run rest longest ∙ ap (λ o. piece_of_number o (length (b ∷ run))) (limited-small (digits_value 10 (b ∷ run)) fits)
 token_piece {rest = rest} u (sign {spelling = spelling} {s = s} h) = sign_text spelling rest s u h
 
 large_digits : (text digits rest : List ℕ) → text ≡ digits ++ rest → IsLongest is_ascii_digit digits rest → 2 ^ 64 ≤ digits_value 10 digits → piece_of text ≡ TooLarge
 large_digits text [] rest whole longest large = absurd (omega (arith, large))
 large_digits text (b ∷ run) rest whole longest large =
-    ap piece_of whole ∙ digits_text b run rest longest ∙ ap (λ o. piece_of_number o (length (b ∷ run))) (word_of-none (digits_value 10 (b ∷ run)) large)
+    ap piece_of whole ∙ digits_text b run rest longest ∙ ap (λ o. piece_of_number o (length (b ∷ run))) (limited-none (digits_value 10 (b ∷ run)) large)
 
 pub large_piece : (text : List ℕ) → BeginsTooLarge text → piece_of text ≡ TooLarge
 large_piece text h = large_digits text h.digits h.rest h.whole h.longest h.large

@@ -10,7 +10,8 @@ use Rattle.std.proofs.lemmas.Bool.Decides.{nat_tests}
 use Rattle.std.specs.Cmp.Lexicographic.{same_text}
 use Rattle.htt_tokens.specs.declared.tokens.Keyword.{Keyword}
 use Rattle.htt_tokens.specs.declared.tokens.Sign.{Sign}
-use Rattle.htt_lexer.specs.Tables.{lookup, keyword_table, sign_table, spelled}
+use Rattle.htt_lexer.specs.Tables.{lookup, keyword_table, sign_table}
+use Rattle.htt_lexer.specs.Pieces.{spelled}
 use Rattle.htt_lexer.specs.Tokens.{is_blank}
 
 -- ---- tests

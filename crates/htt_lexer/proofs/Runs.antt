@@ -9,7 +9,7 @@ use Rattle.std.proofs.lemmas.Str.Parse.{digits_value-take-le}
 use Rattle.std.proofs.lemmas.Bool.Decides.{nat_tests}
 use Rattle.std.proofs.lemmas.List.Sums.{AllPass-from_list_all}
 use Rattle.htt_lexer.specs.Tokens.{Stops, IsLongest}
-use Rattle.htt_lexer.specs.Pieces.{word_of, number_of}
+use Rattle.htt_lexer.specs.Pieces.{limited, number_of}
 use Rattle.htt_lexer.proofs.Rows.{by_cond, both_true}
 
 -- ---- runs
@@ -37,8 +37,8 @@ take_while-passes p text n e = rw e (AllPass-from_list_all p (take_while p text)
 
 -- ---- numbers
 
-pub word_of-small : (n : ℕ) → n < 2 ^ 64 → word_of n ≡ Some n
-word_of-small n h = rw (lt-ltb n (2 ^ 64) h) refl
+pub limited-small : (n : ℕ) → n < 2 ^ 64 → limited n ≡ Some n
+limited-small n h = rw (lt-ltb n (2 ^ 64) h) refl
 
 pub below : (n : ℕ) → nat_lt n (2 ^ 64) ≡ true → n < 2 ^ 64
 below n h = grind (arith, nat_tests)
@@ -46,16 +46,16 @@ below n h = grind (arith, nat_tests)
 pub above : (n : ℕ) → nat_lt n (2 ^ 64) ≡ false → 2 ^ 64 ≤ n
 above n h = grind (arith, nat_tests)
 
-pub word_of-some : (n m : ℕ) → word_of n ≡ Some m → (n ≡ m) × (n < 2 ^ 64)
-word_of-some n m = by_cond (λ o. o ≡ Some m → (n ≡ m) × (n < 2 ^ 64)) (nat_lt n (2 ^ 64)) _ _ (λ h e. (cc, below n h)) (λ _ e. cc)
+pub limited-some : (n m : ℕ) → limited n ≡ Some m → (n ≡ m) × (n < 2 ^ 64)
+limited-some n m = by_cond (λ o. o ≡ Some m → (n ≡ m) × (n < 2 ^ 64)) (nat_lt n (2 ^ 64)) _ _ (λ h e. (cc, below n h)) (λ _ e. cc)
 
-pub word_of-none : (n : ℕ) → 2 ^ 64 ≤ n → word_of n ≡ None
-word_of-none n h = by_cond (λ o. o ≡ None) (nat_lt n (2 ^ 64)) _ _ (λ small. absurd (omega (arith, below n small))) (λ _. refl)
+pub limited-none : (n : ℕ) → 2 ^ 64 ≤ n → limited n ≡ None
+limited-none n h = by_cond (λ o. o ≡ None) (nat_lt n (2 ^ 64)) _ _ (λ small. absurd (omega (arith, below n small))) (λ _. refl)
 
-past : (n : ℕ) → word_of n ≡ None → 2 ^ 64 ≤ n
+past : (n : ℕ) → limited n ≡ None → 2 ^ 64 ≤ n
 past n = by_cond (λ o. o ≡ None → 2 ^ 64 ≤ n) (nat_lt n (2 ^ 64)) _ _ (λ _ e. cc) (λ h _. above n h)
 
 -- digits that make a number too large make the whole too large
-pub number_of-too_large : (digits : List ℕ) (i n : ℕ) → i < length digits → n ≡ digits_value 10 (take i digits) → word_of (n * 10 + digit_value (get_or digits i 0)) ≡ None → number_of digits ≡ None
+pub number_of-too_large : (digits : List ℕ) (i n : ℕ) → i < length digits → n ≡ digits_value 10 (take i digits) → limited (n * 10 + digit_value (get_or digits i 0)) ≡ None → number_of digits ≡ None
 number_of-too_large digits i n h e none =
-    word_of-none (digits_value 10 digits) (omega (arith, past _ none, digits_value_more 10 digits i h, digits_value-take-le 10 digits (i + 1) (lit≤ tt), e))
+    limited-none (digits_value 10 digits) (omega (arith, past _ none, digits_value_more 10 digits i h, digits_value-take-le 10 digits (i + 1) (lit≤ tt), e))

@@ -1,5 +1,6 @@
 -- What stands at the front of a text, told by its first bytes: the step by which the tokens are read.
 use Rattle.std.specs.Prelude.{ℕ, ◌+◌, ◌^◌, List, [], ◌∷◌, length, take, Bool, false, ◌&&◌, ◌==◌, Option, Some, None, if◌then◌else◌, nat_lt}
+use denote.Ref.{Bor}
 use Rattle.std.specs.List.{prefix_len, take_while}
 use Rattle.std.specs.Option.{option_map, option_or, unwrap_or}
 use Rattle.std.specs.Char.{is_ascii_digit}
@@ -12,13 +13,17 @@ use Rattle.htt_lexer.specs.declared.pieces.Piece.TheVariants.{End, Gap, Token, N
 use Rattle.htt_lexer.specs.Tables.{lookup, sign_table}
 use Rattle.htt_lexer.specs.Tokens.{is_blank, is_comment, begins_word, word_kind}
 
+-- a row of the code's tables as one of the language's
+abbrev pub spelled : {A : Type 0} → Bor (List ℕ) × A → List ℕ × A
+spelled row = (row.0.now, row.1)
+
 -- a number that is below 2 ^ 64
-abbrev pub word_of : ℕ → Option ℕ
-word_of n = if nat_lt n (2 ^ 64) then Some n else None
+abbrev pub limited : ℕ → Option ℕ
+limited n = if nat_lt n (2 ^ 64) then Some n else None
 
 -- the number that the digits write, if it is below 2 ^ 64
 abbrev pub number_of : List ℕ → Option ℕ
-number_of digits = word_of (digits_value 10 digits)
+number_of digits = limited (digits_value 10 digits)
 
 abbrev pub piece_of_number : Option ℕ → ℕ → Piece
 piece_of_number None length = TooLarge

@@ -1,7 +1,6 @@
 -- The two tables of the language: its keywords and its signs, each with its spelling.
 use Rattle.std.specs.Prelude.{ℕ, List, [], ◌∷◌, Option, Some, None, if◌then◌else◌, codes}
 use Rattle.std.specs.Str.{bytes_eq}
-use denote.Ref.{Bor}
 use Rattle.htt_tokens.specs.declared.tokens.Keyword.{Keyword}
 use Rattle.htt_tokens.specs.declared.tokens.Keyword.TheVariants as words
 use Rattle.htt_tokens.specs.declared.tokens.Sign.{Sign}
@@ -12,10 +11,7 @@ abbrev pub lookup : {A : Type 0} → List (List ℕ × A) → List ℕ → Optio
 lookup [] spelling = None
 lookup (row ∷ rows) spelling = if bytes_eq spelling row.0 then Some row.1 else lookup rows spelling
 
--- a row of the code's tables as one of these
-abbrev pub spelled : {A : Type 0} → Bor (List ℕ) × A → List ℕ × A
-spelled row = (row.0.now, row.1)
-
+-- the keywords
 unfoldable pub keyword_table : List (List ℕ × Keyword)
 keyword_table =
     (codes "type", words.TypeWord) ∷
@@ -84,7 +80,7 @@ keyword_table =
     (codes "the", words.TheWord) ∷
     []
 
--- `_` is a sign too, but stands alone, so it is told among the words
+-- the signs but `_`, which is told among the words, since it is a sign only where no word goes on
 unfoldable pub sign_table : List (List ℕ × Sign)
 sign_table =
     (codes "(", signs.OpenParenSign) ∷

@@ -7,7 +7,7 @@ ghost use Rattle.std.specs.Char.{digit_value, is_ascii_digit};
 ghost use Rattle.std.specs.List.{AllPass, prefix_len};
 ghost use Rattle.std.specs.Str.{chars};
 ghost use Rattle.unicode_ident.specs.Ident.{is_xid_continue};
-ghost use Rattle.htt_lexer.specs.Pieces.{number_of, number_piece, piece_of, sign_piece, sign_within, starts_word, word_length, word_of, word_piece};
+ghost use Rattle.htt_lexer.specs.Pieces.{number_of, number_piece, piece_of, sign_piece, sign_within, starts_word, word_length, limited, word_piece};
 ghost use Rattle.htt_lexer.specs.Tokens.{begins_word, is_blank, is_comment, word_kind};
 
 use crate::tables::{keyword_of, sign_of};
@@ -71,7 +71,7 @@ fn comment_length(text: &[u8]) -> usize
 /// The number that a further digit makes of a number, if it is below 2^64.
 fn with_digit(number: u64, digit: u8) -> Option<u64>
     requires { is_ascii_digit digit ≡ true }
-    ensures { result ≡ word_of (number * 10 + digit_value digit) }
+    ensures { result ≡ limited (number * 10 + digit_value digit) }
 {
     number.checked_mul(10)?.checked_add(u64::from(digit - b'0'))
 }

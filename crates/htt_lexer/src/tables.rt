@@ -2,7 +2,8 @@
 //! with few others.
 
 ghost use Rattle.std.specs.Prelude.{◌≡◌, map};
-ghost use Rattle.htt_lexer.specs.Tables.{keyword_table, lookup, sign_table, spelled};
+ghost use Rattle.htt_lexer.specs.Pieces.{spelled};
+ghost use Rattle.htt_lexer.specs.Tables.{keyword_table, lookup, sign_table};
 
 use htt_tokens::{Keyword, Sign};
 

@@ -1,5 +1,6 @@
 use Rattle.std.proofs.Common.{◌≡◌, map, drop}
-use Rattle.htt_lexer.specs.Tables.{lookup, spelled}
+use Rattle.htt_lexer.specs.Tables.{lookup}
+use Rattle.htt_lexer.specs.Pieces.{spelled}
 use Rattle.htt_lexer.proofs.tables.row_of.Given as goal
 
 -- the rows before this one have another spelling
