@@ -7,5 +7,6 @@ pub mod Searches
 pub mod Cutting
 pub mod Sameness
 pub mod Spans
+pub mod Totality
 pub mod TokenLaws
 pub mod Examples

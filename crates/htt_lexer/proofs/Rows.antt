@@ -20,6 +20,10 @@ pub by_cond : {A : Type 0} (P : A → Type 0) (t : Bool) (x y : A) → (t ≡ tr
 by_cond P true x y when unless = when refl
 by_cond P false x y when unless = unless refl
 
+pub by_test : {P : Type 0} (t : Bool) → (t ≡ true → P) → (t ≡ false → P) → P
+by_test true when unless = when refl
+by_test false when unless = unless refl
+
 pub by_option : {A : Type 0} (P : Option A → Type 0) (o : Option A) → (o ≡ None → P None) → ((x : A) → o ≡ Some x → P (Some x)) → P o
 by_option P None none some = none refl
 by_option P (Some x) none some = some x refl

@@ -16,6 +16,7 @@ use Rattle.htt_lexer.proofs.Cutting.{Tokens, past_gap, past_token}
 use Rattle.htt_lexer.proofs.Fronts.{gap_piece, gap_some, token_piece, token_some, large_piece}
 use Rattle.htt_lexer.proofs.Sameness.{IsFinal, same_read}
 use Rattle.htt_lexer.proofs.Spans.{in_order}
+use Rattle.htt_lexer.proofs.Totality.{some_answer}
 
 -- ---- where a reading can't go on
 
@@ -97,6 +98,7 @@ one_refusal text NoMemory other c d h k = absurd c
 
 pub laws : TokenLaws
 laws = record {
+  some_answer = some_answer;
   one_list = λ text ts us one other. (same_read one.utf8 one.reads final_end us (length text) [] other.reads final_end).tokens;
   one_answer = no_refusal;
   one_refusal = one_refusal;

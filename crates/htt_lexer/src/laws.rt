@@ -4,8 +4,8 @@
 ghost use Rattle.htt_lexer.specs.Examples.{WorkedExamples};
 ghost use Rattle.htt_lexer.specs.Laws.{TokenLaws};
 
-/// A text has at most one list of tokens or one cause for which it is refused, and not both; tokens
-/// stand in order, and each is what its slice of the text says.
+/// A text has exactly one list of tokens or exactly one cause for which it is refused, and not both;
+/// tokens stand in order, and each is what its slice of the text says.
 pub fn token_laws()
     ensures laws { TokenLaws }
 {}
