@@ -1,0 +1,12 @@
+pub mod Rows
+pub mod Runs
+pub mod Words
+pub mod Signs
+pub mod Fronts
+pub mod Searches
+pub mod Cutting
+pub mod Sameness
+pub mod Spans
+pub mod Totality
+pub mod TokenLaws
+pub mod Examples
