@@ -13,7 +13,7 @@ use Rattle.raw_trees.specs.declared.proof.UnaryRule.{UnaryRule}
 mutual
   pub data FactorTree : Type 0 where
     m_name : MonoName → FactorTree
-    m_brackets : MonoTree → FactorTree
+    m_brackets : ℕ → MonoTree → FactorTree
 
   pub data MonoTree : Type 0 where
     m_factor : FactorTree → MonoTree
@@ -24,7 +24,7 @@ mutual
     y_fun : ℕ → Binder → TyTree → TyTree → TyTree
     y_all : ℕ → Span → TyTree → TyTree
     y_hoare : ℕ → TripleTree → TyTree
-    y_mono : ℕ → MonoTree → TyTree
+    y_mono : MonoTree → TyTree
 
   pub data TripleTree : Type 0 where
     triple_of : FormulaTree → Binder → MonoTree → FormulaTree → TripleTree

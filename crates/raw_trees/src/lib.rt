@@ -11,7 +11,7 @@ mod proof;
 mod tree;
 
 pub use decl::{ProofBody, RawDecl, RawMonoParam};
-pub use mono::{MonoName, RawMono, RawRight};
+pub use mono::{MonoName, RawBracket, RawMono, RawRight};
 pub use place::{Binder, Span};
 pub use proof::{RawArg, RawEnd, RawMotive, RawProof, RawStmt, UnaryRule};
 pub use tree::{

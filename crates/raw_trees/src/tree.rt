@@ -15,7 +15,7 @@ pub enum RawTy {
     /// `[ id ] -> type`
     All { at: u64, parameter: Span, body: Boxed<RawTy> },
     Hoare { at: u64, triple: Boxed<RawTriple> },
-    Mono { at: u64, mono: RawMono },
+    Mono(RawMono),
 }
 
 /// `{ formula } b : mono { formula }`
@@ -40,7 +40,7 @@ pub enum RawTerm {
     Do { at: u64, body: Boxed<RawComp> },
     /// `fix id { ( b : type ) } : triple . comp`
     Fix { at: u64, fix: Boxed<RawFix> },
-    Rel(RawRel),
+    Rel(Boxed<RawRel>),
 }
 
 /// What stands after `fix`: the name, the parameters, the triple and the body.
@@ -206,9 +206,9 @@ pub enum RawStep {
 pub enum RawFormula {
     All { at: u64, name: Binder, sort: RawSort, body: Boxed<RawFormula> },
     Ex { at: u64, name: Binder, sort: RawSort, body: Boxed<RawFormula> },
-    Disj(RawDisj),
+    Disj(Boxed<RawDisj>),
     /// `disj => formula`
-    Implies(RawDisj, Boxed<RawFormula>),
+    Implies(Boxed<RawDisj>, Boxed<RawFormula>),
 }
 
 /// What a quantifier ranges over.
@@ -270,11 +270,11 @@ pub enum RawFatom {
     /// `! id @ heap ( term ; terms )`
     UseAtHeap { at: u64, name: Span, heap: RawHeap, index: Boxed<RawTerm>, arguments: Seq<RawTerm> },
     /// `rel = [ mono ] rel`
-    Eq { left: RawRel, mono: RawMono, right: RawRel },
+    Eq { left: Boxed<RawRel>, mono: RawMono, right: Boxed<RawRel> },
     /// `rel |-> [ mono ] rel`
-    PointsTo { place: RawRel, mono: RawMono, value: RawRel },
+    PointsTo { place: Boxed<RawRel>, mono: RawMono, value: Boxed<RawRel> },
     /// `rel |-> [ mono ] _`
-    PointsToAny { place: RawRel, mono: RawMono },
+    PointsToAny { place: Boxed<RawRel>, mono: RawMono },
 }
 
 /// A heap: a name, or `init` or `mem` with the number of binders that it passes over, if it is

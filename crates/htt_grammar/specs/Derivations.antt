@@ -1,0 +1,25 @@
+-- Which tree a list of tokens derives, and which trees are within the limits.
+use Rattle.std.specs.Prelude.{◌≡◌, ℕ, ◌≤◌, List, length, ◌++◌}
+use Rattle.htt_tokens.specs.declared.tokens.Token.{Token}
+use Rattle.raw_trees.specs.Trees.{MonoTree, TyTree, TermTree, FormulaTree, ProofTree, DeclTree}
+use Rattle.htt_grammar.specs.Marks.{Limits, AllFit, AllWithin}
+use Rattle.htt_grammar.specs.Grammar.{mono, ty, term, formula, proof, file}
+
+-- The tokens are those of the tree, one by one.
+abbrev pub IsMono : List Token → MonoTree → Type 0
+IsMono tokens tree = AllFit tokens (mono 1 tree)
+
+abbrev pub IsType : List Token → TyTree → Type 0
+IsType tokens tree = AllFit tokens (ty 1 tree)
+
+abbrev pub IsTerm : List Token → TermTree → Type 0
+IsTerm tokens tree = AllFit tokens (term 1 tree)
+
+abbrev pub IsFormula : List Token → FormulaTree → Type 0
+IsFormula tokens tree = AllFit tokens (formula 1 tree)
+
+abbrev pub IsProof : List Token → ProofTree → Type 0
+IsProof tokens tree = AllFit tokens (proof 1 tree)
+
+abbrev pub IsFile : List Token → List DeclTree → Type 0
+IsFile tokens decls = AllFit tokens (file decls)

@@ -1,0 +1,7 @@
+pub mod Marks
+pub mod Grammar
+pub mod Derivations
+pub mod Readers
+pub mod Beginnings
+pub mod Phrases
+pub mod Reading
