@@ -8,7 +8,7 @@ use Rattle.raw_trees.specs.declared.place.Span.{Span}
 use Rattle.htt_grammar.specs.Marks.{Mark, Limits, Given, span_of, ◌⨟◌, numbered}
 use Rattle.htt_grammar.specs.Readers.{Reader, Halt, give, after, ◌>>=◌, stop, chosen, either, first_is, if_first, measured, same_kind, that, token}
 use Rattle.htt_grammar.specs.Beginnings.{never}
-use Rattle.htt_grammar.proofs.Spells.{Spells, Stops, Opens, split, no_longer, spelled_length, first_token, level_within, opens_length, renumbered}
+use Rattle.htt_grammar.proofs.Spells.{Spells, Stops, Opens, Begins, split, no_longer, spelled_length, first_token, level_within, opens_length, renumbered}
 
 -- the tree is read, and all that follows is left, if this doesn't go on with it
 pub record Gets {A : Type 0} (lim : Limits) (goes_on : Kind → Bool) (n : ℕ) (reader : Reader A) (ms : List Mark) (x : A) : Type 0 where
@@ -170,17 +170,17 @@ no_room {lim = lim} {ms = ms} begins l opens = record {
   }
 
 -- the operand of a chain with this number
-pub operand : {A : Type 0} {lim : Limits} {c : Kind → Bool} {n : ℕ} {r : Reader A} {ms : List Mark} {x : A} (begins : Kind → Bool) (l k : ℕ) → 1 ≤ k → Opens begins l ms → Gets lim c n r ms x → Gets lim c n r (numbered k ms) x
-operand {lim = lim} {ms = ms} begins l k one opens gets = record {
-  reads = λ ts rest short s stops. gets.reads ts rest short (renumbered lim begins l k ms ts rest one opens s).0 stops;
+pub operand : {A : Type 0} {lim : Limits} {c : Kind → Bool} {n : ℕ} {r : Reader A} {ms : List Mark} {x : A} (begins : Kind → Bool) (k : ℕ) → 1 ≤ k → Begins begins ms → Gets lim c n r ms x → Gets lim c n r (numbered k ms) x
+operand {lim = lim} {ms = ms} begins k one opens gets = record {
+  reads = λ ts rest short s stops. gets.reads ts rest short (renumbered lim begins k ms ts rest one opens s).0 stops;
   }
 
 -- an operand past the last can't stand there
-pub past_last : {A : Type 0} {lim : Limits} {c : Kind → Bool} {n : ℕ} {r : Reader A} {x : A} (ms : List Mark) (ns : List Mark) (begins : Kind → Bool) (l k : ℕ) → lim.chain < k → Opens begins l ms → Gets lim c n r (numbered k ms ⨟ ns) x
-past_last {lim = lim} ms ns begins l k past opens = record {
+pub past_last : {A : Type 0} {lim : Limits} {c : Kind → Bool} {n : ℕ} {r : Reader A} {x : A} (ms : List Mark) (ns : List Mark) (begins : Kind → Bool) (k : ℕ) → lim.chain < k → Begins begins ms → Gets lim c n r (numbered k ms ⨟ ns) x
+past_last {lim = lim} ms ns begins k past opens = record {
   reads = λ ts rest short s stops.
     let parts = split lim (numbered k ms) ns ts rest s in
-    let within = (renumbered lim begins l k ms ts parts.0 (omega (arith, past)) opens parts.1).1 in
+    let within = (renumbered lim begins k ms ts parts.0 (omega (arith, past)) opens parts.1).1 in
     absurd (let no : ⊥ = omega (arith, within, past) in no);
   }
 

@@ -1,2 +1,3 @@
 pub mod Spells
 pub mod Gets
+pub mod Opens

@@ -20,6 +20,15 @@ abbrev pub Opens : (Kind → Bool) → ℕ → List Mark → Type 0
 Opens begins l [] = ⊥
 Opens begins l (m ∷ ms) = (begins m.kind ≡ true) × (m.level ≡ l) × (m.operand ≡ 1)
 
+-- the same, whatever the level
+abbrev pub Begins : (Kind → Bool) → List Mark → Type 0
+Begins begins [] = ⊥
+Begins begins (m ∷ ms) = (begins m.kind ≡ true) × (m.operand ≡ 1)
+
+pub begins_of : (begins : Kind → Bool) (l : ℕ) (a : List Mark) → Opens begins l a → Begins begins a
+begins_of begins l [] h = absurd h
+begins_of begins l (m ∷ a) h = (h.0, h.2)
+
 pub split : (lim : Limits) (a b : List Mark) (ts rest : List Token) → Spells lim (a ⨟ b) ts rest → (mid : List Token) × Spells lim a ts mid × Spells lim b mid rest
 unfolding ◌⨟◌
 split lim [] b ts rest s = (ts, refl, s)
@@ -58,11 +67,11 @@ pub level_within : (lim : Limits) (begins : Kind → Bool) (l : ℕ) (ms : List 
 level_within lim begins l [] ts rest h s = absurd h
 level_within lim begins l (m ∷ ms) ts rest h s = subst (λ n. n ≤ lim.nesting) h.1 s.4.level
 
-pub renumbered : (lim : Limits) (begins : Kind → Bool) (l n : ℕ) (ms : List Mark) (ts rest : List Token) → 1 ≤ n → Opens begins l ms → Spells lim (numbered n ms) ts rest → Spells lim ms ts rest × (n ≤ lim.chain)
-renumbered lim begins l n [] ts rest one h s = absurd h
-renumbered lim begins l n (m ∷ ms) ts rest one h s =
+pub renumbered : (lim : Limits) (begins : Kind → Bool) (n : ℕ) (ms : List Mark) (ts rest : List Token) → 1 ≤ n → Begins begins ms → Spells lim (numbered n ms) ts rest → Spells lim ms ts rest × (n ≤ lim.chain)
+renumbered lim begins n [] ts rest one h s = absurd h
+renumbered lim begins n (m ∷ ms) ts rest one h s =
     let here : n ≤ lim.chain = s.4.operand in
-    let first = h.2 in
+    let first = h.1 in
     let within : m.operand ≤ lim.chain = omega (arith, one, here, first) in
     ((s.0, s.1, s.2, record { kind = s.3.kind; at = s.3.at; span = s.3.span }, record { level = s.4.level; operand = within }, s.5), here)
 
