@@ -1,6 +1,6 @@
 -- A reader gets a tree from whatever is spelled as the tree's marks. How this goes from the parts of
 -- a phrase to the phrase.
-use Rattle.std.proofs.Common.{◌≡◌, ℕ, zero, suc, ◌+◌, ◌<◌, ◌≤◌, List, [], ◌∷◌, ◌++◌, length, refl, sym, ◌∙◌, ap, subst, arith, rules}
+use Rattle.std.proofs.Common.{append_assoc, append-nil, ◌≡◌, ℕ, zero, suc, ◌+◌, ◌<◌, ◌≤◌, List, [], ◌∷◌, ◌++◌, length, refl, sym, ◌∙◌, ap, subst, arith, rules}
 use Rattle.std.specs.Prelude.{Bool, true, false, ◌||◌, Option, Some, None, Result, Ok, Err, cond}
 use Rattle.htt_tokens.specs.declared.tokens.Kind.{Kind}
 use Rattle.htt_tokens.specs.declared.tokens.Token.{Token}
@@ -8,7 +8,7 @@ use Rattle.raw_trees.specs.declared.place.Span.{Span}
 use Rattle.htt_grammar.specs.Marks.{Mark, Limits, Given, span_of, ◌⨟◌, numbered}
 use Rattle.htt_grammar.specs.Readers.{Reader, Halt, give, after, ◌>>=◌, stop, chosen, either, first_is, if_first, measured, same_kind, that, token}
 use Rattle.htt_grammar.specs.Beginnings.{never}
-use Rattle.htt_grammar.proofs.Spells.{Spells, Stops, Opens, Begins, split, no_longer, spelled_length, first_token, level_within, opens_length, renumbered}
+use Rattle.htt_grammar.proofs.Spells.{Spells, Stops, Opens, Begins, split, no_longer, spelled_length, Leads, first_token, level_within, leads_length, renumbered}
 
 -- the tree is read, and all that follows is left, if this doesn't go on with it
 pub record Gets {A : Type 0} (lim : Limits) (goes_on : Kind → Bool) (n : ℕ) (reader : Reader A) (ms : List Mark) (x : A) : Type 0 where
@@ -97,6 +97,10 @@ taken_less {lim = lim} {n = n} {next = next} {ns = ns} choose otherwise m is get
     ∙ (gets (span_of s.0) s.3.at s.3.span).reads s.1 rest still s.5 stops;
   }
 
+-- a token whose first byte the tree has
+pub taken_at : {A : Type 0} {lim : Limits} {c : Kind → Bool} {n : ℕ} {next : Span → Reader A} (y : ℕ → A) (choose : Kind → Option (Span → Reader A)) (otherwise : Reader A) (kind : Kind) (at l : ℕ) (ns : List Mark) → choose kind ≡ Some next → ((s : Span) → Gets lim c n (next s) ns (y s.from)) → Gets lim c n (either choose otherwise) ((record { kind = kind; at = Some at; span = None; level = l; operand = 1 } ∷ []) ⨟ ns) (y at)
+taken_at {lim = lim} {c = c} {n = n} {next = next} y choose otherwise kind at l ns is gets = taken _ _ _ is (λ s e _. subst (λ a. Gets lim c n (next s) ns (y a)) e (gets s))
+
 -- one token
 pub taken_alone : {A : Type 0} {lim : Limits} {c : Kind → Bool} {n : ℕ} {make : Span → A} {m : Mark} {x : A} (choose : Kind → Option (Span → Reader A)) (otherwise : Reader A) → choose m.kind ≡ Some (λ s. give (make s)) → ((s : Span) → Given m.at s.from → Given m.span s → make s ≡ x) → Gets lim c n (either choose otherwise) (m ∷ []) x
 unfolding either give
@@ -112,9 +116,9 @@ not_chosen choose otherwise begins [] h none = refl
 not_chosen choose otherwise begins (t ∷ ts) h none = ap (λ o. chosen o otherwise t ts) (none t.kind h)
 
 -- a phrase that begins otherwise
-pub passed : {A : Type 0} {lim : Limits} {c : Kind → Bool} {n : ℕ} {choose : Kind → Option (Span → Reader A)} {otherwise : Reader A} {ms : List Mark} {x : A} (begins : Kind → Bool) (l : ℕ) → Opens begins l ms → ((k : Kind) → begins k ≡ true → choose k ≡ None) → Gets lim c n otherwise ms x → Gets lim c n (either choose otherwise) ms x
-passed {lim = lim} {choose = choose} {otherwise = otherwise} {ms = ms} begins l opens none gets = record {
-  reads = λ ts rest short s stops. not_chosen choose otherwise begins ts (first_token lim begins l ms ts rest opens s) none ∙ gets.reads ts rest short s stops;
+pub passed : {A : Type 0} {lim : Limits} {c : Kind → Bool} {n : ℕ} {choose : Kind → Option (Span → Reader A)} {otherwise : Reader A} {ms : List Mark} {x : A} (begins : Kind → Bool) → Leads begins ms → ((k : Kind) → begins k ≡ true → choose k ≡ None) → Gets lim c n otherwise ms x → Gets lim c n (either choose otherwise) ms x
+passed {lim = lim} {choose = choose} {otherwise = otherwise} {ms = ms} begins leads none gets = record {
+  reads = λ ts rest short s stops. not_chosen choose otherwise begins ts (first_token lim begins ms ts rest leads s) none ∙ gets.reads ts rest short s stops;
   }
 
 at_end : {A : Type 0} (c : Kind → Bool) (choose : Kind → Option (Span → Reader A)) (otherwise : Reader A) (ts : List Token) → Stops c ts → ((k : Kind) → c k ≡ false → choose k ≡ None) → either choose otherwise ts ≡ otherwise ts
@@ -122,27 +126,26 @@ unfolding either
 at_end c choose otherwise [] h none = refl
 at_end c choose otherwise (t ∷ ts) h none = ap (λ o. chosen o otherwise t ts) (none t.kind h)
 
--- nothing more
-pub ended : {A : Type 0} {lim : Limits} {c : Kind → Bool} {n : ℕ} {choose : Kind → Option (Span → Reader A)} {x : A} → ((k : Kind) → c k ≡ false → choose k ≡ None) → Gets lim c n (either choose (give x)) [] x
-unfolding give
-ended {c = c} {choose = choose} {x = x} none = record {
-  reads = λ ts rest short s stops. ap (either choose (give x)) s ∙ at_end c choose (give x) rest stops none;
+-- a phrase of no tokens, or what ends there
+pub ended : {A : Type 0} {lim : Limits} {c : Kind → Bool} {n : ℕ} {choose : Kind → Option (Span → Reader A)} {otherwise : Reader A} {x : A} → ((k : Kind) → c k ≡ false → choose k ≡ None) → Gets lim c n otherwise [] x → Gets lim c n (either choose otherwise) [] x
+ended {c = c} {choose = choose} {otherwise = otherwise} none gets = record {
+  reads = λ ts rest short s stops. ap (either choose otherwise) s ∙ at_end c choose otherwise rest stops none ∙ ap otherwise (sym s) ∙ gets.reads ts rest short s stops;
   }
 
-pub first_yes : {A : Type 0} {lim : Limits} {c : Kind → Bool} {n : ℕ} {one : Reader A} {ms : List Mark} {x : A} (other : Reader A) (begins : Kind → Bool) (l : ℕ) → Opens begins l ms → Gets lim c n one ms x → Gets lim c n (if_first begins one other) ms x
+pub first_yes : {A : Type 0} {lim : Limits} {c : Kind → Bool} {n : ℕ} {one : Reader A} {ms : List Mark} {x : A} (other : Reader A) (begins : Kind → Bool) → Leads begins ms → Gets lim c n one ms x → Gets lim c n (if_first begins one other) ms x
 unfolding if_first
-first_yes {lim = lim} {one = one} {ms = ms} other begins l opens gets = record {
-  reads = λ ts rest short s stops. ap (λ b. cond b (one ts) (other ts)) (first_token lim begins l ms ts rest opens s) ∙ gets.reads ts rest short s stops;
+first_yes {lim = lim} {one = one} {ms = ms} other begins leads gets = record {
+  reads = λ ts rest short s stops. ap (λ b. cond b (one ts) (other ts)) (first_token lim begins ms ts rest leads s) ∙ gets.reads ts rest short s stops;
   }
 
 is_first : (begins test : Kind → Bool) (ts : List Token) → first_is begins ts ≡ true → ((k : Kind) → begins k ≡ true → test k ≡ false) → first_is test ts ≡ false
 is_first begins test [] h not = refl
 is_first begins test (t ∷ ts) h not = not t.kind h
 
-pub first_no : {A : Type 0} {lim : Limits} {c : Kind → Bool} {n : ℕ} {test : Kind → Bool} {other : Reader A} {ms : List Mark} {x : A} (one : Reader A) (begins : Kind → Bool) (l : ℕ) → Opens begins l ms → ((k : Kind) → begins k ≡ true → test k ≡ false) → Gets lim c n other ms x → Gets lim c n (if_first test one other) ms x
+pub first_no : {A : Type 0} {lim : Limits} {c : Kind → Bool} {n : ℕ} {test : Kind → Bool} {other : Reader A} {ms : List Mark} {x : A} (one : Reader A) (begins : Kind → Bool) → Leads begins ms → ((k : Kind) → begins k ≡ true → test k ≡ false) → Gets lim c n other ms x → Gets lim c n (if_first test one other) ms x
 unfolding if_first
-first_no {lim = lim} {test = test} {other = other} {ms = ms} one begins l opens not gets = record {
-  reads = λ ts rest short s stops. ap (λ b. cond b (one ts) (other ts)) (is_first begins test ts (first_token lim begins l ms ts rest opens s) not) ∙ gets.reads ts rest short s stops;
+first_no {lim = lim} {test = test} {other = other} {ms = ms} one begins leads not gets = record {
+  reads = λ ts rest short s stops. ap (λ b. cond b (one ts) (other ts)) (is_first begins test ts (first_token lim begins ms ts rest leads s) not) ∙ gets.reads ts rest short s stops;
   }
 
 is_end : (c test : Kind → Bool) (ts : List Token) → Stops c ts → ((k : Kind) → c k ≡ false → test k ≡ false) → first_is test ts ≡ false
@@ -161,10 +164,10 @@ unfolding measured
 measuring gets = record { reads = λ ts rest short s stops. (gets (length ts)).reads ts rest (omega arith) s stops }
 
 -- no token, and so no phrase
-pub no_room : {A : Type 0} {lim : Limits} {c : Kind → Bool} {r : Reader A} {ms : List Mark} {x : A} (begins : Kind → Bool) (l : ℕ) → Opens begins l ms → Gets lim c 0 r ms x
-no_room {lim = lim} {ms = ms} begins l opens = record {
+pub no_room : {A : Type 0} {lim : Limits} {c : Kind → Bool} {r : Reader A} {ms : List Mark} {x : A} (begins : Kind → Bool) → Leads begins ms → Gets lim c 0 r ms x
+no_room {lim = lim} {ms = ms} begins leads = record {
   reads = λ ts rest short s stops.
-    let some = opens_length begins l ms opens in
+    let some = leads_length begins ms leads in
     let whole = spelled_length lim ms ts rest s in
     absurd (let no : ⊥ = omega (arith, some, whole, short) in no);
   }
@@ -191,6 +194,25 @@ too_deep_here {lim = lim} {ms = ms} begins l past opens = record {
     let within = level_within lim begins l ms ts rest opens s in
     absurd (let no : ⊥ = omega (arith, within, past) in no);
   }
+
+-- ---- lists of marks
+
+pub regroup : {A : Type 0} {lim : Limits} {c : Kind → Bool} {n : ℕ} {r : Reader A} {x : A} (a b ns : List Mark) → Gets lim c n r (a ⨟ (b ⨟ ns)) x → Gets lim c n r ((a ⨟ b) ⨟ ns) x
+unfolding ◌⨟◌
+regroup {lim = lim} {c = c} {n = n} {r = r} {x = x} a b ns gets = subst (λ ms. Gets lim c n r ms x) (sym (append_assoc a b ns)) gets
+
+-- an empty part
+pub nothing_first : {A : Type 0} {lim : Limits} {c : Kind → Bool} {n : ℕ} {r : Reader A} {x : A} (ns : List Mark) → Gets lim c n r ns x → Gets lim c n r ([] ⨟ ns) x
+unfolding ◌⨟◌
+nothing_first ns gets = gets
+
+pub nothing_after : {A : Type 0} {lim : Limits} {c : Kind → Bool} {n : ℕ} {r : Reader A} {x : A} (ms : List Mark) → Gets lim c n r (ms ⨟ []) x → Gets lim c n r ms x
+unfolding ◌⨟◌
+nothing_after {lim = lim} {c = c} {n = n} {r = r} {x = x} ms gets = subst (λ ns. Gets lim c n r ns x) (append-nil ms) gets
+
+pub no_nothing : {A : Type 0} {lim : Limits} {c : Kind → Bool} {n : ℕ} {r : Reader A} {x : A} (ns : List Mark) → Gets lim c n r ([] ⨟ ns) x → Gets lim c n r ns x
+unfolding ◌⨟◌
+no_nothing ns gets = gets
 
 -- ---- a token of a kind
 

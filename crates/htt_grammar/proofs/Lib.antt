@@ -1,3 +1,5 @@
 pub mod Spells
 pub mod Gets
 pub mod Opens
+pub mod Monotypes
+pub mod Terms

@@ -25,6 +25,32 @@ abbrev pub Begins : (Kind → Bool) → List Mark → Type 0
 Begins begins [] = ⊥
 Begins begins (m ∷ ms) = (begins m.kind ≡ true) × (m.operand ≡ 1)
 
+-- the kind alone
+abbrev pub Leads : (Kind → Bool) → List Mark → Type 0
+Leads begins [] = ⊥
+Leads begins (m ∷ ms) = begins m.kind ≡ true
+
+pub leads_of : (begins : Kind → Bool) (l : ℕ) (a : List Mark) → Opens begins l a → Leads begins a
+leads_of begins l [] h = absurd h
+leads_of begins l (m ∷ a) h = h.0
+
+pub leads_then : (begins : Kind → Bool) (a b : List Mark) → Leads begins a → Leads begins (a ⨟ b)
+unfolding ◌⨟◌
+leads_then begins [] b h = absurd h
+leads_then begins (m ∷ a) b h = h
+
+pub leads_numbered : (begins : Kind → Bool) (n : ℕ) (a : List Mark) → Leads begins a → Leads begins (numbered n a)
+leads_numbered begins n [] h = absurd h
+leads_numbered begins n (m ∷ a) h = h
+
+pub leads_wider : (begins others : Kind → Bool) (a : List Mark) → ((k : Kind) → begins k ≡ true → others k ≡ true) → Leads begins a → Leads others a
+leads_wider begins others [] wider h = absurd h
+leads_wider begins others (m ∷ a) wider h = wider m.kind h
+
+pub leads_length : (begins : Kind → Bool) (a : List Mark) → Leads begins a → 1 ≤ length a
+leads_length begins [] h = absurd h
+leads_length begins (m ∷ a) h = grind arith
+
 pub begins_of : (begins : Kind → Bool) (l : ℕ) (a : List Mark) → Opens begins l a → Begins begins a
 begins_of begins l [] h = absurd h
 begins_of begins l (m ∷ a) h = (h.0, h.2)
@@ -55,13 +81,9 @@ pub opens_wider : (begins others : Kind → Bool) (l : ℕ) (a : List Mark) → 
 opens_wider begins others l [] wider h = absurd h
 opens_wider begins others l (m ∷ a) wider h = (wider m.kind h.0, h.1, h.2)
 
-pub opens_length : (begins : Kind → Bool) (l : ℕ) (a : List Mark) → Opens begins l a → 1 ≤ length a
-opens_length begins l [] h = absurd h
-opens_length begins l (m ∷ a) h = grind arith
-
-pub first_token : (lim : Limits) (begins : Kind → Bool) (l : ℕ) (ms : List Mark) (ts rest : List Token) → Opens begins l ms → Spells lim ms ts rest → first_is begins ts ≡ true
-first_token lim begins l [] ts rest h s = absurd h
-first_token lim begins l (m ∷ ms) ts rest h s = ap (first_is begins) s.2 ∙ ap begins s.3.kind ∙ h.0
+pub first_token : (lim : Limits) (begins : Kind → Bool) (ms : List Mark) (ts rest : List Token) → Leads begins ms → Spells lim ms ts rest → first_is begins ts ≡ true
+first_token lim begins [] ts rest h s = absurd h
+first_token lim begins (m ∷ ms) ts rest h s = ap (first_is begins) s.2 ∙ ap begins s.3.kind ∙ h
 
 pub level_within : (lim : Limits) (begins : Kind → Bool) (l : ℕ) (ms : List Mark) (ts rest : List Token) → Opens begins l ms → Spells lim ms ts rest → l ≤ lim.nesting
 level_within lim begins l [] ts rest h s = absurd h

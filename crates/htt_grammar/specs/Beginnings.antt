@@ -26,6 +26,14 @@ begins_mono (Keyword UnitWord) = true
 begins_mono (Sign OpenParenSign) = true
 begins_mono _ = false
 
+abbrev pub begins_mono_name : Kind → Bool
+begins_mono_name Name = true
+begins_mono_name (Keyword WordWord) = true
+begins_mono_name (Keyword BoolWord) = true
+begins_mono_name (Keyword LocWord) = true
+begins_mono_name (Keyword UnitWord) = true
+begins_mono_name _ = false
+
 abbrev pub begins_ty : Kind → Bool
 begins_ty (Sign OpenBracketSign) = true
 begins_ty (Sign OpenBraceSign) = true
