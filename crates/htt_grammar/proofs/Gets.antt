@@ -46,6 +46,17 @@ then {lim = lim} {n = n} {ms = ms} {ns = ns} {x = x} k first before second = rec
     ap (λ o. after o k) (first.reads ts mid short parts.1 (before mid rest parts.2 stops)) ∙ second.reads mid rest still parts.2 stops;
   }
 
+-- where what follows is read with one token less
+pub then_less : {A B : Type 0} {lim : Limits} {c e : Kind → Bool} {n : ℕ} {r : Reader A} {ms ns : List Mark} {x : A} {y : B} (k : A → Reader B) → 1 ≤ length ms → Gets lim c (suc n) r ms x → ((mid rest : List Token) → Spells lim ns mid rest → Stops e rest → Stops c mid) → Gets lim e n (k x) ns y → Gets lim e (suc n) (r >>= k) (ms ⨟ ns) y
+unfolding ◌>>=◌
+then_less {lim = lim} {n = n} {ms = ms} {ns = ns} {x = x} k some first before second = record {
+  reads = λ ts rest short s stops.
+    let parts = split lim ms ns ts rest s in
+    let mid = parts.0 in
+    let still : length mid ≤ n = let h = spelled_length lim ms ts mid parts.1 in omega (arith, h, short, some) in
+    ap (λ o. after o k) (first.reads ts mid short parts.1 (before mid rest parts.2 stops)) ∙ second.reads mid rest still parts.2 stops;
+  }
+
 -- what always ends, and what follows
 pub then_any : {A B : Type 0} {lim : Limits} {e : Kind → Bool} {n : ℕ} {r : Reader A} {ms ns : List Mark} {x : A} {y : B} (k : A → Reader B) → Gets lim never n r ms x → Gets lim e n (k x) ns y → Gets lim e n (r >>= k) (ms ⨟ ns) y
 then_any k first second = then k first (λ mid rest s stops. never_stops mid) second
