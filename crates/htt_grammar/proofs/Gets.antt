@@ -170,6 +170,13 @@ first_ended {c = c} {test = test} {x = x} one not = record {
   reads = λ ts rest short s stops. ap (if_first test one (give x)) s ∙ ap (λ b. cond b (one rest) (Ok (x, rest))) (is_end c test rest stops not);
   }
 
+-- an empty list before a token that ends it
+pub closed_now : {A B : Type 0} {lim : Limits} {c : Kind → Bool} {n : ℕ} {y : B} (test : Kind → Bool) (empty : A) (other : Reader A) (k : A → Reader B) (m : Mark) → test m.kind ≡ true → Gets lim c n (k empty) (m ∷ []) y → Gets lim c n (if_first test (give empty) other >>= k) ([] ⨟ (m ∷ [])) y
+unfolding if_first give ◌>>=◌ ◌⨟◌
+closed_now {lim = lim} test empty other k m is gets = record {
+  reads = λ ts rest short s stops. ap (λ b. after (cond b (Ok (empty, ts)) (other ts)) k) (first_token lim test (m ∷ []) ts rest is s) ∙ gets.reads ts rest short s stops;
+  }
+
 pub measuring : {A : Type 0} {lim : Limits} {c : Kind → Bool} {n : ℕ} {r : ℕ → Reader A} {ms : List Mark} {x : A} → ((k : ℕ) → Gets lim c k (r k) ms x) → Gets lim c n (measured r) ms x
 unfolding measured
 measuring gets = record { reads = λ ts rest short s stops. (gets (length ts)).reads ts rest (omega arith) s stops }
@@ -220,6 +227,15 @@ nothing_first ns gets = gets
 pub nothing_after : {A : Type 0} {lim : Limits} {c : Kind → Bool} {n : ℕ} {r : Reader A} {x : A} (ms : List Mark) → Gets lim c n r (ms ⨟ []) x → Gets lim c n r ms x
 unfolding ◌⨟◌
 nothing_after {lim = lim} {c = c} {n = n} {r = r} {x = x} ms gets = subst (λ ns. Gets lim c n r ns x) (append-nil ms) gets
+
+-- a part with nothing after it
+pub empty_gone : {A : Type 0} {lim : Limits} {c : Kind → Bool} {n : ℕ} {r : Reader A} {x : A} (a ns : List Mark) → Gets lim c n r (a ⨟ ns) x → Gets lim c n r ((a ⨟ []) ⨟ ns) x
+unfolding ◌⨟◌
+empty_gone {lim = lim} {c = c} {n = n} {r = r} {x = x} a ns gets = subst (λ ms. Gets lim c n r (ms ++ ns) x) (sym (append-nil a)) gets
+
+pub regroup_in : {A : Type 0} {lim : Limits} {c : Kind → Bool} {n : ℕ} {r : Reader A} {x : A} (a b d ns : List Mark) → Gets lim c n r (a ⨟ (b ⨟ (d ⨟ ns))) x → Gets lim c n r (a ⨟ ((b ⨟ d) ⨟ ns)) x
+unfolding ◌⨟◌
+regroup_in {lim = lim} {c = c} {n = n} {r = r} {x = x} a b d ns gets = subst (λ ms. Gets lim c n r (a ++ ms) x) (sym (append_assoc b d ns)) gets
 
 pub no_nothing : {A : Type 0} {lim : Limits} {c : Kind → Bool} {n : ℕ} {r : Reader A} {x : A} (ns : List Mark) → Gets lim c n r ([] ⨟ ns) x → Gets lim c n r ns x
 unfolding ◌⨟◌

@@ -3,3 +3,4 @@ pub mod Gets
 pub mod Opens
 pub mod Monotypes
 pub mod Terms
+pub mod Formulas

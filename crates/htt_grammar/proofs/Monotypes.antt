@@ -69,7 +69,7 @@ heap_gets l (heaps.Mem at o) = taken_at (λ a. heaps.Mem a o) _ _ _ _ _ _ refl (
 
 -- ---- monotypes
 
-leads_mono_name : (l : ℕ) (x : MonoName) → Leads begins_mono_name (Grammar.mono_name l x)
+pub leads_mono_name : (l : ℕ) (x : MonoName) → Leads begins_mono_name (Grammar.mono_name l x)
 leads_mono_name l (mono_names.Word at) = refl
 leads_mono_name l _ = refl
 
@@ -97,6 +97,12 @@ module _ {A : Type 0} {lim : Limits} (c : Kind → Bool) (l : ℕ) (r : Reader A
   unfolding each_after
   before_more [] mid rest s stops = subst (Stops c) (sym s) (stops_less (list_goes_on c) c rest (λ k h. or_right (same_kind k (Sign CommaSign)) (c k) h) stops)
   before_more (x ∷ xs) mid rest s stops = stops_at c lim _ _ mid rest ends s
+
+  -- and where a token follows that ends it
+  pub each_stops : (m : Mark) (ns : List Mark) → c m.kind ≡ false → (xs : List A) (mid rest : List Token) → Spells lim (each_after (sign l CommaSign) marks xs ⨟ ((m ∷ []) ⨟ ns)) mid rest → Stops c mid
+  unfolding each_after ◌⨟◌
+  each_stops m ns end [] mid rest s = subst (Stops c) (sym s.2) (ap c s.3.kind ∙ end)
+  each_stops m ns end (x ∷ xs) mid rest s = subst (Stops c) (sym s.2) (ap c s.3.kind ∙ ends)
 
   pub commas_get : (n : ℕ) (xs : List A) → Gets lim (list_goes_on c) n (after_commas (Sign CommaSign) r n) (each_after (sign l CommaSign) marks xs) xs
   unfolding each_after after_commas
@@ -149,6 +155,9 @@ module _ {lim : Limits} (d : Deeper) (l : ℕ) (know : Knows lim d (suc l)) wher
   pub bracketed_gets : {c : Kind → Bool} {n : ℕ} (m : MonoTree) → Gets lim c n (bracketed d) (Grammar.in_brackets l m) m
   unfolding bracketed
   bracketed_gets m = skip _ _ _ refl (until_last _ refl (mono_gets m) (skip_last _ refl))
+
+  pub monos_stop : (m : Mark) (ns : List Mark) → goes_on_mono m.kind ≡ false → (ms : List MonoTree) (mid rest : List Token) → Spells lim (each_after (sign l CommaSign) (Grammar.mono l) ms ⨟ ((m ∷ []) ⨟ ns)) mid rest → Stops goes_on_mono mid
+  monos_stop m ns end ms mid rest s = each_stops goes_on_mono l (mono_at d) (Grammar.mono l) refl (λ n t. mono_gets t) m ns end ms mid rest s
 
   pub more_monos_get : {n : ℕ} (ms : List MonoTree) → Gets lim (list_goes_on goes_on_mono) n (more_monos d) (each_after (sign l CommaSign) (Grammar.mono l) ms) ms
   unfolding more_monos

@@ -21,7 +21,7 @@ use Rattle.htt_grammar.specs.Readers.{Reader, measured, give, ◌>>=◌, stop, e
 use Rattle.htt_grammar.specs.Beginnings.{begins_binder, begins_mono, begins_ty, begins_atom, begins_appl, begins_term, begins_comp, sum_sign_of, prod_sign_of, is_some, never, goes_on_mono, goes_on_list, goes_on_params, goes_on_appl, goes_on_prod, goes_on_sum, goes_on_rel}
 use Rattle.htt_grammar.specs.Phrases.{Deeper, a_binder, a_name_there, a_number_there, mono_at, bracketed, terms_on, terms_there, is_close, bracket_case, atom_case, atom_at, part_case, no_part_case, parts_on, unary_case, appl_at, on_prod_sign, prod_on, prod_at, on_sum_sign, sum_on, sum_at, rel_at, triple_at, params_on, term_case, term_at, starts_function, function_case, ty_case, ty_at, step_case, step_at, comp_on, comp_at}
 use Rattle.htt_grammar.proofs.Spells.{Spells, Stops, Leads, leads_of, leads_then, leads_numbered, leads_length, begins_of}
-use Rattle.htt_grammar.proofs.Gets.{Gets, giving, then, then_any, until, until_last, then_nothing, last, less_going, taken, taken_less, taken_at, taken_alone, passed, ended, first_yes, first_no, first_ended, measuring, no_room, operand, past_last, stops_less, never_stops, then_less, or_left, or_right, regroup, nothing_first, nothing_after, that_not, skip, skip_last}
+use Rattle.htt_grammar.proofs.Gets.{Gets, giving, then, then_any, until, until_last, then_nothing, last, less_going, taken, taken_less, taken_at, taken_alone, passed, ended, first_yes, first_no, first_ended, closed_now, measuring, no_room, operand, past_last, stops_less, never_stops, then_less, or_left, or_right, regroup, nothing_first, nothing_after, that_not, skip, skip_last}
 use Rattle.htt_grammar.proofs.Opens.{opens_mono, opens_atom, opens_appl, opens_prod, opens_rel, opens_term, opens_comp, opens_binder}
 use Rattle.htt_grammar.proofs.Monotypes.{Knows, binder_gets, name_gets, number_gets, mono_gets, bracketed_gets, list_goes_on, leads_mark, stops_at}
 
@@ -102,7 +102,7 @@ no_step_word d (Keyword IfWord) h = absurd (let no : false ≡ true = h in cc)
 no_step_word d (Keyword ClaimWord) h = absurd (let no : false ≡ true = h in cc)
 no_step_word d _ h = refl
 
-no_type_sign : (d : Deeper) (k : Kind) → begins_mono k ≡ true → ty_case d k ≡ None
+pub no_type_sign : (d : Deeper) (k : Kind) → begins_mono k ≡ true → ty_case d k ≡ None
 no_type_sign d (Sign OpenBracketSign) h = absurd (let no : false ≡ true = h in cc)
 no_type_sign d (Sign OpenBraceSign) h = absurd (let no : false ≡ true = h in cc)
 no_type_sign d _ h = refl
@@ -122,7 +122,7 @@ binder_no_ret _ h = refl
 module _ {lim : Limits} (d : Deeper) (l : ℕ) (know : Knows lim d (suc l)) where
   -- ---- lists of terms
 
-  terms_before : (ms : TermTrees) (mid rest : List Token) → Spells lim (Grammar.terms_after l ms) mid rest → Stops (list_goes_on goes_on_rel) rest → Stops goes_on_rel mid
+  pub terms_before : (ms : TermTrees) (mid rest : List Token) → Spells lim (Grammar.terms_after l ms) mid rest → Stops (list_goes_on goes_on_rel) rest → Stops goes_on_rel mid
   unfolding Grammar.terms_after
   terms_before no_terms mid rest s stops = subst (Stops goes_on_rel) (sym s) (stops_less (list_goes_on goes_on_rel) goes_on_rel rest (λ k h. or_right (same_kind k (Sign CommaSign)) (goes_on_rel k) h) stops)
   terms_before (more_terms m ms) mid rest s stops = stops_at goes_on_rel lim _ _ mid rest refl s
@@ -161,9 +161,20 @@ module _ {lim : Limits} (d : Deeper) (l : ℕ) (know : Knows lim d (suc l)) wher
   atom_gets (a_pair at m n) = taken_at (λ a. a_pair a m n) _ _ _ _ _ _ refl (λ s. before_close _ (term_leads m _) (until _ _ _ refl (know.term m) (taken _ _ _ refl (λ there e span. until_last _ refl (know.term n) (skip_last _ refl)))))
   atom_gets (a_annotated at m a) = taken_at (λ b. a_annotated b m a) _ _ _ _ _ _ refl (λ s. before_close _ (term_leads m _) (until _ _ _ refl (know.term m) (taken _ _ _ refl (λ there e span. until_last _ refl (know.ty a) (skip_last _ refl)))))
 
-  -- terms, the closing bracket after them, and what follows
-  pub terms_close : {A : Type 0} {c : Kind → Bool} {n : ℕ} (ms : TermTrees) (y : A) → Gets lim c n (terms_there d >>= (λ ms. token (Sign CloseParenSign) >>= (λ _. give y))) (Grammar.terms l ms ⨟ sign l CloseParenSign) y
-  terms_close ms y = ?
+  some_terms_get : {n : ℕ} (m : TermTree) (ms : TermTrees) → Gets lim (list_goes_on goes_on_rel) n (terms_there d) (Grammar.terms l (more_terms m ms)) (more_terms m ms)
+  unfolding Grammar.terms terms_there
+  some_terms_get m ms = first_no _ begins_term (term_leads m _) no_close (then _ (know.term m) (terms_before ms) (last (more_terms m) (more_terms_get ms)))
+
+  -- terms, and the closing bracket after them
+  pub terms_close : {A : Type 0} {c : Kind → Bool} {n : ℕ} (make : TermTrees → A) (ms : TermTrees) → Gets lim c n (terms_there d >>= (λ others. token (Sign CloseParenSign) >>= (λ _. give (make others)))) (Grammar.terms l ms ⨟ sign l CloseParenSign) (make ms)
+  unfolding Grammar.terms terms_there
+  terms_close make no_terms = closed_now _ no_terms _ _ _ refl (skip_last _ refl)
+  terms_close make (more_terms m ms) = until_last _ refl (some_terms_get m ms) (skip_last _ refl)
+
+  pub after_close : (ms : TermTrees) (mid rest : List Token) → Spells lim (Grammar.terms_after l ms ⨟ sign l CloseParenSign) mid rest → Stops goes_on_rel mid
+  unfolding Grammar.terms_after ◌⨟◌
+  after_close no_terms mid rest s = subst (Stops goes_on_rel) (sym s.2) (ap goes_on_rel s.3.kind)
+  after_close (more_terms m ms) mid rest s = subst (Stops goes_on_rel) (sym s.2) (ap goes_on_rel s.3.kind)
 
   -- ---- chains
 
