@@ -4,3 +4,6 @@ pub mod Opens
 pub mod Monotypes
 pub mod Terms
 pub mod Formulas
+pub mod Proofs
+pub mod Files
+pub mod One

@@ -93,7 +93,7 @@ abbrev pub list_goes_on : (Kind → Bool) → Kind → Bool
 list_goes_on c k = same_kind k (Sign CommaSign) || c k
 
 module _ {A : Type 0} {lim : Limits} (c : Kind → Bool) (l : ℕ) (r : Reader A) (marks : A → List Mark) (ends : c (Sign CommaSign) ≡ false) (item : (n : ℕ) (x : A) → Gets lim c n r (marks x) x) where
-  before_more : (xs : List A) (mid rest : List Token) → Spells lim (each_after (sign l CommaSign) marks xs) mid rest → Stops (list_goes_on c) rest → Stops c mid
+  pub before_more : (xs : List A) (mid rest : List Token) → Spells lim (each_after (sign l CommaSign) marks xs) mid rest → Stops (list_goes_on c) rest → Stops c mid
   unfolding each_after
   before_more [] mid rest s stops = subst (Stops c) (sym s) (stops_less (list_goes_on c) c rest (λ k h. or_right (same_kind k (Sign CommaSign)) (c k) h) stops)
   before_more (x ∷ xs) mid rest s stops = stops_at c lim _ _ mid rest ends s
@@ -103,6 +103,11 @@ module _ {A : Type 0} {lim : Limits} (c : Kind → Bool) (l : ℕ) (r : Reader A
   unfolding each_after ◌⨟◌
   each_stops m ns end [] mid rest s = subst (Stops c) (sym s.2) (ap c s.3.kind ∙ end)
   each_stops m ns end (x ∷ xs) mid rest s = subst (Stops c) (sym s.2) (ap c s.3.kind ∙ ends)
+
+  pub each_stops_last : (m : Mark) → c m.kind ≡ false → (xs : List A) (mid rest : List Token) → Spells lim (each_after (sign l CommaSign) marks xs ⨟ (m ∷ [])) mid rest → Stops c mid
+  unfolding each_after ◌⨟◌
+  each_stops_last m end [] mid rest s = subst (Stops c) (sym s.2) (ap c s.3.kind ∙ end)
+  each_stops_last m end (x ∷ xs) mid rest s = subst (Stops c) (sym s.2) (ap c s.3.kind ∙ ends)
 
   pub commas_get : (n : ℕ) (xs : List A) → Gets lim (list_goes_on c) n (after_commas (Sign CommaSign) r n) (each_after (sign l CommaSign) marks xs) xs
   unfolding each_after after_commas
