@@ -5,3 +5,4 @@ pub mod Readers
 pub mod Beginnings
 pub mod Phrases
 pub mod Reading
+pub mod Laws

@@ -1,7 +1,16 @@
-//! The grammar of the language: which tokens each tree is read from, at which levels they stand, and
+//! The grammar of the language: of which tokens each tree is made, at which levels they stand, and
 //! that a list of tokens is read as at most one tree. A function without a body states laws by its
 //! contract.
 #![tactic(auto)]
 
-/// A list of tokens derives at most one tree.
-pub fn one_derivation() {}
+ghost use Rattle.htt_grammar.specs.Laws.{OneFile, OneFormula, OneMono, OneProof, OneTerm, OneType};
+
+/// A list of tokens derives at most one tree of each production.
+pub fn tokens_derive_one_tree()
+    ensures monotypes { OneMono }
+    ensures types { OneType }
+    ensures terms { OneTerm }
+    ensures formulas { OneFormula }
+    ensures proofs { OneProof }
+    ensures files { OneFile }
+{}
