@@ -1,23 +1,23 @@
 -- The readers at every level, and those of declarations and files, get what is spelled.
-use Rattle.std.proofs.Common.{◌≡◌, ℕ, zero, suc, ◌+◌, ◌<◌, ◌≤◌, List, [], ◌∷◌, length, refl, sym, ◌∙◌, ap, subst, arith}
-use Rattle.std.specs.Prelude.{Bool, true, false, ◌||◌, not, Option, Some, None}
+use Rattle.std.proofs.Common.{◌≡◌, ℕ, zero, suc, ◌+◌, ◌<◌, ◌≤◌, List, [], ◌∷◌, length, refl, sym, ap, subst, arith}
+use Rattle.std.specs.Prelude.{Bool, true, false, not, None}
 use Rattle.htt_tokens.specs.declared.tokens.Kind.{Kind}
-use Rattle.htt_tokens.specs.declared.tokens.Kind.TheVariants.{Name, Number, Keyword, Sign}
+use Rattle.htt_tokens.specs.declared.tokens.Kind.TheVariants.{Name, Keyword, Sign}
 use Rattle.htt_tokens.specs.declared.tokens.Token.{Token}
 use Rattle.htt_tokens.specs.declared.tokens.Keyword.TheVariants.{TypeWord, PredWord, DefWord, ValWord, ProofWord, AutoWord, InductWord}
 use Rattle.htt_tokens.specs.declared.tokens.Sign.TheVariants.{OpenParenSign, CloseParenSign, OpenBracketSign, CommaSign, EqualSign, ColonSign}
 use Rattle.raw_trees.specs.declared.place.Span.{Span}
 use Rattle.raw_trees.specs.Trees.{TyTree, TermTree, FormulaTree, MonoParamTree, mono_param, BodyTree, body_auto, body_proof, DeclTree, decl_type, decl_pred, decl_induct, decl_def, decl_val, decl_proof}
-use Rattle.htt_grammar.specs.Marks.{Mark, Limits, ◌⨟◌, sign, name, separated, each_after}
+use Rattle.htt_grammar.specs.Marks.{Limits, ◌⨟◌, sign, name, separated}
 use Rattle.htt_grammar.specs.Grammar
-use Rattle.htt_grammar.specs.Readers.{Reader, measured, give, ◌>>=◌, stop, either, first_is, if_first, same_kind, token, after_commas}
-use Rattle.htt_grammar.specs.Beginnings.{begins_mono, begins_ty, begins_term, begins_comp, begins_fatom, begins_formula, begins_proof, begins_decl, never, goes_on_mono, goes_on_rel, goes_on_formula, goes_on_list}
+use Rattle.htt_grammar.specs.Readers.{measured, give, ◌>>=◌, first_is, if_first, same_kind, after_commas}
+use Rattle.htt_grammar.specs.Beginnings.{begins_mono, begins_ty, begins_term, begins_comp, begins_fatom, begins_formula, begins_proof, begins_decl, never, goes_on_mono, goes_on_rel, goes_on_formula}
 use Rattle.htt_grammar.specs.Phrases.{Deeper, a_name_there, is_close}
-use Rattle.htt_grammar.specs.Reading.{deeper, mono_parameter_at, mono_parameters_at, pred_on, induct_on, pred_case, body_case, body_at, typed_on, decl_case, decl_at, any_token, file_on}
+use Rattle.htt_grammar.specs.Reading.{deeper, mono_parameter_at, mono_parameters_at, pred_on, induct_on, pred_case, body_case, body_at, typed_on, decl_at, any_token, file_on}
 use Rattle.htt_grammar.proofs.Spells.{Spells, Stops, Leads, leads_of, leads_then, leads_wider, first_token}
-use Rattle.htt_grammar.proofs.Gets.{Gets, giving, then, then_any, until, until_last, last, less_going, taken, taken_at, taken_alone, passed, first_yes, first_no, first_ended, closed_now, too_deep_here, stops_less, regroup, nothing_first, skip, skip_last}
+use Rattle.htt_grammar.proofs.Gets.{Gets, then, then_any, until, until_last, last, less_going, taken, taken_at, taken_alone, passed, first_yes, first_no, first_ended, closed_now, too_deep_here, stops_less, regroup, nothing_first, skip, skip_last}
 use Rattle.htt_grammar.proofs.Opens.{opens_ty, opens_term, opens_comp, opens_formula, opens_disj, opens_conj, opens_star, opens_mono, opens_proof}
-use Rattle.htt_grammar.proofs.Monotypes.{Knows, binder_gets, name_gets, number_gets, mono_gets, list_goes_on, before_more, each_stops, more_get, leads_mark, stops_at}
+use Rattle.htt_grammar.proofs.Monotypes.{Knows, binder_gets, name_gets, number_gets, mono_gets, list_goes_on, before_more, more_get}
 use Rattle.htt_grammar.proofs.Terms.{term_gets, comp_gets}
 use Rattle.htt_grammar.proofs.Formulas.{ty_gets, formula_gets, disj_gets, conj_gets, star_gets}
 use Rattle.htt_grammar.proofs.Proofs.{proof_gets}

@@ -1,26 +1,26 @@
 -- The readers of types and formulas get what is spelled.
-use Rattle.std.proofs.Common.{◌≡◌, ℕ, zero, suc, List, [], ◌∷◌, refl, sym, ◌∙◌, ap, subst}
-use Rattle.std.specs.Prelude.{Bool, true, false, ◌||◌, ◌&&◌, Option, Some, None, cond, Ok}
+use Rattle.std.proofs.Common.{◌≡◌, ℕ, suc, List, [], ◌∷◌, refl, ◌∙◌, ap}
+use Rattle.std.specs.Prelude.{Bool, true, false, ◌&&◌, None, cond}
 use Rattle.htt_tokens.specs.declared.tokens.Kind.{Kind}
-use Rattle.htt_tokens.specs.declared.tokens.Kind.TheVariants.{Name, Number, Keyword, Sign}
+use Rattle.htt_tokens.specs.declared.tokens.Kind.TheVariants.{Name, Keyword, Sign}
 use Rattle.htt_tokens.specs.declared.tokens.Token.{Token}
 use Rattle.htt_tokens.specs.declared.tokens.Keyword.TheVariants.{HeapWord, EmpWord, TtWord, FfWord, AllWord, ExWord, CapitalEmpWord, CellWord, BlockWord, JoinWord, SameWord}
-use Rattle.htt_tokens.specs.declared.tokens.Sign.TheVariants.{OpenParenSign, CloseParenSign, OpenBracketSign, CloseBracketSign, OpenBraceSign, CommaSign, SemicolonSign, ColonSign, DotSign, ArrowSign, EqualSign, ImpliesSign, PointsToSign, UnderscoreSign, StarSign, DoubleStarSign, AndSign, OrSign, AtSign, BangSign}
+use Rattle.htt_tokens.specs.declared.tokens.Sign.TheVariants.{OpenParenSign, CloseParenSign, OpenBracketSign, ColonSign, DotSign, ImpliesSign, UnderscoreSign, StarSign, DoubleStarSign, AndSign, OrSign, AtSign, BangSign}
 use Rattle.raw_trees.specs.declared.place.Binder.{Binder}
 use Rattle.raw_trees.specs.declared.place.Binder.TheVariants as binders
 use Rattle.raw_trees.specs.declared.mono.MonoName.{MonoName}
 use Rattle.raw_trees.specs.declared.mono.MonoName.TheVariants as mono_names
-use Rattle.raw_trees.specs.Trees.{MonoTree, m_name, m_brackets, m_factor, m_pair, TyTree, TermTree, TermTrees, RelTree, FormulaTree, SortTree, DisjTree, ConjTree, StarTree, FatomTree, y_fun, y_all, y_hoare, y_mono, f_all, f_ex, f_disj, f_implies, over_mono, over_heap, d_conj, d_or, j_star, j_and, k_fatom, k_times, g_tt, g_ff, g_emp, g_brackets, g_at_heap, g_emp_of, g_same, g_join, g_cell, g_block, g_use, g_use_at, g_use_at_heap, g_eq, g_points, g_points_any, no_terms, more_terms}
-use Rattle.htt_grammar.specs.Marks.{Mark, Limits, ◌⨟◌, sign, sign_at, separated, each_after}
+use Rattle.raw_trees.specs.Trees.{MonoTree, m_name, m_brackets, m_factor, m_pair, TyTree, TermTrees, RelTree, FormulaTree, SortTree, DisjTree, ConjTree, StarTree, FatomTree, y_fun, y_all, y_hoare, y_mono, f_all, f_ex, f_disj, f_implies, over_mono, over_heap, d_conj, d_or, j_star, j_and, k_fatom, k_times, g_tt, g_ff, g_emp, g_brackets, g_at_heap, g_emp_of, g_same, g_join, g_cell, g_block, g_use, g_use_at, g_use_at_heap, g_eq, g_points, g_points_any, no_terms, more_terms}
+use Rattle.htt_grammar.specs.Marks.{Mark, Limits, ◌⨟◌, sign, sign_at}
 use Rattle.htt_grammar.specs.Grammar
-use Rattle.htt_grammar.specs.Readers.{Reader, measured, give, ◌>>=◌, stop, either, first_is, that, same_kind, token}
-use Rattle.htt_grammar.specs.Beginnings.{begins_binder, begins_mono, begins_mono_name, begins_appl, begins_fatom, begins_term, never, goes_on_mono, goes_on_rel, goes_on_star, goes_on_conj, goes_on_disj, goes_on_formula}
-use Rattle.htt_grammar.specs.Phrases.{Deeper, mono_at, rel_at, is_colon, binder_and_colon, starts_function, function_case, ty_case, ty_at, sort_at, quantified, argument_case, use_case, fatom_case, relation_case, fatom_at, star_at, conj_at, disj_at, quantifier_case, formula_at}
-use Rattle.htt_grammar.proofs.Spells.{Spells, Stops, Leads, leads_of, leads_then, split, first_token}
-use Rattle.htt_grammar.proofs.Gets.{Gets, giving, then, then_any, until, until_last, then_nothing, last, less_going, taken, taken_at, taken_alone, passed, ended, or_left, or_right, regroup, regroup_in, empty_gone, nothing_first, that_not, skip, skip_last}
+use Rattle.htt_grammar.specs.Readers.{give, ◌>>=◌, stop, either, first_is, that, same_kind}
+use Rattle.htt_grammar.specs.Beginnings.{begins_binder, begins_mono, begins_mono_name, begins_appl, begins_fatom, goes_on_mono, goes_on_rel, goes_on_star, goes_on_conj, goes_on_disj, goes_on_formula}
+use Rattle.htt_grammar.specs.Phrases.{Deeper, mono_at, is_colon, binder_and_colon, starts_function, function_case, ty_case, ty_at, sort_at, quantified, argument_case, fatom_case, fatom_at, star_at, conj_at, disj_at, quantifier_case, formula_at}
+use Rattle.htt_grammar.proofs.Spells.{Spells, Leads, leads_of, leads_then, split, first_token}
+use Rattle.htt_grammar.proofs.Gets.{Gets, giving, then, then_any, until, until_last, then_nothing, last, taken, taken_at, taken_alone, passed, ended, or_left, or_right, regroup, regroup_in, empty_gone, nothing_first, that_not, skip, skip_last}
 use Rattle.htt_grammar.proofs.Opens.{opens_mono, opens_rel, opens_disj}
-use Rattle.htt_grammar.proofs.Monotypes.{Knows, binder_gets, name_gets, heap_gets, mono_gets, bracketed_gets, more_monos_get, monos_stop, list_goes_on, leads_mono_name, leads_mark, stops_at}
-use Rattle.htt_grammar.proofs.Terms.{not_that, no_type_sign, term_leads, before_close, more_terms_get, terms_before, after_close, terms_close, rel_gets, triple_gets}
+use Rattle.htt_grammar.proofs.Monotypes.{Knows, binder_gets, name_gets, heap_gets, mono_gets, bracketed_gets, more_monos_get, monos_stop, leads_mono_name, leads_mark}
+use Rattle.htt_grammar.proofs.Terms.{not_that, no_type_sign, term_leads, before_close, more_terms_get, after_close, terms_close, rel_gets, triple_gets}
 
 -- ---- types
 

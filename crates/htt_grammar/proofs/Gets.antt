@@ -1,12 +1,12 @@
 -- A reader gets a tree from whatever is spelled as the tree's marks. How this goes from the parts of
 -- a phrase to the phrase.
-use Rattle.std.proofs.Common.{append_assoc, append-nil, ◌≡◌, ℕ, zero, suc, ◌+◌, ◌<◌, ◌≤◌, List, [], ◌∷◌, ◌++◌, length, refl, sym, ◌∙◌, ap, subst, arith, rules}
-use Rattle.std.specs.Prelude.{Bool, true, false, ◌||◌, Option, Some, None, Result, Ok, Err, cond}
+use Rattle.std.proofs.Common.{append_assoc, append-nil, ◌≡◌, ℕ, suc, ◌<◌, ◌≤◌, List, [], ◌∷◌, ◌++◌, length, refl, sym, ◌∙◌, ap, subst, arith}
+use Rattle.std.specs.Prelude.{Bool, true, false, ◌||◌, Option, Some, None, Ok, cond}
 use Rattle.htt_tokens.specs.declared.tokens.Kind.{Kind}
 use Rattle.htt_tokens.specs.declared.tokens.Token.{Token}
 use Rattle.raw_trees.specs.declared.place.Span.{Span}
 use Rattle.htt_grammar.specs.Marks.{Mark, Limits, Given, span_of, ◌⨟◌, numbered}
-use Rattle.htt_grammar.specs.Readers.{Reader, Halt, give, after, ◌>>=◌, stop, chosen, either, first_is, if_first, measured, same_kind, that, token}
+use Rattle.htt_grammar.specs.Readers.{Reader, give, after, ◌>>=◌, chosen, either, first_is, if_first, measured, same_kind, that, token}
 use Rattle.htt_grammar.specs.Beginnings.{never}
 use Rattle.htt_grammar.proofs.Spells.{Spells, Stops, Opens, Begins, split, no_longer, spelled_length, Leads, first_token, level_within, leads_length, renumbered}
 
@@ -40,22 +40,22 @@ pub then : {A B : Type 0} {lim : Limits} {c e : Kind → Bool} {n : ℕ} {r : Re
 unfolding ◌>>=◌
 then {lim = lim} {n = n} {ms = ms} {ns = ns} {x = x} k first before second = record {
   reads = λ ts rest short s stops.
-    let parts = split lim ms ns ts rest s in
-    let mid = parts.0 in
-    let still : length mid ≤ n = let h = no_longer lim ms ts mid parts.1 in omega (arith, h, short) in
-    ap (λ o. after o k) (first.reads ts mid short parts.1 (before mid rest parts.2 stops)) ∙ second.reads mid rest still parts.2 stops;
-  }
+      let parts = split lim ms ns ts rest s in
+      let mid = parts.0 in
+      let still : length mid ≤ n = let h = no_longer lim ms ts mid parts.1 in omega (arith, h, short) in
+      ap (λ o. after o k) (first.reads ts mid short parts.1 (before mid rest parts.2 stops)) ∙ second.reads mid rest still parts.2 stops;
+}
 
 -- where what follows is read with one token less
 pub then_less : {A B : Type 0} {lim : Limits} {c e : Kind → Bool} {n : ℕ} {r : Reader A} {ms ns : List Mark} {x : A} {y : B} (k : A → Reader B) → 1 ≤ length ms → Gets lim c (suc n) r ms x → ((mid rest : List Token) → Spells lim ns mid rest → Stops e rest → Stops c mid) → Gets lim e n (k x) ns y → Gets lim e (suc n) (r >>= k) (ms ⨟ ns) y
 unfolding ◌>>=◌
 then_less {lim = lim} {n = n} {ms = ms} {ns = ns} {x = x} k some first before second = record {
   reads = λ ts rest short s stops.
-    let parts = split lim ms ns ts rest s in
-    let mid = parts.0 in
-    let still : length mid ≤ n = let h = spelled_length lim ms ts mid parts.1 in omega (arith, h, short, some) in
-    ap (λ o. after o k) (first.reads ts mid short parts.1 (before mid rest parts.2 stops)) ∙ second.reads mid rest still parts.2 stops;
-  }
+      let parts = split lim ms ns ts rest s in
+      let mid = parts.0 in
+      let still : length mid ≤ n = let h = spelled_length lim ms ts mid parts.1 in omega (arith, h, short, some) in
+      ap (λ o. after o k) (first.reads ts mid short parts.1 (before mid rest parts.2 stops)) ∙ second.reads mid rest still parts.2 stops;
+}
 
 -- what always ends, and what follows
 pub then_any : {A B : Type 0} {lim : Limits} {e : Kind → Bool} {n : ℕ} {r : Reader A} {ms ns : List Mark} {x : A} {y : B} (k : A → Reader B) → Gets lim never n r ms x → Gets lim e n (k x) ns y → Gets lim e n (r >>= k) (ms ⨟ ns) y
@@ -74,9 +74,9 @@ pub then_nothing : {A B : Type 0} {lim : Limits} {c e : Kind → Bool} {n : ℕ}
 unfolding ◌>>=◌
 then_nothing {lim = lim} {c = c} {e = e} {n = n} {ms = ms} {x = x} k less first second = record {
   reads = λ ts rest short s stops.
-    let still : length rest ≤ n = let h = no_longer lim ms ts rest s in omega (arith, h, short) in
-    ap (λ o. after o k) (first.reads ts rest short s (stops_less e c rest less stops)) ∙ second.reads rest rest still refl stops;
-  }
+      let still : length rest ≤ n = let h = no_longer lim ms ts rest s in omega (arith, h, short) in
+      ap (λ o. after o k) (first.reads ts rest short s (stops_less e c rest less stops)) ∙ second.reads rest rest still refl stops;
+}
 
 pub last : {A B : Type 0} {lim : Limits} {c : Kind → Bool} {n : ℕ} {r : Reader A} {ms : List Mark} {x : A} (make : A → B) → Gets lim c n r ms x → Gets lim c n (r >>= (λ z. give (make z))) ms (make x)
 last make first = then_nothing _ (λ k h. h) first giving
@@ -91,22 +91,22 @@ pub taken : {A : Type 0} {lim : Limits} {c : Kind → Bool} {n : ℕ} {next : Sp
 unfolding either ◌⨟◌
 taken {lim = lim} {n = n} {next = next} {ns = ns} choose otherwise m is gets = record {
   reads = λ ts rest short s stops.
-    let longer = ap length s.2 in
-    let still : length s.1 ≤ n = grind (arith, short, longer) in
-    ap (either choose otherwise) s.2 ∙ ap (λ o. chosen o otherwise s.0 s.1) (ap choose s.3.kind ∙ is)
-    ∙ (gets (span_of s.0) s.3.at s.3.span).reads s.1 rest still s.5 stops;
-  }
+      let longer = ap length s.2 in
+      let still : length s.1 ≤ n = grind (arith, short, longer) in
+      ap (either choose otherwise) s.2 ∙ ap (λ o. chosen o otherwise s.0 s.1) (ap choose s.3.kind ∙ is)
+      ∙ (gets (span_of s.0) s.3.at s.3.span).reads s.1 rest still s.5 stops;
+}
 
 -- the same, where what follows is read with one token less
 pub taken_less : {A : Type 0} {lim : Limits} {c : Kind → Bool} {n : ℕ} {next : Span → Reader A} {ns : List Mark} {x : A} (choose : Kind → Option (Span → Reader A)) (otherwise : Reader A) (m : Mark) → choose m.kind ≡ Some next → ((s : Span) → Given m.at s.from → Given m.span s → Gets lim c n (next s) ns x) → Gets lim c (suc n) (either choose otherwise) ((m ∷ []) ⨟ ns) x
 unfolding either ◌⨟◌
 taken_less {lim = lim} {n = n} {next = next} {ns = ns} choose otherwise m is gets = record {
   reads = λ ts rest short s stops.
-    let longer = ap length s.2 in
-    let still : length s.1 ≤ n = grind (arith, short, longer) in
-    ap (either choose otherwise) s.2 ∙ ap (λ o. chosen o otherwise s.0 s.1) (ap choose s.3.kind ∙ is)
-    ∙ (gets (span_of s.0) s.3.at s.3.span).reads s.1 rest still s.5 stops;
-  }
+      let longer = ap length s.2 in
+      let still : length s.1 ≤ n = grind (arith, short, longer) in
+      ap (either choose otherwise) s.2 ∙ ap (λ o. chosen o otherwise s.0 s.1) (ap choose s.3.kind ∙ is)
+      ∙ (gets (span_of s.0) s.3.at s.3.span).reads s.1 rest still s.5 stops;
+}
 
 -- a token whose first byte the tree has
 pub taken_at : {A : Type 0} {lim : Limits} {c : Kind → Bool} {n : ℕ} {next : Span → Reader A} (y : ℕ → A) (choose : Kind → Option (Span → Reader A)) (otherwise : Reader A) (kind : Kind) (at l : ℕ) (ns : List Mark) → choose kind ≡ Some next → ((s : Span) → Gets lim c n (next s) ns (y s.from)) → Gets lim c n (either choose otherwise) ((record { kind = kind; at = Some at; span = None; level = l; operand = 1 } ∷ []) ⨟ ns) (y at)
@@ -117,9 +117,9 @@ pub taken_alone : {A : Type 0} {lim : Limits} {c : Kind → Bool} {n : ℕ} {mak
 unfolding either give
 taken_alone {lim = lim} {n = n} {make = make} {m = m} choose otherwise is same = record {
   reads = λ ts rest short s stops.
-    ap (either choose otherwise) s.2 ∙ ap (λ o. chosen o otherwise s.0 s.1) (ap choose s.3.kind ∙ is)
-    ∙ (λ i. Ok (same (span_of s.0) s.3.at s.3.span i, s.5 i));
-  }
+      ap (either choose otherwise) s.2 ∙ ap (λ o. chosen o otherwise s.0 s.1) (ap choose s.3.kind ∙ is)
+      ∙ (λ i. Ok (same (span_of s.0) s.3.at s.3.span i, s.5 i));
+}
 
 not_chosen : {A : Type 0} (choose : Kind → Option (Span → Reader A)) (otherwise : Reader A) (begins : Kind → Bool) (ts : List Token) → first_is begins ts ≡ true → ((k : Kind) → begins k ≡ true → choose k ≡ None) → either choose otherwise ts ≡ otherwise ts
 unfolding either
@@ -130,7 +130,7 @@ not_chosen choose otherwise begins (t ∷ ts) h none = ap (λ o. chosen o otherw
 pub passed : {A : Type 0} {lim : Limits} {c : Kind → Bool} {n : ℕ} {choose : Kind → Option (Span → Reader A)} {otherwise : Reader A} {ms : List Mark} {x : A} (begins : Kind → Bool) → Leads begins ms → ((k : Kind) → begins k ≡ true → choose k ≡ None) → Gets lim c n otherwise ms x → Gets lim c n (either choose otherwise) ms x
 passed {lim = lim} {choose = choose} {otherwise = otherwise} {ms = ms} begins leads none gets = record {
   reads = λ ts rest short s stops. not_chosen choose otherwise begins ts (first_token lim begins ms ts rest leads s) none ∙ gets.reads ts rest short s stops;
-  }
+}
 
 at_end : {A : Type 0} (c : Kind → Bool) (choose : Kind → Option (Span → Reader A)) (otherwise : Reader A) (ts : List Token) → Stops c ts → ((k : Kind) → c k ≡ false → choose k ≡ None) → either choose otherwise ts ≡ otherwise ts
 unfolding either
@@ -141,13 +141,13 @@ at_end c choose otherwise (t ∷ ts) h none = ap (λ o. chosen o otherwise t ts)
 pub ended : {A : Type 0} {lim : Limits} {c : Kind → Bool} {n : ℕ} {choose : Kind → Option (Span → Reader A)} {otherwise : Reader A} {x : A} → ((k : Kind) → c k ≡ false → choose k ≡ None) → Gets lim c n otherwise [] x → Gets lim c n (either choose otherwise) [] x
 ended {c = c} {choose = choose} {otherwise = otherwise} none gets = record {
   reads = λ ts rest short s stops. ap (either choose otherwise) s ∙ at_end c choose otherwise rest stops none ∙ ap otherwise (sym s) ∙ gets.reads ts rest short s stops;
-  }
+}
 
 pub first_yes : {A : Type 0} {lim : Limits} {c : Kind → Bool} {n : ℕ} {one : Reader A} {ms : List Mark} {x : A} (other : Reader A) (begins : Kind → Bool) → Leads begins ms → Gets lim c n one ms x → Gets lim c n (if_first begins one other) ms x
 unfolding if_first
 first_yes {lim = lim} {one = one} {ms = ms} other begins leads gets = record {
   reads = λ ts rest short s stops. ap (λ b. cond b (one ts) (other ts)) (first_token lim begins ms ts rest leads s) ∙ gets.reads ts rest short s stops;
-  }
+}
 
 is_first : (begins test : Kind → Bool) (ts : List Token) → first_is begins ts ≡ true → ((k : Kind) → begins k ≡ true → test k ≡ false) → first_is test ts ≡ false
 is_first begins test [] h not = refl
@@ -157,7 +157,7 @@ pub first_no : {A : Type 0} {lim : Limits} {c : Kind → Bool} {n : ℕ} {test :
 unfolding if_first
 first_no {lim = lim} {test = test} {other = other} {ms = ms} one begins leads not gets = record {
   reads = λ ts rest short s stops. ap (λ b. cond b (one ts) (other ts)) (is_first begins test ts (first_token lim begins ms ts rest leads s) not) ∙ gets.reads ts rest short s stops;
-  }
+}
 
 is_end : (c test : Kind → Bool) (ts : List Token) → Stops c ts → ((k : Kind) → c k ≡ false → test k ≡ false) → first_is test ts ≡ false
 is_end c test [] h not = refl
@@ -168,14 +168,14 @@ pub first_ended : {A : Type 0} {lim : Limits} {c : Kind → Bool} {n : ℕ} {tes
 unfolding if_first give
 first_ended {c = c} {test = test} {x = x} one not = record {
   reads = λ ts rest short s stops. ap (if_first test one (give x)) s ∙ ap (λ b. cond b (one rest) (Ok (x, rest))) (is_end c test rest stops not);
-  }
+}
 
 -- an empty list before a token that ends it
 pub closed_now : {A B : Type 0} {lim : Limits} {c : Kind → Bool} {n : ℕ} {y : B} (test : Kind → Bool) (empty : A) (other : Reader A) (k : A → Reader B) (m : Mark) → test m.kind ≡ true → Gets lim c n (k empty) (m ∷ []) y → Gets lim c n (if_first test (give empty) other >>= k) ([] ⨟ (m ∷ [])) y
 unfolding if_first give ◌>>=◌ ◌⨟◌
 closed_now {lim = lim} test empty other k m is gets = record {
   reads = λ ts rest short s stops. ap (λ b. after (cond b (Ok (empty, ts)) (other ts)) k) (first_token lim test (m ∷ []) ts rest is s) ∙ gets.reads ts rest short s stops;
-  }
+}
 
 pub measuring : {A : Type 0} {lim : Limits} {c : Kind → Bool} {n : ℕ} {r : ℕ → Reader A} {ms : List Mark} {x : A} → ((k : ℕ) → Gets lim c k (r k) ms x) → Gets lim c n (measured r) ms x
 unfolding measured
@@ -185,33 +185,33 @@ measuring gets = record { reads = λ ts rest short s stops. (gets (length ts)).r
 pub no_room : {A : Type 0} {lim : Limits} {c : Kind → Bool} {r : Reader A} {ms : List Mark} {x : A} (begins : Kind → Bool) → Leads begins ms → Gets lim c 0 r ms x
 no_room {lim = lim} {ms = ms} begins leads = record {
   reads = λ ts rest short s stops.
-    let some = leads_length begins ms leads in
-    let whole = spelled_length lim ms ts rest s in
-    absurd (let no : ⊥ = omega (arith, some, whole, short) in no);
-  }
+      let some = leads_length begins ms leads in
+      let whole = spelled_length lim ms ts rest s in
+      absurd (let no : ⊥ = omega (arith, some, whole, short) in no);
+}
 
 -- the operand of a chain with this number
 pub operand : {A : Type 0} {lim : Limits} {c : Kind → Bool} {n : ℕ} {r : Reader A} {ms : List Mark} {x : A} (begins : Kind → Bool) (k : ℕ) → 1 ≤ k → Begins begins ms → Gets lim c n r ms x → Gets lim c n r (numbered k ms) x
 operand {lim = lim} {ms = ms} begins k one opens gets = record {
   reads = λ ts rest short s stops. gets.reads ts rest short (renumbered lim begins k ms ts rest one opens s).0 stops;
-  }
+}
 
 -- an operand past the last can't stand there
 pub past_last : {A : Type 0} {lim : Limits} {c : Kind → Bool} {n : ℕ} {r : Reader A} {x : A} (ms : List Mark) (ns : List Mark) (begins : Kind → Bool) (k : ℕ) → lim.chain < k → Begins begins ms → Gets lim c n r (numbered k ms ⨟ ns) x
 past_last {lim = lim} ms ns begins k past opens = record {
   reads = λ ts rest short s stops.
-    let parts = split lim (numbered k ms) ns ts rest s in
-    let within = (renumbered lim begins k ms ts parts.0 (omega (arith, past)) opens parts.1).1 in
-    absurd (let no : ⊥ = omega (arith, within, past) in no);
-  }
+      let parts = split lim (numbered k ms) ns ts rest s in
+      let within = (renumbered lim begins k ms ts parts.0 (omega (arith, past)) opens parts.1).1 in
+      absurd (let no : ⊥ = omega (arith, within, past) in no);
+}
 
 -- a phrase past the last level can't stand there
 pub too_deep_here : {A : Type 0} {lim : Limits} {c : Kind → Bool} {n : ℕ} {r : Reader A} {ms : List Mark} {x : A} (begins : Kind → Bool) (l : ℕ) → lim.nesting < l → Opens begins l ms → Gets lim c n r ms x
 too_deep_here {lim = lim} {ms = ms} begins l past opens = record {
   reads = λ ts rest short s stops.
-    let within = level_within lim begins l ms ts rest opens s in
-    absurd (let no : ⊥ = omega (arith, within, past) in no);
-  }
+      let within = level_within lim begins l ms ts rest opens s in
+      absurd (let no : ⊥ = omega (arith, within, past) in no);
+}
 
 -- ---- lists of marks
 

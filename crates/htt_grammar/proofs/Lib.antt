@@ -7,3 +7,4 @@ pub mod Formulas
 pub mod Proofs
 pub mod Files
 pub mod One
+pub mod Examples

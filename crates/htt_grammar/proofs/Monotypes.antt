@@ -1,10 +1,10 @@
 -- The readers of names, numbers, heaps and monotypes get what is spelled.
-use Rattle.std.proofs.Common.{◌≡◌, ℕ, zero, suc, ◌+◌, ◌<◌, ◌≤◌, List, [], ◌∷◌, length, refl, sym, ◌∙◌, ap, subst, arith}
+use Rattle.std.proofs.Common.{◌≡◌, ℕ, zero, suc, ◌≤◌, List, [], ◌∷◌, refl, sym, ◌∙◌, ap, subst}
 use Rattle.std.specs.Prelude.{Bool, true, false, ◌||◌, Option, Some, None}
 use Rattle.htt_tokens.specs.declared.tokens.Kind.{Kind}
-use Rattle.htt_tokens.specs.declared.tokens.Kind.TheVariants.{Name, Number, Keyword, Sign}
+use Rattle.htt_tokens.specs.declared.tokens.Kind.TheVariants.{Sign}
 use Rattle.htt_tokens.specs.declared.tokens.Token.{Token}
-use Rattle.htt_tokens.specs.declared.tokens.Sign.TheVariants.{OpenParenSign, CloseParenSign, CloseBracketSign, OpenBracketSign, StarSign, CaretSign, CommaSign}
+use Rattle.htt_tokens.specs.declared.tokens.Sign.TheVariants.{OpenParenSign, CloseParenSign, StarSign, CaretSign, CommaSign}
 use Rattle.raw_trees.specs.declared.place.Span.{Span}
 use Rattle.raw_trees.specs.declared.place.Binder.{Binder}
 use Rattle.raw_trees.specs.declared.place.Binder.TheVariants as binders
@@ -13,14 +13,14 @@ use Rattle.raw_trees.specs.declared.mono.MonoName.TheVariants as mono_names
 use Rattle.raw_trees.specs.declared.tree.RawHeap.{RawHeap}
 use Rattle.raw_trees.specs.declared.tree.RawHeap.TheVariants as heaps
 use Rattle.raw_trees.specs.Trees.{FactorTree, MonoTree, m_name, m_brackets, m_factor, m_pair, TyTree, TermTree, CompTree, FormulaTree, DisjTree, ConjTree, StarTree, ProofTree}
-use Rattle.htt_grammar.specs.Marks.{Mark, Limits, ◌⨟◌, sign, word, name, number, each_after}
+use Rattle.htt_grammar.specs.Marks.{Mark, Limits, ◌⨟◌, sign, name, number, each_after}
 use Rattle.htt_grammar.specs.Grammar
-use Rattle.htt_grammar.specs.Readers.{Reader, measured, give, ◌>>=◌, stop, either, that, same_kind, token, after_commas}
-use Rattle.htt_grammar.specs.Beginnings.{begins_mono_name, begins_mono, never, goes_on_heap, goes_on_mono, goes_on_list, goes_on_rel, goes_on_star, goes_on_conj, goes_on_disj, goes_on_formula}
+use Rattle.htt_grammar.specs.Readers.{Reader, measured, stop, either, same_kind, after_commas}
+use Rattle.htt_grammar.specs.Beginnings.{begins_mono_name, begins_mono, goes_on_heap, goes_on_mono, goes_on_list, goes_on_rel, goes_on_star, goes_on_conj, goes_on_disj, goes_on_formula}
 use Rattle.htt_grammar.specs.Phrases.{Deeper, a_binder, a_name_there, a_number_there, over_there, a_heap, mono_right, mono_closes, mono_name_case, mono_inside, mono_case, mono_opens, mono_at, bracketed, more_monos}
 use Rattle.htt_grammar.proofs.Spells.{Spells, Stops, Leads, leads_of, leads_then}
-use Rattle.htt_grammar.proofs.Gets.{Gets, giving, then, then_any, until, until_last, then_nothing, last, less_going, taken, taken_less, taken_at, taken_alone, passed, ended, measuring, no_room, stops_less, or_left, or_right, regroup, nothing_first, nothing_after, no_nothing, that_not, skip, skip_last}
-use Rattle.htt_grammar.proofs.Opens.{opens_factor, opens_mono}
+use Rattle.htt_grammar.proofs.Gets.{Gets, giving, then, then_any, until_last, last, taken, taken_less, taken_at, taken_alone, passed, ended, measuring, no_room, stops_less, or_left, or_right, regroup, nothing_after, that_not, skip, skip_last}
+use Rattle.htt_grammar.proofs.Opens.{opens_factor}
 
 -- the readers one level deeper read whatever is spelled at this level
 pub record Knows (lim : Limits) (d : Deeper) (l : ℕ) : Type 0 where
@@ -135,6 +135,7 @@ module _ {lim : Limits} (d : Deeper) (l : ℕ) (know : Knows lim d (suc l)) wher
 
   mutual
     unfolding Grammar.factor mono_opens mono_inside mono_closes
+
     spine : {c : Kind → Bool} (n : ℕ) (opens : List ℕ) (m : MonoTree) (ns : List Mark) (y : MonoTree) → ((mid rest : List Token) → Spells lim ns mid rest → Stops c rest → Stops goes_on_mono mid) → ((k : ℕ) → Gets lim c k (mono_closes d opens m) ns y) → Gets lim c n (mono_opens d n opens) (Grammar.mono l m ⨟ ns) y
     spine n opens (m_factor f) ns y before closes = empty_between (Grammar.factor l f) ns (spine_factor n opens f [] (m_factor f) (λ k. right_nothing f) ns y before closes)
     spine n opens (m_pair f r) ns y before closes = regroup _ _ _ (spine_factor n opens f (sign l StarSign ⨟ Grammar.mono (suc l) r) (m_pair f r) (λ k. right_pair f r) ns y before closes)
@@ -146,8 +147,8 @@ module _ {lim : Limits} (d : Deeper) (l : ℕ) (know : Knows lim d (suc l)) wher
         (then_any _ (mono_name_gets l x) (then _ (right (suc n)) before (closes (suc n))))
     spine_factor {c = c} (suc n) opens (m_brackets at m') rs m right ns y before closes =
         regroup _ _ _ (taken_less _ _ _ refl (λ s e span. regroup _ _ _ (spine n (s.from ∷ opens) m' (sign l CloseParenSign ⨟ (rs ⨟ ns)) y
-          (λ mid rest told stops. stops_at goes_on_mono lim _ _ mid rest refl told)
-          (λ k. skip _ _ _ refl (then _ (subst (λ a. Gets lim goes_on_mono k (mono_right d (m_brackets a m')) rs m) (sym e) (right k)) before (closes k))))))
+        (λ mid rest told stops. stops_at goes_on_mono lim _ _ mid rest refl told)
+        (λ k. skip _ _ _ refl (then _ (subst (λ a. Gets lim goes_on_mono k (mono_right d (m_brackets a m')) rs m) (sym e) (right k)) before (closes k))))))
 
   closed : {j : ℕ} (m : MonoTree) → Gets lim goes_on_mono j (mono_closes d [] m) [] m
   unfolding mono_closes

@@ -1,10 +1,9 @@
 -- A list of tokens derives at most one tree: the readers read whichever it derives, if they may read
 -- as deep and as far as both.
-use Rattle.std.proofs.Common.{◌≡◌, ℕ, zero, suc, ◌+◌, ◌<◌, ◌≤◌, List, [], ◌∷◌, length, refl, sym, ◌∙◌, ap, arith}
-use Rattle.std.specs.Prelude.{Bool, true, false, Result, Ok, Err}
+use Rattle.std.proofs.Common.{◌≡◌, ℕ, ◌+◌, ◌≤◌, List, [], ◌∷◌, length, sym, ◌∙◌, ap, arith}
+use Rattle.std.specs.Prelude.{Bool, Result, Ok, Err}
 use Rattle.htt_tokens.specs.declared.tokens.Kind.{Kind}
 use Rattle.htt_tokens.specs.declared.tokens.Token.{Token}
-use Rattle.raw_trees.specs.Trees.{DeclTree}
 use Rattle.htt_grammar.specs.Marks.{Mark, Limits, AllFit, AllWithin}
 use Rattle.htt_grammar.specs.Grammar
 use Rattle.htt_grammar.specs.Readers.{Reader, Halt}
@@ -12,7 +11,7 @@ use Rattle.htt_grammar.specs.Beginnings.{never}
 use Rattle.htt_grammar.specs.Phrases.{Deeper}
 use Rattle.htt_grammar.specs.Reading.{deeper, file_on}
 use Rattle.htt_grammar.specs.Laws.{OneMono, OneType, OneTerm, OneFormula, OneProof, OneFile}
-use Rattle.htt_grammar.proofs.Spells.{Spells, Stops, spelled}
+use Rattle.htt_grammar.proofs.Spells.{spelled}
 use Rattle.htt_grammar.proofs.Gets.{Gets}
 use Rattle.htt_grammar.proofs.Monotypes.{Knows}
 use Rattle.htt_grammar.proofs.Files.{knows, file_gets}
@@ -54,8 +53,8 @@ module _ {A : Type 0} (c : Kind → Bool) (read : Deeper → Reader A) (marks : 
       let left = spelled lim tokens (marks x) fit (within (marks x) lim (omega arith) (omega arith)) in
       let right = spelled lim tokens (marks y) other (within (marks y) lim (omega arith) (omega arith)) in
       same_answer (read d tokens) x y
-        ((gets lim d know (length tokens) x).reads tokens [] (omega arith) left tt)
-        ((gets lim d know (length tokens) y).reads tokens [] (omega arith) right tt)
+      ((gets lim d know (length tokens) x).reads tokens [] (omega arith) left tt)
+      ((gets lim d know (length tokens) y).reads tokens [] (omega arith) right tt)
 
 pub one_mono : OneMono
 one_mono = one _ (λ d. d.mono) (Grammar.mono 1) (λ lim d know n x. know.mono x)
@@ -81,5 +80,5 @@ one_file tokens ds es fit other =
     let left = spelled lim tokens (Grammar.file ds) fit (within (Grammar.file ds) lim (omega arith) (omega arith)) in
     let right = spelled lim tokens (Grammar.file es) other (within (Grammar.file es) lim (omega arith) (omega arith)) in
     same_answer (file_on d m tokens) ds es
-      ((file_gets d know {n = length tokens} m ds (omega arith)).reads tokens [] (omega arith) left tt)
-      ((file_gets d know {n = length tokens} m es (omega arith)).reads tokens [] (omega arith) right tt)
+    ((file_gets d know {n = length tokens} m ds (omega arith)).reads tokens [] (omega arith) left tt)
+    ((file_gets d know {n = length tokens} m es (omega arith)).reads tokens [] (omega arith) right tt)

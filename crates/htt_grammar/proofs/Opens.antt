@@ -1,8 +1,8 @@
 -- With which token each phrase begins, at the phrase's own level.
-use Rattle.std.proofs.Common.{◌≡◌, ℕ, suc, List, [], ◌∷◌, refl}
+use Rattle.std.proofs.Common.{◌≡◌, ℕ, suc, refl}
 use Rattle.std.specs.Prelude.{Bool, true, false, ◌||◌}
 use Rattle.htt_tokens.specs.declared.tokens.Kind.{Kind}
-use Rattle.htt_tokens.specs.declared.tokens.Kind.TheVariants.{Name, Number, Keyword, Sign}
+use Rattle.htt_tokens.specs.declared.tokens.Kind.TheVariants.{Keyword, Sign}
 use Rattle.htt_tokens.specs.declared.tokens.Keyword.TheVariants.{FunWord, DoWord, FixWord, RetWord, FstWord, SndWord, NotWord, EmpWord, TtWord, FfWord, AllWord, ExWord, CapitalEmpWord, CellWord, BlockWord, JoinWord, SameWord}
 use Rattle.htt_tokens.specs.declared.tokens.Sign.TheVariants.{OpenBracketSign, OpenBraceSign, AtSign, BangSign}
 use Rattle.raw_trees.specs.declared.place.Binder.{Binder}
@@ -13,7 +13,7 @@ use Rattle.raw_trees.specs.declared.tree.UnaryWord.{UnaryWord}
 use Rattle.raw_trees.specs.declared.tree.UnaryWord.TheVariants as unary_words
 use Rattle.raw_trees.specs.declared.proof.UnaryRule.{UnaryRule}
 use Rattle.raw_trees.specs.declared.proof.UnaryRule.TheVariants as unary_rules
-use Rattle.raw_trees.specs.Trees.{FactorTree, MonoTree, m_name, m_brackets, m_factor, m_pair, TyTree, TripleTree, TermTree, ParamTrees, RelTree, SumTree, SumRestTree, ProdTree, ProdRestTree, ApplTree, PartTrees, AtomTree, CompTree, StepTree, FormulaTree, SortTree, DisjTree, ConjTree, StarTree, FatomTree, TermTrees, y_fun, y_all, y_hoare, y_mono, triple_of, t_fun, t_fun_mono, t_do, t_fix, t_rel, no_params, more_params, r_sum, r_less, s_sum, s_end, s_more, x_prod, x_end, x_more, l_unary, l_apply, no_parts, atom_part, mono_part, a_name, a_number, a_true, a_false, a_null, a_place, a_eq, a_sel, a_unit, a_brackets, a_pair, a_annotated, c_ret, c_step, s_alloc, s_get, s_set, s_free, s_if, s_claim, s_run, f_all, f_ex, f_disj, f_implies, over_mono, over_heap, d_conj, d_or, j_star, j_and, k_fatom, k_times, g_tt, g_ff, g_emp, g_brackets, g_at_heap, g_emp_of, g_same, g_join, g_cell, g_block, g_use, g_use_at, g_use_at_heap, g_eq, g_points, g_points_any, no_terms, more_terms, ArgTree, arg_heap, arg_term, MotiveTree, motive_of, ProofTree, StmtTree, EndTree, ProofTrees, p_end, p_step, b_intro, b_gen, b_open, b_have, e_name, e_trivial, e_refl, e_unary, e_both, e_give, e_app, e_inst, e_case, e_rewrite, e_induct, e_split, e_axiom, e_unfold, e_lem, e_the, no_proofs, more_proofs}
+use Rattle.raw_trees.specs.Trees.{FactorTree, MonoTree, m_name, m_brackets, m_factor, m_pair, TyTree, TermTree, RelTree, SumTree, ProdTree, ApplTree, AtomTree, CompTree, FormulaTree, DisjTree, ConjTree, StarTree, FatomTree, y_fun, y_all, y_hoare, y_mono, t_rel, r_sum, r_less, s_sum, x_prod, l_unary, l_apply, a_name, c_ret, c_step, f_all, f_ex, f_disj, f_implies, d_conj, d_or, j_star, j_and, k_fatom, k_times, g_eq, g_points, g_points_any, ArgTree, arg_heap, arg_term, ProofTree, StmtTree, EndTree, p_end, p_step, b_intro, e_unary}
 use Rattle.htt_grammar.specs.Marks.{◌⨟◌}
 use Rattle.htt_grammar.specs.Grammar
 use Rattle.htt_grammar.specs.Beginnings.{begins_binder, begins_mono, begins_ty, begins_atom, begins_appl, begins_term, begins_comp, begins_fatom, begins_formula, begins_arg, begins_stmt, begins_end, begins_proof}

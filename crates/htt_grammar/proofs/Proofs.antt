@@ -1,20 +1,20 @@
 -- The readers of proofs get what is spelled.
-use Rattle.std.proofs.Common.{◌≡◌, ℕ, lit≤, zero, suc, ◌+◌, ◌<◌, ◌≤◌, List, [], ◌∷◌, length, refl, sym, ◌∙◌, ap, subst, arith}
-use Rattle.std.specs.Prelude.{Bool, true, false, ◌||◌, Option, Some, None}
+use Rattle.std.proofs.Common.{◌≡◌, ℕ, lit≤, zero, suc, ◌+◌, ◌<◌, ◌≤◌, List, [], ◌∷◌, refl, sym, ap, subst, arith}
+use Rattle.std.specs.Prelude.{Bool, true, false, None}
 use Rattle.htt_tokens.specs.declared.tokens.Kind.{Kind}
-use Rattle.htt_tokens.specs.declared.tokens.Kind.TheVariants.{Name, Number, Keyword, Sign}
+use Rattle.htt_tokens.specs.declared.tokens.Kind.TheVariants.{Keyword, Sign}
 use Rattle.htt_tokens.specs.declared.tokens.Token.{Token}
 use Rattle.htt_tokens.specs.declared.tokens.Keyword.TheVariants.{IntroWord, GenWord, HaveWord, OpenWord}
 use Rattle.htt_tokens.specs.declared.tokens.Sign.TheVariants.{OpenParenSign, CloseParenSign, CommaSign, CaretSign, AtSign}
 use Rattle.raw_trees.specs.declared.proof.UnaryRule.{UnaryRule}
 use Rattle.raw_trees.specs.declared.proof.UnaryRule.TheVariants as unary_rules
-use Rattle.raw_trees.specs.Trees.{MonoTree, ArgTree, arg_heap, arg_term, MotiveTree, motive_of, ProofTree, StmtTree, EndTree, ProofTrees, p_end, p_step, b_intro, b_gen, b_open, b_have, e_name, e_trivial, e_refl, e_unary, e_both, e_give, e_app, e_inst, e_case, e_rewrite, e_induct, e_split, e_axiom, e_unfold, e_lem, e_the, no_proofs, more_proofs}
-use Rattle.htt_grammar.specs.Marks.{Mark, Limits, ◌⨟◌, sign, numbered, separated, each_after}
+use Rattle.raw_trees.specs.Trees.{ArgTree, arg_heap, arg_term, MotiveTree, motive_of, ProofTree, StmtTree, EndTree, ProofTrees, p_end, p_step, b_intro, b_gen, b_open, b_have, e_name, e_trivial, e_refl, e_unary, e_both, e_give, e_app, e_inst, e_case, e_rewrite, e_induct, e_split, e_axiom, e_unfold, e_lem, e_the, no_proofs, more_proofs}
+use Rattle.htt_grammar.specs.Marks.{Limits, ◌⨟◌, sign, numbered, each_after}
 use Rattle.htt_grammar.specs.Grammar
-use Rattle.htt_grammar.specs.Readers.{Reader, measured, give, ◌>>=◌, stop, either, if_first, that, same_kind, token, refuse}
-use Rattle.htt_grammar.specs.Beginnings.{begins_term, begins_arg, begins_stmt, begins_end, begins_proof, never, goes_on_heap, goes_on_rel, goes_on_list}
+use Rattle.htt_grammar.specs.Readers.{give, ◌>>=◌, same_kind, token}
+use Rattle.htt_grammar.specs.Beginnings.{begins_term, begins_arg, begins_stmt, begins_end, begins_proof, goes_on_heap, goes_on_rel, goes_on_list}
 use Rattle.htt_grammar.specs.Phrases.{Deeper, is_close}
-use Rattle.htt_grammar.specs.Reading.{arg_case, arg_at, more_args, args_there, motive_at, args_on, proofs_on, app_more, inst_more, unary_at, axiom_case, end_case, end_at, stmt_case, stmt_at, proof_on, proof_at}
+use Rattle.htt_grammar.specs.Reading.{arg_case, arg_at, more_args, args_there, motive_at, args_on, proofs_on, app_more, inst_more, unary_at, end_at, stmt_at, proof_on, proof_at}
 use Rattle.htt_grammar.proofs.Spells.{Spells, Stops, Leads, leads_of, leads_then, leads_wider, leads_length, begins_of}
 use Rattle.htt_grammar.proofs.Gets.{Gets, giving, then, then_any, then_less, until, until_last, last, less_going, taken, taken_at, taken_alone, passed, ended, first_yes, first_no, closed_now, measuring, no_room, operand, past_last, never_stops, stops_less, or_left, or_right, regroup, nothing_first, that_not, skip, skip_last}
 use Rattle.htt_grammar.proofs.Opens.{opens_term, opens_operand, opens_stmt, opens_end, opens_proof}

@@ -1,27 +1,24 @@
 -- The readers of terms, types and computations get what is spelled.
-use Rattle.std.proofs.Common.{◌≡◌, ℕ, lit≤, zero, suc, ◌+◌, ◌<◌, ◌≤◌, List, [], ◌∷◌, length, refl, sym, ◌∙◌, ap, subst, arith}
-use Rattle.std.specs.Prelude.{Bool, true, false, ◌||◌, ◌&&◌, Option, Some, None, cond, Ok}
+use Rattle.std.proofs.Common.{◌≡◌, ℕ, lit≤, zero, suc, ◌+◌, ◌<◌, ◌≤◌, List, refl, sym, ap, subst, arith}
+use Rattle.std.specs.Prelude.{Bool, true, false, Some, None}
 use Rattle.htt_tokens.specs.declared.tokens.Kind.{Kind}
-use Rattle.htt_tokens.specs.declared.tokens.Kind.TheVariants.{Name, Number, Keyword, Sign}
+use Rattle.htt_tokens.specs.declared.tokens.Kind.TheVariants.{Keyword, Sign}
 use Rattle.htt_tokens.specs.declared.tokens.Token.{Token}
 use Rattle.htt_tokens.specs.declared.tokens.Keyword.TheVariants.{FunWord, DoWord, FixWord, RetWord, FstWord, SndWord, NotWord, AllocWord, GetWord, SetWord, FreeWord, IfWord, ClaimWord}
-use Rattle.htt_tokens.specs.declared.tokens.Sign.TheVariants.{OpenParenSign, CloseParenSign, OpenBracketSign, CloseBracketSign, OpenBraceSign, CloseBraceSign, CommaSign, SemicolonSign, ColonSign, DotSign, ArrowSign, LeftArrowSign, StarSign, LessSign, PlusSign, MinusSign, BarSign, CaretSign, AmpersandSign, ShiftLeftSign, ShiftRightSign}
-use Rattle.raw_trees.specs.declared.place.Span.{Span}
-use Rattle.raw_trees.specs.declared.place.Binder.{Binder}
-use Rattle.raw_trees.specs.declared.place.Binder.TheVariants as binders
+use Rattle.htt_tokens.specs.declared.tokens.Sign.TheVariants.{OpenParenSign, CloseParenSign, OpenBracketSign, OpenBraceSign, CommaSign, LessSign}
 use Rattle.raw_trees.specs.declared.tree.SumSign.{SumSign}
 use Rattle.raw_trees.specs.declared.tree.SumSign.TheVariants as sum_signs
 use Rattle.raw_trees.specs.declared.tree.ProdSign.{ProdSign}
 use Rattle.raw_trees.specs.declared.tree.ProdSign.TheVariants as prod_signs
 use Rattle.raw_trees.specs.declared.tree.UnaryWord.TheVariants as unary_words
-use Rattle.raw_trees.specs.Trees.{MonoTree, TyTree, TripleTree, TermTree, ParamTrees, RelTree, SumTree, SumRestTree, ProdTree, ProdRestTree, ApplTree, PartTrees, AtomTree, CompTree, StepTree, TermTrees, y_fun, y_all, y_hoare, y_mono, triple_of, t_fun, t_fun_mono, t_do, t_fix, t_rel, no_params, more_params, r_sum, r_less, s_sum, s_end, s_more, x_prod, x_end, x_more, l_unary, l_apply, no_parts, atom_part, mono_part, a_name, a_number, a_true, a_false, a_null, a_place, a_eq, a_sel, a_unit, a_brackets, a_pair, a_annotated, c_ret, c_step, s_alloc, s_get, s_set, s_free, s_if, s_claim, s_run, no_terms, more_terms}
+use Rattle.raw_trees.specs.Trees.{TripleTree, TermTree, ParamTrees, RelTree, SumTree, SumRestTree, ProdTree, ProdRestTree, ApplTree, PartTrees, AtomTree, CompTree, StepTree, TermTrees, triple_of, t_fun, t_fun_mono, t_do, t_fix, t_rel, no_params, more_params, r_sum, r_less, s_sum, s_end, s_more, x_prod, x_end, x_more, l_unary, l_apply, no_parts, atom_part, mono_part, a_name, a_number, a_true, a_false, a_null, a_place, a_eq, a_sel, a_unit, a_brackets, a_pair, a_annotated, c_ret, c_step, s_alloc, s_get, s_set, s_free, s_if, s_claim, s_run, no_terms, more_terms}
 use Rattle.htt_grammar.specs.Marks.{Mark, Limits, ◌⨟◌, sign, numbered}
 use Rattle.htt_grammar.specs.Grammar
-use Rattle.htt_grammar.specs.Readers.{Reader, measured, give, ◌>>=◌, stop, either, if_first, that, same_kind, token, refuse}
-use Rattle.htt_grammar.specs.Beginnings.{begins_binder, begins_mono, begins_ty, begins_atom, begins_appl, begins_term, begins_comp, sum_sign_of, prod_sign_of, is_some, never, goes_on_mono, goes_on_list, goes_on_params, goes_on_appl, goes_on_prod, goes_on_sum, goes_on_rel}
-use Rattle.htt_grammar.specs.Phrases.{Deeper, a_binder, a_name_there, a_number_there, mono_at, bracketed, terms_on, terms_there, is_close, bracket_case, atom_case, atom_at, part_case, no_part_case, parts_on, unary_case, appl_at, on_prod_sign, prod_on, prod_at, on_sum_sign, sum_on, sum_at, rel_at, triple_at, params_on, term_case, term_at, starts_function, function_case, ty_case, ty_at, step_case, step_at, comp_on, comp_at}
+use Rattle.htt_grammar.specs.Readers.{Reader, measured, give, ◌>>=◌, either, that, same_kind, token}
+use Rattle.htt_grammar.specs.Beginnings.{begins_binder, begins_mono, begins_atom, begins_appl, begins_term, begins_comp, sum_sign_of, prod_sign_of, is_some, goes_on_list, goes_on_params, goes_on_appl, goes_on_prod, goes_on_sum, goes_on_rel}
+use Rattle.htt_grammar.specs.Phrases.{Deeper, terms_on, terms_there, is_close, atom_at, part_case, no_part_case, parts_on, unary_case, appl_at, on_prod_sign, prod_on, prod_at, on_sum_sign, sum_on, sum_at, rel_at, triple_at, params_on, term_case, term_at, ty_case, step_case, step_at, comp_on, comp_at}
 use Rattle.htt_grammar.proofs.Spells.{Spells, Stops, Leads, leads_of, leads_then, leads_numbered, leads_length, begins_of}
-use Rattle.htt_grammar.proofs.Gets.{Gets, giving, then, then_any, until, until_last, then_nothing, last, less_going, taken, taken_less, taken_at, taken_alone, passed, ended, first_yes, first_no, first_ended, closed_now, measuring, no_room, operand, past_last, stops_less, never_stops, then_less, or_left, or_right, regroup, nothing_first, nothing_after, that_not, skip, skip_last}
+use Rattle.htt_grammar.proofs.Gets.{Gets, giving, then, then_any, until, until_last, then_nothing, last, less_going, taken, taken_less, taken_at, taken_alone, passed, ended, first_yes, first_no, first_ended, closed_now, measuring, no_room, operand, past_last, stops_less, never_stops, then_less, or_left, or_right, that_not, skip, skip_last}
 use Rattle.htt_grammar.proofs.Opens.{opens_mono, opens_atom, opens_appl, opens_prod, opens_rel, opens_term, opens_comp, opens_binder}
 use Rattle.htt_grammar.proofs.Monotypes.{Knows, binder_gets, name_gets, number_gets, mono_gets, bracketed_gets, list_goes_on, leads_mark, stops_at}
 

@@ -6,3 +6,4 @@ pub mod Beginnings
 pub mod Phrases
 pub mod Reading
 pub mod Laws
+pub mod Examples

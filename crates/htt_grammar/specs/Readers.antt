@@ -1,6 +1,6 @@
 -- Reading from left to right: a reader takes a list of tokens and answers what it read and the
 -- tokens that follow, or why it stopped and the tokens from the refused one on.
-use Rattle.std.specs.Prelude.{◌≡◌, ℕ, zero, suc, List, [], ◌∷◌, length, Bool, true, false, Option, Some, None, Result, Ok, Err, if◌then◌else◌, ◌==◌, cond}
+use Rattle.std.specs.Prelude.{ℕ, zero, suc, List, [], ◌∷◌, length, Bool, true, false, Option, Some, None, Result, Ok, Err, if◌then◌else◌, ◌==◌, cond}
 use denote.Enum.Bare.{sameb}
 use Rattle.htt_tokens.specs.contracts.tokens.Keyword as keyword_enum
 use Rattle.htt_tokens.specs.contracts.tokens.Sign as sign_enum

@@ -1,15 +1,14 @@
 -- The readers of proofs and declarations, and the readers of all phrases at a level.
 use Rattle.std.specs.Prelude.{Bool, true, ℕ, zero, suc, List, [], ◌∷◌, Option, Some, None}
 use Rattle.htt_tokens.specs.declared.tokens.Kind.{Kind}
-use Rattle.htt_tokens.specs.declared.tokens.Kind.TheVariants.{Name, Number, Keyword, Sign}
-use Rattle.htt_tokens.specs.declared.tokens.Token.{Token}
+use Rattle.htt_tokens.specs.declared.tokens.Kind.TheVariants.{Name, Keyword, Sign}
 use Rattle.htt_tokens.specs.declared.tokens.Keyword.TheVariants.{TypeWord, PredWord, DefWord, ValWord, ProofWord, AutoWord, IntroWord, GenWord, HaveWord, OpenWord, BothWord, LeftWord, RightWord, GiveWord, TrivialWord, ReflWord, AbsurdWord, CaseWord, RewriteWord, InductWord, SplitWord, FirstWord, SecondWord, AppWord, InstWord, AxiomWord, LemWord, TheWord}
 use Rattle.htt_tokens.specs.declared.tokens.Sign.TheVariants.{OpenParenSign, CloseParenSign, OpenBracketSign, CloseBracketSign, OpenBraceSign, CloseBraceSign, CommaSign, SemicolonSign, ColonSign, DotSign, EqualSign, AtSign}
 use Rattle.raw_trees.specs.declared.place.Span.{Span}
 use Rattle.raw_trees.specs.declared.proof.UnaryRule.{UnaryRule}
 use Rattle.raw_trees.specs.declared.proof.UnaryRule.TheVariants as unary_rules
 use Rattle.raw_trees.specs.Trees.{TyTree, TermTree, ArgTree, arg_heap, arg_term, MotiveTree, motive_of, ProofTree, StmtTree, EndTree, ProofTrees, p_end, p_step, b_intro, b_gen, b_open, b_have, e_name, e_trivial, e_refl, e_unary, e_both, e_give, e_app, e_inst, e_case, e_rewrite, e_induct, e_split, e_axiom, e_unfold, e_lem, e_the, no_proofs, more_proofs, MonoParamTree, mono_param, BodyTree, body_auto, body_proof, DeclTree, decl_type, decl_pred, decl_induct, decl_def, decl_val, decl_proof}
-use Rattle.htt_grammar.specs.Readers.{Reader, expected, too_nested, too_long, too_many, give, ◌>>=◌, refuse, stop, either, if_first, measured, same_kind, that, token, after_commas}
+use Rattle.htt_grammar.specs.Readers.{Reader, too_nested, too_long, too_many, give, ◌>>=◌, refuse, stop, either, if_first, measured, that, token, after_commas}
 use Rattle.htt_grammar.specs.Beginnings.{begins_mono, begins_ty, begins_term, begins_comp, begins_fatom, begins_formula, begins_arg, begins_stmt, begins_proof, begins_decl}
 use Rattle.htt_grammar.specs.Phrases.{Deeper, a_binder, a_name_there, a_number_there, a_heap, mono_at, more_monos, is_close, ty_at, term_at, comp_at, formula_at, disj_at, conj_at, star_at}
 
@@ -105,32 +104,32 @@ proof_at d = measured (proof_on d)
 -- the phrases at a level, by those one level deeper
 abbrev pub at_level : Deeper → Deeper
 at_level d = record {
-    further = d.further;
-    ty = ty_at d;
-    term = term_at d;
-    comp = comp_at d;
-    formula = formula_at d;
-    disj = disj_at d;
-    conj = conj_at d;
-    star = star_at d;
-    mono = mono_at d;
-    proof = proof_at d;
-  }
+  further = d.further;
+  ty = ty_at d;
+  term = term_at d;
+  comp = comp_at d;
+  formula = formula_at d;
+  disj = disj_at d;
+  conj = conj_at d;
+  star = star_at d;
+  mono = mono_at d;
+  proof = proof_at d;
+}
 
 -- no phrase is read past the last level
 abbrev pub too_deep : ℕ → Deeper
 too_deep further = record {
-    further = further;
-    ty = refuse too_nested begins_ty;
-    term = refuse too_nested begins_term;
-    comp = refuse too_nested begins_comp;
-    formula = refuse too_nested begins_formula;
-    disj = refuse too_nested begins_fatom;
-    conj = refuse too_nested begins_fatom;
-    star = refuse too_nested begins_fatom;
-    mono = refuse too_nested begins_mono;
-    proof = refuse too_nested begins_proof;
-  }
+  further = further;
+  ty = refuse too_nested begins_ty;
+  term = refuse too_nested begins_term;
+  comp = refuse too_nested begins_comp;
+  formula = refuse too_nested begins_formula;
+  disj = refuse too_nested begins_fatom;
+  conj = refuse too_nested begins_fatom;
+  star = refuse too_nested begins_fatom;
+  mono = refuse too_nested begins_mono;
+  proof = refuse too_nested begins_proof;
+}
 
 -- the readers where so many levels are left
 unfoldable pub deeper : ℕ → ℕ → Deeper

@@ -3,6 +3,7 @@
 //! contract.
 #![tactic(auto)]
 
+ghost use Rattle.htt_grammar.specs.Examples.{Files, Formulas, Monotypes, Proofs, Terms};
 ghost use Rattle.htt_grammar.specs.Laws.{OneFile, OneFormula, OneMono, OneProof, OneTerm, OneType};
 
 /// A list of tokens derives at most one tree of each production.
@@ -13,4 +14,13 @@ pub fn tokens_derive_one_tree()
     ensures formulas { OneFormula }
     ensures proofs { OneProof }
     ensures files { OneFile }
+{}
+
+/// Worked examples of the grammar, whose tokens, levels and operands were found by hand.
+pub fn examples_of_the_grammar()
+    ensures monotypes { Monotypes }
+    ensures terms { Terms }
+    ensures formulas { Formulas }
+    ensures proofs { Proofs }
+    ensures files { Files }
 {}

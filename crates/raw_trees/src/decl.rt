@@ -10,9 +10,17 @@ use htt_seq::Seq;
 #[derive(Drop)]
 pub enum RawDecl {
     /// `type id = mono`
-    Type { name: Span, mono: RawMono },
+    Type {
+        name: Span,
+        mono: RawMono,
+    },
     /// `pred id [ ids ] ( params ) = formula`; without monotypes the square brackets are missing.
-    Pred { name: Span, monos: Seq<Span>, params: Seq<RawMonoParam>, body: RawFormula },
+    Pred {
+        name: Span,
+        monos: Seq<Span>,
+        params: Seq<RawMonoParam>,
+        body: RawFormula,
+    },
     /// `pred id induct b ( params ) = { formula } { formula }`
     Induct {
         name: Span,
@@ -22,11 +30,24 @@ pub enum RawDecl {
         next: RawFormula,
     },
     /// `def id : type = term`
-    Def { name: Span, ty: RawTy, term: RawTerm },
+    Def {
+        name: Span,
+        ty: RawTy,
+        term: RawTerm,
+    },
     /// `val id : type = term`
-    Val { name: Span, ty: RawTy, term: RawTerm },
+    Val {
+        name: Span,
+        ty: RawTy,
+        term: RawTerm,
+    },
     /// `proof id . num = body`
-    Proof { at: u64, name: Span, number: u64, body: ProofBody },
+    Proof {
+        at: u64,
+        name: Span,
+        number: u64,
+        body: ProofBody,
+    },
 }
 
 /// `id : mono`

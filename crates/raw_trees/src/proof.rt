@@ -19,13 +19,29 @@ pub struct RawProof {
 #[derive(Drop)]
 pub enum RawStmt {
     /// `intro id ;`
-    Intro { at: u64, name: Span },
+    Intro {
+        at: u64,
+        name: Span,
+    },
     /// `gen b ;`
-    Gen { at: u64, name: Binder },
+    Gen {
+        at: u64,
+        name: Binder,
+    },
     /// `open b id = proof ;`
-    Open { at: u64, name: Binder, hypothesis: Span, proof: RawProof },
+    Open {
+        at: u64,
+        name: Binder,
+        hypothesis: Span,
+        proof: RawProof,
+    },
     /// `have id : [ formula ] = proof ;`
-    Have { at: u64, hypothesis: Span, formula: RawFormula, proof: RawProof },
+    Have {
+        at: u64,
+        hypothesis: Span,
+        formula: RawFormula,
+        proof: RawProof,
+    },
 }
 
 /// The end of a proof.
@@ -33,18 +49,44 @@ pub enum RawStmt {
 #[derive(Drop)]
 pub enum RawEnd {
     Name(Span),
-    Trivial { at: u64 },
-    Refl { at: u64 },
+    Trivial {
+        at: u64,
+    },
+    Refl {
+        at: u64,
+    },
     /// A word and a proof in brackets.
-    Unary { at: u64, rule: UnaryRule, proof: Boxed<RawProof> },
+    Unary {
+        at: u64,
+        rule: UnaryRule,
+        proof: Boxed<RawProof>,
+    },
     /// `both ( proof , proof )`
-    Both { at: u64, left: Boxed<RawProof>, right: Boxed<RawProof> },
+    Both {
+        at: u64,
+        left: Boxed<RawProof>,
+        right: Boxed<RawProof>,
+    },
     /// `give ( arg , proof )`
-    Give { at: u64, argument: RawArg, proof: Boxed<RawProof> },
+    Give {
+        at: u64,
+        argument: RawArg,
+        proof: Boxed<RawProof>,
+    },
     /// `app ( proof , proof { , proof } )`
-    App { at: u64, head: Boxed<RawProof>, first: Boxed<RawProof>, rest: Seq<RawProof> },
+    App {
+        at: u64,
+        head: Boxed<RawProof>,
+        first: Boxed<RawProof>,
+        rest: Seq<RawProof>,
+    },
     /// `inst ( proof , arg { , arg } )`
-    Inst { at: u64, head: Boxed<RawProof>, first: RawArg, rest: Seq<RawArg> },
+    Inst {
+        at: u64,
+        head: Boxed<RawProof>,
+        first: RawArg,
+        rest: Seq<RawArg>,
+    },
     /// `case ( proof , id . proof , id . proof )`
     Case {
         at: u64,
@@ -55,7 +97,12 @@ pub enum RawEnd {
         right: Boxed<RawProof>,
     },
     /// `rewrite ( proof , motive , proof )`
-    Rewrite { at: u64, equation: Boxed<RawProof>, motive: RawMotive, proof: Boxed<RawProof> },
+    Rewrite {
+        at: u64,
+        equation: Boxed<RawProof>,
+        motive: RawMotive,
+        proof: Boxed<RawProof>,
+    },
     /// `induct ( motive , term , proof , b id id . proof )`
     Induct {
         at: u64,
@@ -68,15 +115,39 @@ pub enum RawEnd {
         next: Boxed<RawProof>,
     },
     /// `split ( motive , term , proof , proof )`
-    Split { at: u64, motive: RawMotive, term: RawTerm, yes: Boxed<RawProof>, no: Boxed<RawProof> },
+    Split {
+        at: u64,
+        motive: RawMotive,
+        term: RawTerm,
+        yes: Boxed<RawProof>,
+        no: Boxed<RawProof>,
+    },
     /// `axiom id [ monos ] ( args )`; without monotypes the square brackets are missing.
-    Axiom { at: u64, name: Span, monos: Seq<RawMono>, arguments: Seq<RawArg> },
+    Axiom {
+        at: u64,
+        name: Span,
+        monos: Seq<RawMono>,
+        arguments: Seq<RawArg>,
+    },
     /// `axiom id . num ( arg { , arg } )`
-    Unfold { at: u64, name: Span, number: u64, first: RawArg, rest: Seq<RawArg> },
+    Unfold {
+        at: u64,
+        name: Span,
+        number: u64,
+        first: RawArg,
+        rest: Seq<RawArg>,
+    },
     /// `lem [ formula ]`
-    Lem { at: u64, formula: RawFormula },
+    Lem {
+        at: u64,
+        formula: RawFormula,
+    },
     /// `the [ formula ] ( proof )`
-    The { at: u64, formula: RawFormula, proof: Boxed<RawProof> },
+    The {
+        at: u64,
+        formula: RawFormula,
+        proof: Boxed<RawProof>,
+    },
 }
 
 /// The word of an end that has one proof.

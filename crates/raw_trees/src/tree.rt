@@ -11,10 +11,22 @@ use sqlite_items::Boxed;
 #[derive(Drop)]
 pub enum RawTy {
     /// `( b : type ) -> type`
-    Fun { at: u64, parameter: Binder, argument: Boxed<RawTy>, answer: Boxed<RawTy> },
+    Fun {
+        at: u64,
+        parameter: Binder,
+        argument: Boxed<RawTy>,
+        answer: Boxed<RawTy>,
+    },
     /// `[ id ] -> type`
-    All { at: u64, parameter: Span, body: Boxed<RawTy> },
-    Hoare { at: u64, triple: Boxed<RawTriple> },
+    All {
+        at: u64,
+        parameter: Span,
+        body: Boxed<RawTy>,
+    },
+    Hoare {
+        at: u64,
+        triple: Boxed<RawTriple>,
+    },
     Mono(RawMono),
 }
 
@@ -33,13 +45,27 @@ pub struct RawTriple {
 #[derive(Drop)]
 pub enum RawTerm {
     /// `fun b . term`
-    Fun { at: u64, parameter: Binder, body: Boxed<RawTerm> },
+    Fun {
+        at: u64,
+        parameter: Binder,
+        body: Boxed<RawTerm>,
+    },
     /// `fun [ id ] . term`
-    FunMono { at: u64, parameter: Span, body: Boxed<RawTerm> },
+    FunMono {
+        at: u64,
+        parameter: Span,
+        body: Boxed<RawTerm>,
+    },
     /// `do comp`
-    Do { at: u64, body: Boxed<RawComp> },
+    Do {
+        at: u64,
+        body: Boxed<RawComp>,
+    },
     /// `fix id { ( b : type ) } : triple . comp`
-    Fix { at: u64, fix: Boxed<RawFix> },
+    Fix {
+        at: u64,
+        fix: Boxed<RawFix>,
+    },
     Rel(Boxed<RawRel>),
 }
 
@@ -123,8 +149,15 @@ pub enum ProdSign {
 #[cycle(raw)]
 #[derive(Drop)]
 pub enum RawAppl {
-    Unary { at: u64, word: UnaryWord, operand: RawAtom },
-    Apply { head: RawAtom, parts: Seq<RawPart> },
+    Unary {
+        at: u64,
+        word: UnaryWord,
+        operand: RawAtom,
+    },
+    Apply {
+        head: RawAtom,
+        parts: Seq<RawPart>,
+    },
 }
 
 /// A word that stands before an atom.
@@ -149,24 +182,60 @@ pub enum RawPart {
 #[derive(Drop)]
 pub enum RawAtom {
     Name(Span),
-    Number { at: u64, value: u64 },
-    True { at: u64 },
-    False { at: u64 },
-    Null { at: u64 },
+    Number {
+        at: u64,
+        value: u64,
+    },
+    True {
+        at: u64,
+    },
+    False {
+        at: u64,
+    },
+    Null {
+        at: u64,
+    },
     /// `place num`
-    Place { at: u64, value: u64 },
+    Place {
+        at: u64,
+        value: u64,
+    },
     /// `eq [ mono ] ( term , term )`
-    Eq { at: u64, mono: RawMono, left: Boxed<RawTerm>, right: Boxed<RawTerm> },
+    Eq {
+        at: u64,
+        mono: RawMono,
+        left: Boxed<RawTerm>,
+        right: Boxed<RawTerm>,
+    },
     /// `sel [ mono ] ( term , term , term )`
-    Sel { at: u64, mono: RawMono, test: Boxed<RawTerm>, yes: Boxed<RawTerm>, no: Boxed<RawTerm> },
+    Sel {
+        at: u64,
+        mono: RawMono,
+        test: Boxed<RawTerm>,
+        yes: Boxed<RawTerm>,
+        no: Boxed<RawTerm>,
+    },
     /// `( )`
-    Unit { at: u64 },
+    Unit {
+        at: u64,
+    },
     /// `( term )`
-    Brackets { at: u64, term: Boxed<RawTerm> },
+    Brackets {
+        at: u64,
+        term: Boxed<RawTerm>,
+    },
     /// `( term , term )`
-    Pair { at: u64, left: Boxed<RawTerm>, right: Boxed<RawTerm> },
+    Pair {
+        at: u64,
+        left: Boxed<RawTerm>,
+        right: Boxed<RawTerm>,
+    },
     /// `( term : type )`
-    Annotated { at: u64, term: Boxed<RawTerm>, ty: Boxed<RawTy> },
+    Annotated {
+        at: u64,
+        term: Boxed<RawTerm>,
+        ty: Boxed<RawTy>,
+    },
 }
 
 /// `{ b <- step ; } ret term`
@@ -189,14 +258,34 @@ pub struct RawBind {
 #[cycle(raw)]
 #[derive(Drop)]
 pub enum RawStep {
-    Alloc { mono: RawMono, value: RawAtom },
-    Get { mono: RawMono, place: RawAtom },
-    Set { mono: RawMono, place: RawAtom, value: RawAtom },
-    Free { mono: RawMono, place: RawAtom },
+    Alloc {
+        mono: RawMono,
+        value: RawAtom,
+    },
+    Get {
+        mono: RawMono,
+        place: RawAtom,
+    },
+    Set {
+        mono: RawMono,
+        place: RawAtom,
+        value: RawAtom,
+    },
+    Free {
+        mono: RawMono,
+        place: RawAtom,
+    },
     /// `if [ mono ] atom { comp } { comp }`
-    If { mono: RawMono, test: RawAtom, yes: RawComp, no: RawComp },
+    If {
+        mono: RawMono,
+        test: RawAtom,
+        yes: RawComp,
+        no: RawComp,
+    },
     /// `claim { formula }`
-    Claim { formula: RawFormula },
+    Claim {
+        formula: RawFormula,
+    },
     Run(RawAppl),
 }
 
@@ -204,8 +293,18 @@ pub enum RawStep {
 #[cycle(raw)]
 #[derive(Drop)]
 pub enum RawFormula {
-    All { at: u64, name: Binder, sort: RawSort, body: Boxed<RawFormula> },
-    Ex { at: u64, name: Binder, sort: RawSort, body: Boxed<RawFormula> },
+    All {
+        at: u64,
+        name: Binder,
+        sort: RawSort,
+        body: Boxed<RawFormula>,
+    },
+    Ex {
+        at: u64,
+        name: Binder,
+        sort: RawSort,
+        body: Boxed<RawFormula>,
+    },
     Disj(Boxed<RawDisj>),
     /// `disj => formula`
     Implies(Boxed<RawDisj>, Boxed<RawFormula>),
@@ -246,35 +345,98 @@ pub enum RawStar {
 #[cycle(raw)]
 #[derive(Drop)]
 pub enum RawFatom {
-    Tt { at: u64 },
-    Ff { at: u64 },
-    Emp { at: u64 },
+    Tt {
+        at: u64,
+    },
+    Ff {
+        at: u64,
+    },
+    Emp {
+        at: u64,
+    },
     /// `[ formula ]`
-    Brackets { at: u64, formula: Boxed<RawFormula> },
+    Brackets {
+        at: u64,
+        formula: Boxed<RawFormula>,
+    },
     /// `@ heap [ formula ]`
-    AtHeap { at: u64, heap: RawHeap, formula: Boxed<RawFormula> },
+    AtHeap {
+        at: u64,
+        heap: RawHeap,
+        formula: Boxed<RawFormula>,
+    },
     /// `Emp ( heap )`
-    EmpOf { at: u64, heap: RawHeap },
+    EmpOf {
+        at: u64,
+        heap: RawHeap,
+    },
     /// `Same ( heap , heap )`
-    Same { at: u64, left: RawHeap, right: RawHeap },
+    Same {
+        at: u64,
+        left: RawHeap,
+        right: RawHeap,
+    },
     /// `Join ( heap , heap , heap )`
-    Join { at: u64, whole: RawHeap, left: RawHeap, right: RawHeap },
+    Join {
+        at: u64,
+        whole: RawHeap,
+        left: RawHeap,
+        right: RawHeap,
+    },
     /// `Cell [ mono ] ( heap , term , term )`
-    Cell { at: u64, mono: RawMono, heap: RawHeap, place: Boxed<RawTerm>, value: Boxed<RawTerm> },
+    Cell {
+        at: u64,
+        mono: RawMono,
+        heap: RawHeap,
+        place: Boxed<RawTerm>,
+        value: Boxed<RawTerm>,
+    },
     /// `Block [ mono ] ( heap , term )`
-    Block { at: u64, mono: RawMono, heap: RawHeap, place: Boxed<RawTerm> },
+    Block {
+        at: u64,
+        mono: RawMono,
+        heap: RawHeap,
+        place: Boxed<RawTerm>,
+    },
     /// `! id [ monos ] ( terms )`; without monotypes the square brackets are missing.
-    Use { at: u64, name: Span, monos: Seq<RawMono>, arguments: Seq<RawTerm> },
+    Use {
+        at: u64,
+        name: Span,
+        monos: Seq<RawMono>,
+        arguments: Seq<RawTerm>,
+    },
     /// `! id ( term ; terms )`
-    UseAt { at: u64, name: Span, index: Boxed<RawTerm>, arguments: Seq<RawTerm> },
+    UseAt {
+        at: u64,
+        name: Span,
+        index: Boxed<RawTerm>,
+        arguments: Seq<RawTerm>,
+    },
     /// `! id @ heap ( term ; terms )`
-    UseAtHeap { at: u64, name: Span, heap: RawHeap, index: Boxed<RawTerm>, arguments: Seq<RawTerm> },
+    UseAtHeap {
+        at: u64,
+        name: Span,
+        heap: RawHeap,
+        index: Boxed<RawTerm>,
+        arguments: Seq<RawTerm>,
+    },
     /// `rel = [ mono ] rel`
-    Eq { left: Boxed<RawRel>, mono: RawMono, right: Boxed<RawRel> },
+    Eq {
+        left: Boxed<RawRel>,
+        mono: RawMono,
+        right: Boxed<RawRel>,
+    },
     /// `rel |-> [ mono ] rel`
-    PointsTo { place: Boxed<RawRel>, mono: RawMono, value: Boxed<RawRel> },
+    PointsTo {
+        place: Boxed<RawRel>,
+        mono: RawMono,
+        value: Boxed<RawRel>,
+    },
     /// `rel |-> [ mono ] _`
-    PointsToAny { place: Boxed<RawRel>, mono: RawMono },
+    PointsToAny {
+        place: Boxed<RawRel>,
+        mono: RawMono,
+    },
 }
 
 /// A heap: a name, or `init` or `mem` with the number of binders that it passes over, if it is
