@@ -1,0 +1,10 @@
+pub mod Spells
+pub mod Gets
+pub mod Opens
+pub mod Monotypes
+pub mod Terms
+pub mod Formulas
+pub mod Proofs
+pub mod Files
+pub mod One
+pub mod Examples

@@ -1,0 +1,315 @@
+-- The readers of types, terms, computations and formulas. Each takes the readers of the phrases one
+-- level deeper.
+use Rattle.std.specs.Prelude.{ℕ, zero, suc, List, [], ◌∷◌, Bool, false, ◌&&◌, Option, Some, None, cond}
+use Rattle.htt_tokens.specs.declared.tokens.Kind.{Kind}
+use Rattle.htt_tokens.specs.declared.tokens.Kind.TheVariants.{Name, Number, Keyword, Sign}
+use Rattle.htt_tokens.specs.declared.tokens.Token.{Token}
+use Rattle.htt_tokens.specs.declared.tokens.Keyword.TheVariants.{WordWord, BoolWord, LocWord, UnitWord, HeapWord, FunWord, DoWord, FixWord, RetWord, AllocWord, GetWord, SetWord, FreeWord, IfWord, ClaimWord, TrueWord, FalseWord, NullWord, PlaceWord, FstWord, SndWord, NotWord, EqWord, SelWord, EmpWord, TtWord, FfWord, AllWord, ExWord, CapitalEmpWord, CellWord, BlockWord, JoinWord, SameWord, InitWord, MemWord}
+use Rattle.htt_tokens.specs.declared.tokens.Sign.TheVariants.{OpenParenSign, CloseParenSign, OpenBracketSign, CloseBracketSign, OpenBraceSign, CloseBraceSign, CommaSign, SemicolonSign, ColonSign, DotSign, EqualSign, ImpliesSign, ArrowSign, LeftArrowSign, PointsToSign, UnderscoreSign, StarSign, CaretSign, LessSign, DoubleStarSign, AndSign, OrSign, AtSign, BangSign}
+use Rattle.raw_trees.specs.declared.place.Span.{Span}
+use Rattle.raw_trees.specs.declared.place.Binder.{Binder}
+use Rattle.raw_trees.specs.declared.place.Binder.TheVariants as binders
+use Rattle.raw_trees.specs.declared.mono.MonoName.{MonoName}
+use Rattle.raw_trees.specs.declared.mono.MonoName.TheVariants as mono_names
+use Rattle.raw_trees.specs.declared.tree.SumSign.{SumSign}
+use Rattle.raw_trees.specs.declared.tree.ProdSign.{ProdSign}
+use Rattle.raw_trees.specs.declared.tree.UnaryWord.TheVariants as unary_words
+use Rattle.raw_trees.specs.declared.tree.RawHeap.{RawHeap}
+use Rattle.raw_trees.specs.declared.tree.RawHeap.TheVariants as heaps
+use Rattle.raw_trees.specs.Trees.{FactorTree, MonoTree, m_name, m_brackets, m_factor, m_pair, TyTree, TripleTree, TermTree, ParamTrees, RelTree, SumTree, SumRestTree, ProdTree, ProdRestTree, ApplTree, PartTrees, AtomTree, CompTree, StepTree, FormulaTree, SortTree, DisjTree, ConjTree, StarTree, FatomTree, TermTrees, ProofTree, y_fun, y_all, y_hoare, y_mono, triple_of, t_fun, t_fun_mono, t_do, t_fix, t_rel, no_params, more_params, r_sum, r_less, s_sum, s_end, s_more, x_prod, x_end, x_more, l_unary, l_apply, no_parts, atom_part, mono_part, a_name, a_number, a_true, a_false, a_null, a_place, a_eq, a_sel, a_unit, a_brackets, a_pair, a_annotated, c_ret, c_step, s_alloc, s_get, s_set, s_free, s_if, s_claim, s_run, f_all, f_ex, f_disj, f_implies, over_mono, over_heap, d_conj, d_or, j_star, j_and, k_fatom, k_times, g_tt, g_ff, g_emp, g_brackets, g_at_heap, g_emp_of, g_same, g_join, g_cell, g_block, g_use, g_use_at, g_use_at_heap, g_eq, g_points, g_points_any, no_terms, more_terms}
+use Rattle.htt_grammar.specs.Readers.{Reader, too_long, give, ◌>>=◌, refuse, stop, either, first_is, if_first, measured, same_kind, that, token, after_commas}
+use Rattle.htt_grammar.specs.Beginnings.{begins_binder, begins_mono, begins_atom, begins_appl, sum_sign_of, prod_sign_of}
+
+-- how the phrases one level deeper are read, and how many operands a chain may have after the first
+pub record Deeper : Type 0 where
+  pub further : ℕ
+  pub ty : Reader TyTree
+  pub term : Reader TermTree
+  pub comp : Reader CompTree
+  pub formula : Reader FormulaTree
+  pub disj : Reader DisjTree
+  pub conj : Reader ConjTree
+  pub star : Reader StarTree
+  pub mono : Reader MonoTree
+  pub proof : Reader ProofTree
+
+-- ---- words and heaps
+
+abbrev pub binder_case : Kind → Option (Span → Reader Binder)
+binder_case Name = Some (λ s. give (binders.Name s))
+binder_case (Sign UnderscoreSign) = Some (λ s. give binders.Blank)
+binder_case _ = None
+
+unfoldable pub a_binder : Reader Binder
+a_binder = either binder_case stop
+
+abbrev pub name_case : Kind → Option (Span → Reader Span)
+name_case Name = Some (λ s. give s)
+name_case _ = None
+
+unfoldable pub a_name_there : Reader Span
+a_name_there = either name_case stop
+
+abbrev pub number_case : Kind → Option (Span → Reader ℕ)
+number_case (Number n) = Some (λ s. give n)
+number_case _ = None
+
+unfoldable pub a_number_there : Reader ℕ
+a_number_there = either number_case stop
+
+unfoldable pub over_there : Reader (Option ℕ)
+over_there = either (that (Sign CaretSign) (a_number_there >>= (λ n. give (Some n)))) (give None)
+
+abbrev pub heap_case : Kind → Option (Span → Reader RawHeap)
+heap_case Name = Some (λ s. give (heaps.Name s))
+heap_case (Keyword InitWord) = Some (λ s. over_there >>= (λ n. give (heaps.Init s.from n)))
+heap_case (Keyword MemWord) = Some (λ s. over_there >>= (λ n. give (heaps.Mem s.from n)))
+heap_case _ = None
+
+unfoldable pub a_heap : Reader RawHeap
+a_heap = either heap_case stop
+
+-- ---- monotypes
+
+-- what stands at the right of an operand
+unfoldable pub mono_right : Deeper → FactorTree → Reader MonoTree
+mono_right d f = either (that (Sign StarSign) (d.mono >>= (λ m. give (m_pair f m)))) (give (m_factor f))
+
+-- the brackets that are open, from the innermost, are closed one after the other
+unfoldable pub mono_closes : Deeper → List ℕ → MonoTree → Reader MonoTree
+mono_closes d [] m = give m
+mono_closes d (at ∷ opens) m = token (Sign CloseParenSign) >>= (λ _. mono_right d (m_brackets at m) >>= mono_closes d opens)
+
+abbrev pub mono_name_case : Kind → Option (Span → Reader MonoName)
+mono_name_case Name = Some (λ s. give (mono_names.Name s))
+mono_name_case (Keyword WordWord) = Some (λ s. give (mono_names.Word s.from))
+mono_name_case (Keyword BoolWord) = Some (λ s. give (mono_names.Bool s.from))
+mono_name_case (Keyword LocWord) = Some (λ s. give (mono_names.Loc s.from))
+mono_name_case (Keyword UnitWord) = Some (λ s. give (mono_names.Unit s.from))
+mono_name_case _ = None
+
+unfoldable pub mono_inside : Deeper → List ℕ → Reader MonoTree
+mono_inside d opens = either mono_name_case stop >>= (λ n. mono_right d (m_name n) >>= mono_closes d opens)
+
+-- opens brackets, at most as many as there are tokens
+abbrev pub mono_case : (List ℕ → Reader MonoTree) → List ℕ → Kind → Option (Span → Reader MonoTree)
+mono_case next opens (Sign OpenParenSign) = Some (λ s. next (s.from ∷ opens))
+mono_case next opens _ = None
+
+unfoldable pub mono_opens : Deeper → ℕ → List ℕ → Reader MonoTree
+mono_opens d zero opens = stop
+mono_opens d (suc n) opens = either (mono_case (mono_opens d n) opens) (mono_inside d opens)
+
+unfoldable pub mono_at : Deeper → Reader MonoTree
+mono_at d = measured (λ n. mono_opens d n [])
+
+unfoldable pub bracketed : Deeper → Reader MonoTree
+bracketed d = token (Sign OpenBracketSign) >>= (λ _. mono_at d >>= (λ m. token (Sign CloseBracketSign) >>= (λ _. give m)))
+
+unfoldable pub more_monos : Deeper → Reader (List MonoTree)
+more_monos d = measured (after_commas (Sign CommaSign) (mono_at d))
+
+-- ---- terms
+
+-- a comma and a term, and so on
+unfoldable pub terms_on : Deeper → ℕ → Reader TermTrees
+terms_on d zero = give no_terms
+terms_on d (suc n) = either (that (Sign CommaSign) (d.term >>= (λ m. terms_on d n >>= (λ ms. give (more_terms m ms))))) (give no_terms)
+
+abbrev pub is_close : Kind → Bool
+is_close k = same_kind k (Sign CloseParenSign)
+
+-- terms before a closing bracket
+unfoldable pub terms_there : Deeper → Reader TermTrees
+terms_there d = if_first is_close (give no_terms) (d.term >>= (λ m. measured (terms_on d) >>= (λ ms. give (more_terms m ms))))
+
+abbrev pub bracket_case : Deeper → ℕ → TermTree → Kind → Option (Span → Reader AtomTree)
+bracket_case d at m (Sign CloseParenSign) = Some (λ _. give (a_brackets at m))
+bracket_case d at m (Sign CommaSign) = Some (λ _. d.term >>= (λ n. token (Sign CloseParenSign) >>= (λ _. give (a_pair at m n))))
+bracket_case d at m (Sign ColonSign) = Some (λ _. d.ty >>= (λ a. token (Sign CloseParenSign) >>= (λ _. give (a_annotated at m a))))
+bracket_case d at m _ = None
+
+abbrev pub atom_case : Deeper → Kind → Option (Span → Reader AtomTree)
+atom_case d Name = Some (λ s. give (a_name s))
+atom_case d (Number n) = Some (λ s. give (a_number s.from n))
+atom_case d (Keyword TrueWord) = Some (λ s. give (a_true s.from))
+atom_case d (Keyword FalseWord) = Some (λ s. give (a_false s.from))
+atom_case d (Keyword NullWord) = Some (λ s. give (a_null s.from))
+atom_case d (Keyword PlaceWord) = Some (λ s. a_number_there >>= (λ n. give (a_place s.from n)))
+atom_case d (Keyword EqWord) = Some (λ s. bracketed d >>= (λ t. token (Sign OpenParenSign) >>= (λ _. d.term >>= (λ m. token (Sign CommaSign) >>= (λ _. d.term >>= (λ n. token (Sign CloseParenSign) >>= (λ _. give (a_eq s.from t m n))))))))
+atom_case d (Keyword SelWord) = Some (λ s. bracketed d >>= (λ t. token (Sign OpenParenSign) >>= (λ _. d.term >>= (λ b. token (Sign CommaSign) >>= (λ _. d.term >>= (λ m. token (Sign CommaSign) >>= (λ _. d.term >>= (λ n. token (Sign CloseParenSign) >>= (λ _. give (a_sel s.from t b m n))))))))))
+atom_case d (Sign OpenParenSign) = Some (λ s. either (that (Sign CloseParenSign) (give (a_unit s.from))) (d.term >>= (λ m. either (bracket_case d s.from m) stop)))
+atom_case d _ = None
+
+unfoldable pub atom_at : Deeper → Reader AtomTree
+atom_at d = either (atom_case d) stop
+
+abbrev pub part_case : Deeper → Reader PartTrees → Kind → Option (Span → Reader PartTrees)
+part_case d next (Sign OpenBracketSign) = Some (λ _. mono_at d >>= (λ m. token (Sign CloseBracketSign) >>= (λ _. next >>= (λ ps. give (mono_part m ps)))))
+part_case d next _ = None
+
+abbrev pub no_part_case : Kind → Option (Span → Reader PartTrees)
+no_part_case (Sign OpenBracketSign) = Some (λ _. refuse too_long begins_mono)
+no_part_case _ = None
+
+-- the further parts of an application, at most so many
+unfoldable pub parts_on : Deeper → ℕ → Reader PartTrees
+parts_on d zero = either no_part_case (if_first begins_atom (refuse too_long begins_atom) (give no_parts))
+parts_on d (suc n) = either (part_case d (parts_on d n)) (if_first begins_atom (atom_at d >>= (λ a. parts_on d n >>= (λ ps. give (atom_part a ps)))) (give no_parts))
+
+abbrev pub unary_case : Deeper → Kind → Option (Span → Reader ApplTree)
+unary_case d (Keyword FstWord) = Some (λ s. atom_at d >>= (λ a. give (l_unary s.from unary_words.Fst a)))
+unary_case d (Keyword SndWord) = Some (λ s. atom_at d >>= (λ a. give (l_unary s.from unary_words.Snd a)))
+unary_case d (Keyword NotWord) = Some (λ s. atom_at d >>= (λ a. give (l_unary s.from unary_words.Not a)))
+unary_case d _ = None
+
+unfoldable pub appl_at : Deeper → Reader ApplTree
+appl_at d = either (unary_case d) (atom_at d >>= (λ a. parts_on d d.further >>= (λ ps. give (l_apply a ps))))
+
+abbrev pub on_prod_sign : (ProdSign → Reader ProdRestTree) → Option ProdSign → Option (Span → Reader ProdRestTree)
+on_prod_sign next None = None
+on_prod_sign next (Some s) = Some (λ _. next s)
+
+unfoldable pub prod_on : Deeper → ℕ → Reader ProdRestTree
+prod_on d zero = either (λ k. on_prod_sign (λ s. refuse too_long begins_appl) (prod_sign_of k)) (give x_end)
+prod_on d (suc n) = either (λ k. on_prod_sign (λ s. appl_at d >>= (λ a. prod_on d n >>= (λ rest. give (x_more s a rest)))) (prod_sign_of k)) (give x_end)
+
+unfoldable pub prod_at : Deeper → Reader ProdTree
+prod_at d = appl_at d >>= (λ a. prod_on d d.further >>= (λ rest. give (x_prod a rest)))
+
+abbrev pub on_sum_sign : (SumSign → Reader SumRestTree) → Option SumSign → Option (Span → Reader SumRestTree)
+on_sum_sign next None = None
+on_sum_sign next (Some s) = Some (λ _. next s)
+
+unfoldable pub sum_on : Deeper → ℕ → Reader SumRestTree
+sum_on d zero = either (λ k. on_sum_sign (λ s. refuse too_long begins_appl) (sum_sign_of k)) (give s_end)
+sum_on d (suc n) = either (λ k. on_sum_sign (λ s. prod_at d >>= (λ p. sum_on d n >>= (λ rest. give (s_more s p rest)))) (sum_sign_of k)) (give s_end)
+
+unfoldable pub sum_at : Deeper → Reader SumTree
+sum_at d = prod_at d >>= (λ p. sum_on d d.further >>= (λ rest. give (s_sum p rest)))
+
+unfoldable pub rel_at : Deeper → Reader RelTree
+rel_at d = sum_at d >>= (λ s. either (that (Sign LessSign) (sum_at d >>= (λ r. give (r_less s r)))) (give (r_sum s)))
+
+-- what follows the first brace of a triple
+unfoldable pub triple_at : Deeper → Reader TripleTree
+triple_at d = d.formula >>= (λ p. token (Sign CloseBraceSign) >>= (λ _. a_binder >>= (λ b. token (Sign ColonSign) >>= (λ _. mono_at d >>= (λ m. token (Sign OpenBraceSign) >>= (λ _. d.formula >>= (λ q. token (Sign CloseBraceSign) >>= (λ _. give (triple_of p b m q)))))))))
+
+unfoldable pub params_on : Deeper → ℕ → Reader ParamTrees
+params_on d zero = give no_params
+params_on d (suc n) = either (that (Sign OpenParenSign) (a_binder >>= (λ b. token (Sign ColonSign) >>= (λ _. d.ty >>= (λ a. token (Sign CloseParenSign) >>= (λ _. params_on d n >>= (λ ps. give (more_params b a ps)))))))) (give no_params)
+
+abbrev pub term_case : Deeper → Kind → Option (Span → Reader TermTree)
+term_case d (Keyword FunWord) = Some (λ s. either (that (Sign OpenBracketSign) (a_name_there >>= (λ a. token (Sign CloseBracketSign) >>= (λ _. token (Sign DotSign) >>= (λ _. d.term >>= (λ m. give (t_fun_mono s.from a m))))))) (a_binder >>= (λ b. token (Sign DotSign) >>= (λ _. d.term >>= (λ m. give (t_fun s.from b m))))))
+term_case d (Keyword DoWord) = Some (λ s. d.comp >>= (λ e. give (t_do s.from e)))
+term_case d (Keyword FixWord) = Some (λ s. a_name_there >>= (λ f. measured (params_on d) >>= (λ ps. token (Sign ColonSign) >>= (λ _. token (Sign OpenBraceSign) >>= (λ _. triple_at d >>= (λ t. token (Sign DotSign) >>= (λ _. d.comp >>= (λ e. give (t_fix s.from f ps t e)))))))))
+term_case d _ = None
+
+unfoldable pub term_at : Deeper → Reader TermTree
+term_at d = either (term_case d) (rel_at d >>= (λ r. give (t_rel r)))
+
+-- ---- types
+
+-- a type that begins with `(`, a name or `_`, and `:` is that of a function
+abbrev pub is_colon : Kind → Bool
+is_colon k = same_kind k (Sign ColonSign)
+
+abbrev pub binder_and_colon : List Token → Bool
+binder_and_colon [] = false
+binder_and_colon (b ∷ tokens) = begins_binder b.kind && first_is is_colon tokens
+
+abbrev pub starts_function : List Token → Bool
+starts_function [] = false
+starts_function (a ∷ tokens) = same_kind a.kind (Sign OpenParenSign) && binder_and_colon tokens
+
+abbrev pub function_case : Deeper → Kind → Option (Span → Reader TyTree)
+function_case d (Sign OpenParenSign) = Some (λ s. a_binder >>= (λ b. token (Sign ColonSign) >>= (λ _. d.ty >>= (λ a. token (Sign CloseParenSign) >>= (λ _. token (Sign ArrowSign) >>= (λ _. d.ty >>= (λ c. give (y_fun s.from b a c))))))))
+function_case d _ = None
+
+abbrev pub ty_case : Deeper → Kind → Option (Span → Reader TyTree)
+ty_case d (Sign OpenBracketSign) = Some (λ s. a_name_there >>= (λ a. token (Sign CloseBracketSign) >>= (λ _. token (Sign ArrowSign) >>= (λ _. d.ty >>= (λ c. give (y_all s.from a c))))))
+ty_case d (Sign OpenBraceSign) = Some (λ s. triple_at d >>= (λ t. give (y_hoare s.from t)))
+ty_case d _ = None
+
+unfoldable pub ty_at : Deeper → Reader TyTree
+ty_at d tokens = cond (starts_function tokens) (either (function_case d) stop tokens) (either (ty_case d) (mono_at d >>= (λ m. give (y_mono m))) tokens)
+
+-- ---- computations
+
+abbrev pub step_case : Deeper → Kind → Option (Span → Reader StepTree)
+step_case d (Keyword AllocWord) = Some (λ _. bracketed d >>= (λ t. atom_at d >>= (λ a. give (s_alloc t a))))
+step_case d (Keyword GetWord) = Some (λ _. bracketed d >>= (λ t. atom_at d >>= (λ a. give (s_get t a))))
+step_case d (Keyword SetWord) = Some (λ _. bracketed d >>= (λ t. atom_at d >>= (λ a. atom_at d >>= (λ b. give (s_set t a b)))))
+step_case d (Keyword FreeWord) = Some (λ _. bracketed d >>= (λ t. atom_at d >>= (λ a. give (s_free t a))))
+step_case d (Keyword IfWord) = Some (λ _. bracketed d >>= (λ t. atom_at d >>= (λ a. token (Sign OpenBraceSign) >>= (λ _. d.comp >>= (λ e. token (Sign CloseBraceSign) >>= (λ _. token (Sign OpenBraceSign) >>= (λ _. d.comp >>= (λ f. token (Sign CloseBraceSign) >>= (λ _. give (s_if t a e f))))))))))
+step_case d (Keyword ClaimWord) = Some (λ _. token (Sign OpenBraceSign) >>= (λ _. d.formula >>= (λ p. token (Sign CloseBraceSign) >>= (λ _. give (s_claim p)))))
+step_case d _ = None
+
+unfoldable pub step_at : Deeper → Reader StepTree
+step_at d = either (step_case d) (appl_at d >>= (λ a. give (s_run a)))
+
+unfoldable pub comp_on : Deeper → ℕ → Reader CompTree
+comp_on d zero = stop
+comp_on d (suc n) = either (that (Keyword RetWord) (d.term >>= (λ m. give (c_ret m)))) (a_binder >>= (λ b. token (Sign LeftArrowSign) >>= (λ _. step_at d >>= (λ s. token (Sign SemicolonSign) >>= (λ _. comp_on d n >>= (λ e. give (c_step b s e)))))))
+
+unfoldable pub comp_at : Deeper → Reader CompTree
+comp_at d = measured (comp_on d)
+
+-- ---- formulas
+
+unfoldable pub sort_at : Deeper → Reader SortTree
+sort_at d = either (that (Keyword HeapWord) (give over_heap)) (mono_at d >>= (λ m. give (over_mono m)))
+
+unfoldable pub quantified : Deeper → (Binder → SortTree → FormulaTree → FormulaTree) → Reader FormulaTree
+quantified d make = a_binder >>= (λ b. token (Sign ColonSign) >>= (λ _. sort_at d >>= (λ s. token (Sign DotSign) >>= (λ _. d.formula >>= (λ p. give (make b s p))))))
+
+abbrev pub argument_case : Deeper → ℕ → Span → TermTree → Kind → Option (Span → Reader FatomTree)
+argument_case d at p m (Sign SemicolonSign) = Some (λ _. terms_there d >>= (λ ms. token (Sign CloseParenSign) >>= (λ _. give (g_use_at at p m ms))))
+argument_case d at p m (Sign CommaSign) = Some (λ _. d.term >>= (λ n. measured (terms_on d) >>= (λ ms. token (Sign CloseParenSign) >>= (λ _. give (g_use at p [] (more_terms m (more_terms n ms)))))))
+argument_case d at p m (Sign CloseParenSign) = Some (λ _. give (g_use at p [] (more_terms m no_terms)))
+argument_case d at p m _ = None
+
+abbrev pub use_case : Deeper → ℕ → Span → Kind → Option (Span → Reader FatomTree)
+use_case d at p (Sign OpenBracketSign) = Some (λ _. mono_at d >>= (λ t. more_monos d >>= (λ ts. token (Sign CloseBracketSign) >>= (λ _. token (Sign OpenParenSign) >>= (λ _. terms_there d >>= (λ ms. token (Sign CloseParenSign) >>= (λ _. give (g_use at p (t ∷ ts) ms))))))))
+use_case d at p (Sign AtSign) = Some (λ _. a_heap >>= (λ h. token (Sign OpenParenSign) >>= (λ _. d.term >>= (λ m. token (Sign SemicolonSign) >>= (λ _. terms_there d >>= (λ ms. token (Sign CloseParenSign) >>= (λ _. give (g_use_at_heap at p h m ms))))))))
+use_case d at p (Sign OpenParenSign) = Some (λ _. either (that (Sign CloseParenSign) (give (g_use at p [] no_terms))) (d.term >>= (λ m. either (argument_case d at p m) stop)))
+use_case d at p _ = None
+
+abbrev pub fatom_case : Deeper → Kind → Option (Span → Reader FatomTree)
+fatom_case d (Keyword TtWord) = Some (λ s. give (g_tt s.from))
+fatom_case d (Keyword FfWord) = Some (λ s. give (g_ff s.from))
+fatom_case d (Keyword EmpWord) = Some (λ s. give (g_emp s.from))
+fatom_case d (Keyword CapitalEmpWord) = Some (λ s. token (Sign OpenParenSign) >>= (λ _. a_heap >>= (λ h. token (Sign CloseParenSign) >>= (λ _. give (g_emp_of s.from h)))))
+fatom_case d (Keyword SameWord) = Some (λ s. token (Sign OpenParenSign) >>= (λ _. a_heap >>= (λ h. token (Sign CommaSign) >>= (λ _. a_heap >>= (λ k. token (Sign CloseParenSign) >>= (λ _. give (g_same s.from h k)))))))
+fatom_case d (Keyword JoinWord) = Some (λ s. token (Sign OpenParenSign) >>= (λ _. a_heap >>= (λ h. token (Sign CommaSign) >>= (λ _. a_heap >>= (λ j. token (Sign CommaSign) >>= (λ _. a_heap >>= (λ k. token (Sign CloseParenSign) >>= (λ _. give (g_join s.from h j k)))))))))
+fatom_case d (Keyword CellWord) = Some (λ s. bracketed d >>= (λ t. token (Sign OpenParenSign) >>= (λ _. a_heap >>= (λ h. token (Sign CommaSign) >>= (λ _. d.term >>= (λ m. token (Sign CommaSign) >>= (λ _. d.term >>= (λ n. token (Sign CloseParenSign) >>= (λ _. give (g_cell s.from t h m n))))))))))
+fatom_case d (Keyword BlockWord) = Some (λ s. bracketed d >>= (λ t. token (Sign OpenParenSign) >>= (λ _. a_heap >>= (λ h. token (Sign CommaSign) >>= (λ _. d.term >>= (λ m. token (Sign CloseParenSign) >>= (λ _. give (g_block s.from t h m))))))))
+fatom_case d (Sign OpenBracketSign) = Some (λ s. d.formula >>= (λ p. token (Sign CloseBracketSign) >>= (λ _. give (g_brackets s.from p))))
+fatom_case d (Sign AtSign) = Some (λ s. a_heap >>= (λ h. token (Sign OpenBracketSign) >>= (λ _. d.formula >>= (λ p. token (Sign CloseBracketSign) >>= (λ _. give (g_at_heap s.from h p))))))
+fatom_case d (Sign BangSign) = Some (λ s. a_name_there >>= (λ p. either (use_case d s.from p) stop))
+fatom_case d _ = None
+
+abbrev pub relation_case : Deeper → RelTree → Kind → Option (Span → Reader FatomTree)
+relation_case d m (Sign EqualSign) = Some (λ _. bracketed d >>= (λ t. rel_at d >>= (λ n. give (g_eq m t n))))
+relation_case d m (Sign PointsToSign) = Some (λ _. bracketed d >>= (λ t. either (that (Sign UnderscoreSign) (give (g_points_any m t))) (rel_at d >>= (λ n. give (g_points m t n)))))
+relation_case d m _ = None
+
+unfoldable pub fatom_at : Deeper → Reader FatomTree
+fatom_at d = either (fatom_case d) (rel_at d >>= (λ m. either (relation_case d m) stop))
+
+unfoldable pub star_at : Deeper → Reader StarTree
+star_at d = fatom_at d >>= (λ f. either (that (Sign DoubleStarSign) (d.star >>= (λ s. give (k_times f s)))) (give (k_fatom f)))
+
+unfoldable pub conj_at : Deeper → Reader ConjTree
+conj_at d = star_at d >>= (λ s. either (that (Sign AndSign) (d.conj >>= (λ c. give (j_and s c)))) (give (j_star s)))
+
+unfoldable pub disj_at : Deeper → Reader DisjTree
+disj_at d = conj_at d >>= (λ c. either (that (Sign OrSign) (d.disj >>= (λ e. give (d_or c e)))) (give (d_conj c)))
+
+abbrev pub quantifier_case : Deeper → Kind → Option (Span → Reader FormulaTree)
+quantifier_case d (Keyword AllWord) = Some (λ s. quantified d (f_all s.from))
+quantifier_case d (Keyword ExWord) = Some (λ s. quantified d (f_ex s.from))
+quantifier_case d _ = None
+
+unfoldable pub formula_at : Deeper → Reader FormulaTree
+formula_at d = either (quantifier_case d) (disj_at d >>= (λ e. either (that (Sign ImpliesSign) (d.formula >>= (λ p. give (f_implies e p)))) (give (f_disj e))))
