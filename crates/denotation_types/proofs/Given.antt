@@ -12,7 +12,8 @@ use Rattle.denotation.specs.Valuations.{Domain, Entry, den_mono, den_heap, den_t
 use Rattle.denotation.specs.Valued.{ContextValued}
 use Rattle.denotation.proofs.HeadsDenote.{valued_term, valued_other}
 use Rattle.denotation_renaming.proofs.Renamed.{agree_suc}
-use Rattle.denotation_types.specs.Types.{Means, ContextMeans, means_none, means_mono, means_heap, means_term, standings}
+use Rattle.denotation_types.specs.Types.{Means, ContextMeans, means_none, means_mono, means_heap, means_term}
+use Rattle.typing_canonical.specs.Environments.{standings}
 use Rattle.denotation_types.specs.Laws.{EntryMeans, ContextsGive}
 use Rattle.denotation_types.proofs.Reindexed.{means_renamed}
 

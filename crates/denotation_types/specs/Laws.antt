@@ -19,7 +19,8 @@ use Rattle.denotation.specs.Valued.{ContextValued}
 use Rattle.denotation_renaming.specs.Along.{AgreeAlong}
 use Rattle.denotation_renaming.specs.Laws.{MayFillIn}
 use Rattle.denotation_substitution.specs.Put.{MayPutIn}
-use Rattle.denotation_types.specs.Types.{Means, ContextMeans, standings}
+use Rattle.typing_canonical.specs.Environments.{standings}
+use Rattle.denotation_types.specs.Types.{Means, ContextMeans}
 
 -- A renamed type, and one in which a term or a monotype is put for a variable, means what the type
 -- means in the valuation that gives the variables so.

@@ -1,14 +1,13 @@
 -- What canonical types mean in a valuation: a denotation at the type's skeleton is of the type. A
 -- value is of its monotype; a function gives for each denotation of the argument's type one of the
 -- answer's type, where the argument is valued so; a computation meets its triple.
-use Rattle.std.specs.Prelude.{List, [], ◌∷◌}
+use Rattle.std.specs.Prelude.{[], ◌∷◌}
 use Rattle.htt_syntax.specs.Trees.{MonoTree, TyTree, y_mono, y_fun, y_all, y_hoare, y_at}
 use Rattle.htt_values.specs.Values.{HasType, IsClosed}
 use Rattle.htt_values.specs.Heaps.{Heap, IsHeap}
 use Rattle.htt_truth.specs.Truth.{Recs}
 use Rattle.canonical_trees.specs.Skeletons.{Skeleton, sk_o, sk_c, sk_arrow, sk_all, skeleton}
-use Rattle.canonical_trees.specs.Contexts.{Standing, as_mono, as_heap, as_term}
-use Rattle.htt_typing.specs.Contexts.{Context, EntryTree, en_mono, en_heap, en_term}
+use Rattle.htt_typing.specs.Contexts.{Context, en_mono, en_heap, en_term}
 use Rattle.denotation.specs.Valuations.{Domain, den_mono, den_heap, den_term, Valuation, mono_in, HeadEntries}
 use Rattle.denotation.specs.Satisfaction.{PreAt, PostAt, answer_mono}
 use Rattle.denotation_types.specs.Meeting.{Meets}
@@ -28,13 +27,3 @@ pub data ContextMeans (R : Recs) (e : HeadEntries) : Context → Valuation → T
   means_mono : {g : Context} {w : Valuation} {t : MonoTree} → IsClosed t → ContextMeans R e g w → ContextMeans R e (en_mono ∷ g) (den_mono t ∷ w)
   means_heap : {g : Context} {w : Valuation} {h : Heap} → IsHeap h → ContextMeans R e g w → ContextMeans R e (en_heap ∷ g) (den_heap h ∷ w)
   means_term : {g : Context} {w : Valuation} {ty : TyTree} {d : Domain (skeleton ty)} → Means R e w ty (skeleton ty) d → ContextMeans R e g w → ContextMeans R e (en_term ty ∷ g) (den_term (skeleton ty) d ∷ w)
-
--- The skeletons of a context.
-abbrev pub standing_of_entry : EntryTree → Standing
-standing_of_entry en_mono = as_mono
-standing_of_entry en_heap = as_heap
-standing_of_entry (en_term ty) = as_term (skeleton ty)
-
-abbrev pub standings : Context → List Standing
-standings [] = []
-standings (entry ∷ g) = standing_of_entry entry ∷ standings g
