@@ -4,3 +4,4 @@ pub mod Unfoldings
 pub mod Rules
 pub mod True
 pub mod WrongCase
+pub mod Examples

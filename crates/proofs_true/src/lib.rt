@@ -2,6 +2,7 @@
 //! each world in which its hypotheses are. A function without a body states a law by its contract.
 #![tactic(auto)]
 
+ghost use Rattle.proofs_true.specs.Examples.{SortsAreNeeded, WorkedExamples};
 ghost use Rattle.proofs_true.specs.Laws.{InferredIsTrue, InstancesAreTrue, ProvedIsTrue, UnfoldingsAreTrue};
 ghost use Rattle.proofs_true.specs.WrongCase.{BranchesNeedTheirOwn};
 
@@ -28,4 +29,14 @@ pub fn proved_is_true()
 /// With the hypothesis of the first branch in the second, a case distinction would prove what is false.
 pub fn branches_need_their_own()
     ensures law { BranchesNeedTheirOwn }
+{}
+
+/// A hypothesis that uses a variable against its sort may be true, and what is inferred from it false.
+pub fn sorts_are_needed()
+    ensures law { SortsAreNeeded }
+{}
+
+/// Formed environments, a first-order context, and truths by proofs, worked out by hand.
+pub fn examples_of_truths()
+    ensures examples { WorkedExamples }
 {}
