@@ -1,0 +1,4 @@
+pub mod HeapLemmas
+pub mod TableLemmas
+pub mod ListingLemmas
+pub mod BlockLemmas
