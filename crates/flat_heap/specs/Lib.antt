@@ -1,5 +1,6 @@
 pub mod Listing
 pub mod Places
-pub mod Table
-pub mod Blocks
 pub mod Laws
+pub mod Table
+pub mod Spans
+pub mod Blocks

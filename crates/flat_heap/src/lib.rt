@@ -5,6 +5,7 @@
 
 mod heap;
 mod laws;
+mod span;
 
 pub use heap::Heap;
 pub use laws::{blocks_are_heap, listing_laws};
