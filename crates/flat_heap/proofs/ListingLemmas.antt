@@ -92,9 +92,3 @@ module _ {X : Type 0} (block : X → Block) where
     is_listing = table_listed es h s;
     counted = e ∙ table_counted es;
   }
-
-pub listing_laws : ListingLaws
-listing_laws = record {
-  listings_agree = listings_agree;
-  sizes_agree = λ h m n i j. i.counted ∙ ap listing_size (listings_agree h i.blocks j.blocks i.is_listing j.is_listing) ∙ sym j.counted;
-}

@@ -199,3 +199,71 @@ fn len_of(span: Option<Span>) -> usize
         None => 0,
     }
 }
+
+#[cfg(test)]
+mod tests {
+    use super::*;
+    use std::test::Fail;
+
+    fn two_blocks(alloc: Global) -> Result<Heap, AllocError> {
+        let mut heap = Heap::new(alloc);
+        heap.put(9, vec![in alloc; 1, 2]?)?;
+        heap.put(5, vec![in alloc; 42]?)?;
+        Ok(heap)
+    }
+
+    #[test]
+    fn a_block_that_was_taken_is_gone(rt: HostRuntime) -> Result<(), Fail> {
+        let mut heap = two_blocks(rt.alloc())?;
+        let taken = heap.take(5)?.ok_or("a block stands there")?;
+        assert_eq!(rt; taken.as_slice(), [42].as_slice());
+        assert_eq!(rt; heap.get(5), None);
+        assert_eq!(rt; heap.get(9), Some([1, 2].as_slice()));
+        assert_eq!(rt; heap.remove(5), None);
+        assert_eq!(rt; heap.remove(9), Some(2));
+        Ok(())
+    }
+
+    #[test]
+    fn locations_are_met_in_order(rt: HostRuntime) -> Result<(), Fail> {
+        let heap = two_blocks(rt.alloc())?;
+        for (at, next) in [
+            (0, Some(5)),
+            (5, Some(9)),
+            (8, Some(9)),
+            (9, None),
+            (u64::MAX, None),
+        ] {
+            assert_eq!(rt; heap.above(at), next);
+        }
+        assert_eq!(rt; heap.greatest(), 9);
+        assert_eq!(rt; heap.size(), 5);
+        assert_eq!(rt; Heap::new(rt.alloc()).greatest(), 0);
+        Ok(())
+    }
+
+    #[test]
+    fn a_block_is_written_at_its_length_alone(rt: HostRuntime) -> Result<(), Fail> {
+        let mut heap = two_blocks(rt.alloc())?;
+        assert!(rt; !heap.write(9, &[7]));
+        assert!(rt; !heap.write(8, &[]));
+        assert!(rt; heap.write(9, &[7, 8]));
+        assert_eq!(rt; heap.get(9), Some([7, 8].as_slice()));
+        assert_eq!(rt; heap.get(5), Some([42].as_slice()));
+        Ok(())
+    }
+
+    #[test]
+    fn room_of_blocks_that_are_gone_is_used_again(rt: HostRuntime) -> Result<(), Fail> {
+        let alloc = rt.alloc();
+        let mut heap = two_blocks(alloc)?;
+        for round in 0..500u64 {
+            heap.put(1, vec![in alloc; round, round, round]?)?;
+            assert_eq!(rt; heap.remove(1), Some(3));
+            assert!(rt; heap.words.len() < 20);
+        }
+        assert_eq!(rt; heap.get(9), Some([1, 2].as_slice()));
+        assert_eq!(rt; heap.get(5), Some([42].as_slice()));
+        Ok(())
+    }
+}

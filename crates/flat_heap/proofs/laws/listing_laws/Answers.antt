@@ -1,4 +1,4 @@
-use Rattle.flat_heap.proofs.ListingLemmas.{listing_laws}
+use Rattle.flat_heap.proofs.ChangedListing.{listing_laws}
 use Rattle.flat_heap.proofs.laws.listing_laws.Goals as goal
 
 pub returns : goal.returns
