@@ -1,11 +1,11 @@
 -- The listing of a heap with a block more, another or less.
-use Rattle.std.proofs.Common.{◌≡◌, ℕ, ◌+◌, ◌<◌, ◌≤◌, Bool, true, false, cond, List, [], ◌∷◌, length, Option, Some, None, unwrap_or, option_map, nat_eq, nat_lt, refl, sym, ap, ◌∙◌, arith, ◌⊎◌, ⊎_elim, inl, inr}
-use Rattle.std.specs.Prelude.{sum_by, if◌then◌else◌}
+use Rattle.std.proofs.Common.{◌≡◌, ℕ, ◌+◌, ◌<◌, ◌≤◌, List, [], ◌∷◌, length, Option, Some, None, nat_eq, nat_lt, refl, sym, ap, ◌∙◌, arith, ⊎_elim}
+use Rattle.std.specs.Prelude.{if◌then◌else◌}
 use Rattle.std.proofs.lemmas.Bool.{cases_eq, cases_lt}
 use Rattle.std.proofs.lemmas.Bool.Decides.{nat_tests}
 use Rattle.std.proofs.lemmas.List.Sums.{sum_by-cons}
-use Rattle.htt_values.specs.Heaps.{Heap, Block, IsSame, empty_heap, with_place, with_block, without_block}
-use Rattle.flat_heap.specs.Listing.{heap_of_list, AscendsAbove, IsListing, listing_size, IsSize}
+use Rattle.htt_values.specs.Heaps.{Heap, Block, with_block, without_block}
+use Rattle.flat_heap.specs.Listing.{heap_of_list, AscendsAbove, listing_size, IsSize}
 use Rattle.flat_heap.specs.Laws.{ListingLaws}
 use Rattle.flat_heap.proofs.ListingLemmas.{listings_agree, none_up_to}
 

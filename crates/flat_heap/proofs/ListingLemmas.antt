@@ -12,7 +12,6 @@ use Rattle.std.specs.Map.{lookup, keys_of, values_of}
 use Rattle.std.specs.BTreeMap.{is_at}
 use Rattle.htt_values.specs.Heaps.{Heap, Block, IsHeap}
 use Rattle.flat_heap.specs.Listing.{heap_of_list, AscendsAbove, IsListing, listing_size, IsSize}
-use Rattle.flat_heap.specs.Laws.{ListingLaws}
 use Rattle.flat_heap.specs.Table.{table_heap, table_listing}
 use Rattle.flat_heap.proofs.TableLemmas.{equal_keys, option_map-cond}
 

@@ -1,12 +1,12 @@
 -- What stays of the blocks when words are appended, written or left, and spans put or removed.
-use Rattle.std.proofs.Common.{◌≡◌, ℕ, ◌+◌, ◌-◌, ◌<◌, ◌≤◌, Bool, true, false, cond, List, [], ◌∷◌, ◌++◌, length, take, drop, get_or, Option, Some, None, option_map, nat_eq, refl, sym, ap, ◌∙◌, subst, arith, rules, ◌⊎◌, ⊎_elim, inl, inr}
+use Rattle.std.proofs.Common.{◌≡◌, ℕ, ◌+◌, ◌≤◌, cond, List, ◌++◌, length, drop, Option, Some, None, option_map, refl, sym, ap, ◌∙◌, arith, ◌⊎◌, ⊎_elim, inl, inr}
 use Rattle.std.proofs.lemmas.Bool.{cases_eq}
 use Rattle.std.proofs.lemmas.Bool.Decides.{nat_tests}
-use Rattle.std.proofs.lemmas.List.{same_lists, take-append-le, drop-append-le, length-take, length-drop, length-append, get_or-take, get_or-drop}
+use Rattle.std.proofs.lemmas.List.{take-append-le, drop-append-le, length-drop}
 use Rattle.std.proofs.Math.Seq.{drop-append_seam, take-length}
 use Rattle.std.specs.Ordering.{nat_cmp}
 use Rattle.std.specs.BTreeMap.{is_at}
-use Rattle.htt_values.specs.Heaps.{Heap, Block, with_block, without_block}
+use Rattle.htt_values.specs.Heaps.{Heap, with_block}
 use Rattle.flat_heap.specs.declared.span.Span.{Span}
 use Rattle.flat_heap.specs.Spans.{span_words, span_at, flat_blocks, InSpan, AreLaidOut}
 use Rattle.flat_heap.proofs.TableLemmas.{equal_keys_back, updated_table}

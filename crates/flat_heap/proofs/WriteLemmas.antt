@@ -1,11 +1,11 @@
 -- A write over the words of a span changes that block alone.
-use Rattle.std.proofs.Common.{◌≡◌, ℕ, ◌+◌, ◌-◌, ◌<◌, ◌≤◌, List, ◌++◌, length, take, drop, get_or, Option, Some, None, option_map, nat_eq, refl, sym, ap, ◌∙◌, subst, arith, rules, ◌⊎◌, ⊎_elim}
+use Rattle.std.proofs.Common.{◌≡◌, ℕ, ◌+◌, ◌-◌, ◌<◌, ◌≤◌, List, ◌++◌, length, take, drop, get_or, Option, Some, None, option_map, refl, sym, ap, ◌∙◌, arith, rules, ⊎_elim}
 use Rattle.std.proofs.lemmas.Bool.{cases_eq}
 use Rattle.std.proofs.lemmas.Bool.Decides.{nat_tests}
 use Rattle.std.proofs.lemmas.List.{same_lists, places, length-take, length-drop, get_or-take, get_or-drop}
 use Rattle.std.proofs.lemmas.Slice.{between-put_mid}
 use Rattle.std.proofs.Math.Seq.{take-append_seam}
-use Rattle.htt_values.specs.Heaps.{Heap, Block, with_block}
+use Rattle.htt_values.specs.Heaps.{with_block}
 use Rattle.flat_heap.specs.declared.span.Span.{Span}
 use Rattle.flat_heap.specs.Spans.{span_words, with_span_words, span_at, flat_blocks, InSpan, AreLaidOut}
 

@@ -245,10 +245,15 @@ mod tests {
     #[test]
     fn a_block_is_written_at_its_length_alone(rt: HostRuntime) -> Result<(), Fail> {
         let mut heap = two_blocks(rt.alloc())?;
-        assert!(rt; !heap.write(9, &[7]));
-        assert!(rt; !heap.write(8, &[]));
-        assert!(rt; heap.write(9, &[7, 8]));
-        assert_eq!(rt; heap.get(9), Some([7, 8].as_slice()));
+        for (at, words, stands) in [
+            (9, [7].as_slice(), false),
+            (8, [].as_slice(), false),
+            (9, [7, 8].as_slice(), true),
+        ] {
+            assert_eq!(rt; heap.write(at, words), stands);
+        }
+        let block = heap.get(9).ok_or("a block stands there")?;
+        assert_eq!(rt; block, [7, 8].as_slice());
         assert_eq!(rt; heap.get(5), Some([42].as_slice()));
         Ok(())
     }

@@ -1,14 +1,11 @@
-use Rattle.std.proofs.Common.{rules, arith, ◌≡◌, ◌+◌, ◌<◌, ◌++◌, ℕ, List, Some, None, length, refl, sym, ap, ◌∙◌, subst, unwrap_or, option_map, length-append}
-use Rattle.std.specs.Prelude.{All, sum_by}
+use Rattle.std.proofs.Common.{arith, ◌≡◌, ◌++◌, length, refl, sym, ap, subst, unwrap_or, option_map, length-append}
 use Rattle.std.specs.Cmp.{nat_cmp_total}
-use Rattle.std.specs.Ordering.{nat_cmp}
-use Rattle.std.specs.BTreeMap.{is_at}
 use Rattle.std.proofs.lemmas.List.Elements.{All-from_get_or}
 use Rattle.std.proofs.lemmas.Map.Entries.{sum_by-insert_entry}
 use Rattle.htt_values.specs.Values.{IsWord}
-use Rattle.htt_values.specs.Heaps.{Heap, IsHeap, with_block}
+use Rattle.htt_values.specs.Heaps.{Heap, IsHeap}
 use Rattle.flat_heap.specs.declared.span.Span.{Span}
-use Rattle.flat_heap.specs.Spans.{flat_blocks, AreLaidOut, span_at}
+use Rattle.flat_heap.specs.Spans.{span_at}
 use Rattle.flat_heap.specs.Blocks.{blocks_of}
 use Rattle.flat_heap.proofs.HeapLemmas.{with_block_is_heap}
 use Rattle.flat_heap.proofs.SpanLemmas.{laid_out_with, block_appended}

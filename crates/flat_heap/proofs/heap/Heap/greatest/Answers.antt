@@ -1,4 +1,3 @@
-use Rattle.std.proofs.Common.{◌≡◌, ◌+◌, ◌≤◌, ℕ, arith, refl}
 use Rattle.flat_heap.specs.Blocks.{blocks_of}
 use Rattle.flat_heap.specs.Spans.{span_words}
 use Rattle.flat_heap.proofs.TableLemmas.{greatest_of, not_less}

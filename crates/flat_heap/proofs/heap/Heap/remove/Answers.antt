@@ -1,4 +1,4 @@
-use Rattle.std.proofs.Common.{arith, ◌≡◌, ◌+◌, Some, None, length, sym, ap, subst, unwrap_or, option_map}
+use Rattle.std.proofs.Common.{arith, ◌≡◌, Some, None, length, sym, ap, subst, unwrap_or, option_map}
 use Rattle.std.specs.Ordering.{nat_cmp}
 use Rattle.std.specs.BTreeMap.{is_at}
 use Rattle.std.proofs.lemmas.Map.Entries.{sum_by-remove_entry}

@@ -1,4 +1,4 @@
-use Rattle.std.proofs.Common.{◌≡◌, arith}
+use Rattle.std.proofs.Common.{arith}
 use Rattle.flat_heap.specs.Blocks.{blocks_of}
 use Rattle.flat_heap.proofs.SizeLemmas.{flat_sized}
 use Rattle.flat_heap.proofs.heap.Heap.size.Goals as goal

@@ -1,11 +1,11 @@
-use Rattle.std.proofs.Common.{arith, rules, ◌≡◌, ◌+◌, ◌<◌, ◌≤◌, ℕ, Some, length, map, sym, ap, ◌∙◌, option_map, Fits, w64}
+use Rattle.std.proofs.Common.{rules, ◌≡◌, ap, ◌∙◌, option_map}
 use Rattle.std.specs.Cmp.{nat_cmp_total}
 use Rattle.std.specs.Ordering.{nat_cmp}
 use Rattle.std.specs.BTreeMap.{IsOrdered}
 use Rattle.std.specs.Map.Iter.{deref_pair}
 use Rattle.std.proofs.lemmas.Map.Iter.{btree_map_turn, iter_end}
 use Rattle.flat_heap.specs.Blocks.{blocks_of}
-use Rattle.flat_heap.specs.Spans.{span_words, span_at}
+use Rattle.flat_heap.specs.Spans.{span_words}
 use Rattle.flat_heap.proofs.TableLemmas.{filled_from_empty}
 use Rattle.flat_heap.proofs.heap.Heap.squeezed.Goals as goal
 

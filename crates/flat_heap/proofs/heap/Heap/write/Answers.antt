@@ -1,9 +1,9 @@
-use Rattle.std.proofs.Common.{arith, ◌≡◌, ◌+◌, ◌<◌, ◌≤◌, ◌++◌, ℕ, Some, length, take, drop, sym, ap, ◌∙◌, subst, option_map}
+use Rattle.std.proofs.Common.{arith, ◌≡◌, Some, length, sym, ap, ◌∙◌, subst, option_map}
 use Rattle.std.proofs.lemmas.List.Elements.{All-from_get_or}
 use Rattle.htt_values.specs.Values.{IsWord}
-use Rattle.htt_values.specs.Heaps.{Heap, IsHeap, with_block}
+use Rattle.htt_values.specs.Heaps.{Heap, IsHeap}
 use Rattle.flat_heap.specs.Blocks.{blocks_of}
-use Rattle.flat_heap.specs.Spans.{span_words, span_at, with_span_words, flat_blocks, AreLaidOut}
+use Rattle.flat_heap.specs.Spans.{span_words, span_at, with_span_words}
 use Rattle.flat_heap.proofs.HeapLemmas.{with_block_is_heap}
 use Rattle.flat_heap.proofs.WriteLemmas.{taken_back, block_written, still_laid_out, same_count}
 use Rattle.flat_heap.proofs.heap.Heap.write.Goals as goal
