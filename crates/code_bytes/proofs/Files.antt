@@ -39,40 +39,40 @@ headers_cut file count e = record { split = ap (λ n. headers_tests file 9 true 
 
 -- what the fields that were read say
 pub record IsOpened (file : List ℕ) (count version first : ℕ) (hs : List Header) : Type 0 where
-  pub count : count ≡ number_at file 5 4
-  pub version : version ≡ number_at file 4 1
-  pub first : first ≡ 9 + 10 * count
-  pub headers : hs ≡ headers_at file 9 count
+  pub count_is : count ≡ number_at file 5 4
+  pub version_is : version ≡ number_at file 4 1
+  pub first_is : first ≡ 9 + 10 * count
+  pub headers_are : hs ≡ headers_at file 9 count
 
-first_is : {file : List ℕ} {count version first : ℕ} {hs : List Header} → IsOpened file count version first hs → first ≡ first_body file
-first_is o = o.first ∙ ap (λ n. 9 + 10 * n) o.count
+there : {file : List ℕ} {count version first : ℕ} {hs : List Header} → IsOpened file count version first hs → first ≡ first_body file
+there o = o.first_is ∙ ap (λ n. 9 + 10 * n) o.count_is
 
-headers_are : {file : List ℕ} {count version first : ℕ} {hs : List Header} → IsOpened file count version first hs → hs ≡ headers_of file
-headers_are {file = file} o = o.headers ∙ ap (headers_at file 9) o.count
+these : {file : List ℕ} {count version first : ℕ} {hs : List Header} → IsOpened file count version first hs → hs ≡ headers_of file
+these {file = file} o = o.headers_are ∙ ap (headers_at file 9) o.count_is
 
 pub bodies_cut : {file : List ℕ} {count version first : ℕ} {hs : List Header} → IsOpened file count version first hs → Cut (body_tests_on file) (bodies_tests file version hs first hs) (last_tests file)
 unfolding body_tests_on
 bodies_cut {file = file} {version = version} {first = first} {hs = hs} o =
     record {
-      split = ap (λ v. bodies_tests file v (headers_of file) (first_body file) (headers_of file) ++ last_tests file) (sym o.version)
-          ∙ ap (λ gs. bodies_tests file version gs (first_body file) gs ++ last_tests file) (sym (headers_are o))
-          ∙ ap (λ a. bodies_tests file version hs a hs ++ last_tests file) (sym (first_is o));
+      split = ap (λ v. bodies_tests file v (headers_of file) (first_body file) (headers_of file) ++ last_tests file) (sym o.version_is)
+          ∙ ap (λ gs. bodies_tests file version gs (first_body file) gs ++ last_tests file) (sym (these o))
+          ∙ ap (λ a. bodies_tests file version hs a hs ++ last_tests file) (sym (there o));
     }
 
 pub end_cut : {file : List ℕ} {count version first : ℕ} {hs : List Header} (end : ℕ) → IsOpened file count version first hs → end ≡ after_bodies file version first hs → Cut (last_tests file) (end_tests file end) []
 unfolding last_tests
 end_cut {file = file} {version = version} {first = first} {hs = hs} end o e =
     record {
-      split = ap (λ v. end_tests file (after_bodies file v (first_body file) (headers_of file))) (sym o.version)
-          ∙ ap (λ gs. end_tests file (after_bodies file version (first_body file) gs)) (sym (headers_are o))
-          ∙ ap (λ a. end_tests file (after_bodies file version a hs)) (sym (first_is o)) ∙ ap (end_tests file) (sym e);
+      split = ap (λ v. end_tests file (after_bodies file v (first_body file) (headers_of file))) (sym o.version_is)
+          ∙ ap (λ gs. end_tests file (after_bodies file version (first_body file) gs)) (sym (these o))
+          ∙ ap (λ a. end_tests file (after_bodies file version a hs)) (sym (there o)) ∙ ap (end_tests file) (sym e);
     }
 
 pub code_is : {file : List ℕ} {count version first : ℕ} {hs : List Header} → IsOpened file count version first hs → ◌≡◌ {A = Code} (record { version = version; functions = functions_at file version first hs }) (code_of file)
 code_is {file = file} {version = version} {first = first} {hs = hs} o =
-    ap (λ (a : ℕ). record { version = version; functions = functions_at file version a hs }) (first_is o)
-    ∙ ap (λ (gs : List Header). record { version = version; functions = functions_at file version (first_body file) gs }) (headers_are o)
-    ∙ ap (λ (v : ℕ). record { version = v; functions = functions_at file v (first_body file) (headers_of file) }) o.version
+    ap (λ (a : ℕ). record { version = version; functions = functions_at file version a hs }) (there o)
+    ∙ ap (λ (gs : List Header). record { version = version; functions = functions_at file version (first_body file) gs }) (these o)
+    ∙ ap (λ (v : ℕ). record { version = v; functions = functions_at file v (first_body file) (headers_of file) }) o.version_is
 
 -- ---- what loading answers
 

@@ -7,6 +7,8 @@ mod fields;
 mod loader;
 mod parts;
 mod rules;
+mod writer;
 
 pub use loader::{LoadStop, load};
 pub use word_loader::{Code, Function, Instr};
+pub use writer::write_code;

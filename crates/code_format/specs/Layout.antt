@@ -37,11 +37,12 @@ header_fields f = field 2 f.params ∷ field 2 f.locals ∷ field 2 f.result ∷
 abbrev pub body_fields : Function → List Field
 body_fields f = flat_map instr_fields f.body
 
--- the magic, the version, the count of functions, all headers, all instructions
+abbrev pub opening_fields : Code → List Field
+opening_fields code = field 4 magic ∷ field 1 code.version ∷ field 4 (length code.functions) ∷ []
+
+-- the opening, all headers, all instructions
 abbrev pub code_fields : Code → List Field
-code_fields code =
-    field 4 magic ∷ field 1 code.version ∷ field 4 (length code.functions) ∷
-    (flat_map header_fields code.functions ++ flat_map body_fields code.functions)
+code_fields code = opening_fields code ++ (flat_map header_fields code.functions ++ flat_map body_fields code.functions)
 
 abbrev pub code_bytes : Code → List ℕ
 code_bytes code = flat_map field_bytes (code_fields code)
