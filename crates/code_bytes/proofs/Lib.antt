@@ -3,3 +3,6 @@ pub mod PartLemmas
 pub mod Steps
 pub mod Instrs
 pub mod Files
+pub mod Writing
+pub mod ValiditySteps
+pub mod ValidityLemmas

@@ -7,8 +7,13 @@ mod fields;
 mod loader;
 mod parts;
 mod rules;
+mod validity;
 mod writer;
 
 pub use loader::{LoadStop, load};
+pub use validity::is_valid;
 pub use word_loader::{Code, Function, Instr};
 pub use writer::write_code;
+
+#[cfg(test)]
+mod tests;
