@@ -149,3 +149,7 @@ told_that {A = A} {lim = lim} {round = round} {marks = marks} mark no_at no_span
   by_same : (b : Bool) (k : Kind) (s : Span) → (b ≡ true → k ≡ mark.kind) → Case lim round marks k s (cond b (Some (λ _. next)) None)
   by_same true k s same = record { mark = mark; same = same refl; at = subst (λ o. Given o s.from) (sym no_at) tt; there = subst (λ o. Given o s) (sym no_span) tt; within = within; then = then }
   by_same false k s same = tt
+
+pub renumber : (lim : Limits) (k : ℕ) (ms : List Mark) (ts rest : List Token) → k ≤ lim.chain → Spells lim ms ts rest → Spells lim (numbered k ms) ts rest
+renumber lim k [] ts rest within s = s
+renumber lim k (m ∷ ms) ts rest within s = (s.0, s.1, s.2, record { kind = s.3.kind; at = s.3.at; span = s.3.span }, record { level = s.4.level; operand = within }, s.5)

@@ -1,0 +1,168 @@
+-- The readers of names, numbers, heaps and monotypes tell the truth.
+use Rattle.std.proofs.Common.{◌≡◌, ℕ, lit≤, zero, suc, ◌+◌, ◌<◌, ◌≤◌, List, [], ◌∷◌, ◌++◌, length, refl, sym, ◌∙◌, ap, subst, arith, append_assoc, append-nil}
+use Rattle.std.specs.Prelude.{Bool, true, false, Option, Some, None, Result, Ok, cond}
+use Rattle.htt_tokens.specs.declared.tokens.Kind.{Kind}
+use Rattle.htt_tokens.specs.declared.tokens.Kind.TheVariants.{Name, Number, Keyword, Sign}
+use Rattle.htt_tokens.specs.declared.tokens.Token.{Token}
+use Rattle.htt_tokens.specs.declared.tokens.Keyword as a_keyword
+use Rattle.htt_tokens.specs.declared.tokens.Keyword.TheVariants.{TypeWord, PredWord, DefWord, ValWord, ProofWord, AutoWord, WordWord, BoolWord, LocWord, UnitWord, HeapWord, FunWord, DoWord, FixWord, RetWord, AllocWord, GetWord, SetWord, FreeWord, IfWord, ClaimWord, TrueWord, FalseWord, NullWord, PlaceWord, FstWord, SndWord, NotWord, EqWord, SelWord, EmpWord, TtWord, FfWord, AllWord, ExWord, CapitalEmpWord, CellWord, BlockWord, JoinWord, SameWord, InitWord, MemWord, IntroWord, GenWord, HaveWord, OpenWord, BothWord, LeftWord, RightWord, GiveWord, TrivialWord, ReflWord, AbsurdWord, CaseWord, RewriteWord, InductWord, SplitWord, FirstWord, SecondWord, AppWord, InstWord, AxiomWord, LemWord, TheWord}
+use Rattle.htt_tokens.specs.declared.tokens.Sign as a_sign
+use Rattle.htt_tokens.specs.declared.tokens.Sign.TheVariants.{OpenParenSign, CloseParenSign, OpenBracketSign, CloseBracketSign, OpenBraceSign, CloseBraceSign, CommaSign, SemicolonSign, ColonSign, DotSign, EqualSign, ImpliesSign, ArrowSign, LeftArrowSign, PointsToSign, UnderscoreSign, PlusSign, MinusSign, StarSign, AmpersandSign, BarSign, CaretSign, ShiftLeftSign, ShiftRightSign, LessSign, DoubleStarSign, AndSign, OrSign, AtSign, BangSign}
+use Rattle.raw_trees.specs.declared.place.Span.{Span}
+use Rattle.raw_trees.specs.declared.place.Binder.{Binder}
+use Rattle.raw_trees.specs.declared.place.Binder.TheVariants as binders
+use Rattle.raw_trees.specs.declared.mono.MonoName.{MonoName}
+use Rattle.raw_trees.specs.declared.mono.MonoName.TheVariants as mono_names
+use Rattle.raw_trees.specs.declared.tree.SumSign.{SumSign}
+use Rattle.raw_trees.specs.declared.tree.SumSign.TheVariants as sum_signs
+use Rattle.raw_trees.specs.declared.tree.ProdSign.{ProdSign}
+use Rattle.raw_trees.specs.declared.tree.ProdSign.TheVariants as prod_signs
+use Rattle.raw_trees.specs.declared.tree.UnaryWord.{UnaryWord}
+use Rattle.raw_trees.specs.declared.tree.UnaryWord.TheVariants as unary_words
+use Rattle.raw_trees.specs.declared.tree.RawHeap.{RawHeap}
+use Rattle.raw_trees.specs.declared.tree.RawHeap.TheVariants as heaps
+use Rattle.raw_trees.specs.declared.proof.UnaryRule.{UnaryRule}
+use Rattle.raw_trees.specs.declared.proof.UnaryRule.TheVariants as unary_rules
+use Rattle.raw_trees.specs.Trees.{FactorTree, MonoTree, m_name, m_brackets, m_factor, m_pair, TyTree, TripleTree, TermTree, ParamTrees, RelTree, SumTree, SumRestTree, ProdTree, ProdRestTree, ApplTree, PartTrees, AtomTree, CompTree, StepTree, FormulaTree, SortTree, DisjTree, ConjTree, StarTree, FatomTree, TermTrees, y_fun, y_all, y_hoare, y_mono, triple_of, t_fun, t_fun_mono, t_do, t_fix, t_rel, no_params, more_params, r_sum, r_less, s_sum, s_end, s_more, x_prod, x_end, x_more, l_unary, l_apply, no_parts, atom_part, mono_part, a_name, a_number, a_true, a_false, a_null, a_place, a_eq, a_sel, a_unit, a_brackets, a_pair, a_annotated, c_ret, c_step, s_alloc, s_get, s_set, s_free, s_if, s_claim, s_run, f_all, f_ex, f_disj, f_implies, over_mono, over_heap, d_conj, d_or, j_star, j_and, k_fatom, k_times, g_tt, g_ff, g_emp, g_brackets, g_at_heap, g_emp_of, g_same, g_join, g_cell, g_block, g_use, g_use_at, g_use_at_heap, g_eq, g_points, g_points_any, no_terms, more_terms, ArgTree, arg_heap, arg_term, MotiveTree, motive_of, ProofTree, StmtTree, EndTree, ProofTrees, p_end, p_step, b_intro, b_gen, b_open, b_have, e_name, e_trivial, e_refl, e_unary, e_both, e_give, e_app, e_inst, e_case, e_rewrite, e_induct, e_split, e_axiom, e_unfold, e_lem, e_the, no_proofs, more_proofs, MonoParamTree, mono_param, BodyTree, body_auto, body_proof, DeclTree, decl_type, decl_pred, decl_induct, decl_def, decl_val, decl_proof}
+use Rattle.htt_grammar.specs.Marks.{Mark, Limits, IsWithin, ◌⨟◌, sign, word, name, number, sign_at, word_at, number_at, numbered, separated, each_after}
+use Rattle.htt_grammar.specs.Grammar
+use Rattle.htt_grammar.specs.Readers.{Reader, measured, give, ◌>>=◌, stop, refuse, either, if_first, that, same_kind, token, after_commas, too_long}
+use Rattle.htt_grammar.specs.Phrases.{Deeper, binder_case, a_binder, name_case, a_name_there, number_case, a_number_there, over_there, heap_case, a_heap, mono_right, mono_closes, mono_name_case, mono_inside, mono_case, mono_opens, mono_at, bracketed, more_monos, terms_on, is_close, terms_there, bracket_case, atom_case, atom_at, part_case, no_part_case, parts_on, unary_case, appl_at, on_prod_sign, prod_on, prod_at, on_sum_sign, sum_on, sum_at, rel_at, triple_at, params_on, term_case, term_at, is_colon, binder_and_colon, starts_function, function_case, ty_case, ty_at, step_case, step_at, comp_on, comp_at, sort_at, quantified, argument_case, use_case, fatom_case, relation_case, fatom_at, star_at, conj_at, disj_at, quantifier_case, formula_at}
+use Rattle.htt_grammar.proofs.Spells.{Spells}
+use Rattle.htt_reading.proofs.Tells.{Tells, Told, join, alone, at_front, told_then, told_last, told_give, told_stop, told_refuse, Taken, Case, told_either, told_first, tells_measured, told_that, renumber}
+
+-- the readers at this level tell the truth
+pub record Trusts (lim : Limits) (d : Deeper) (l : ℕ) : Type 0 where
+  pub further : suc d.further ≤ lim.chain
+  pub ty : Tells lim d.ty (Grammar.ty l)
+  pub term : Tells lim d.term (Grammar.term l)
+  pub comp : Tells lim d.comp (Grammar.comp l)
+  pub formula : Tells lim d.formula (Grammar.formula l)
+  pub disj : Tells lim d.disj (Grammar.disj l)
+  pub conj : Tells lim d.conj (Grammar.conj l)
+  pub star : Tells lim d.star (Grammar.star l)
+  pub mono : Tells lim d.mono (Grammar.mono l)
+  pub proof : Tells lim d.proof (Grammar.proof l)
+
+-- a level at which tokens may stand
+pub record Stands (lim : Limits) (l : ℕ) : Type 0 where
+  pub level : l ≤ lim.nesting
+  pub chain : 1 ≤ lim.chain
+
+pub numbered_tells : {A : Type 0} {lim : Limits} {r : Reader A} {ms : A → List Mark} (k : ℕ) → k ≤ lim.chain → Tells lim r ms → Tells lim r (λ x. numbered k (ms x))
+numbered_tells {lim = lim} {ms = ms} k within tells = record { tells = λ ts x rest e. renumber lim k (ms x) ts rest within (tells.tells ts x rest e) }
+
+module _ {lim : Limits} (l : ℕ) (here : Stands lim l) where
+  within_here : (m : Mark) → m.level ≡ l → m.operand ≡ 1 → IsWithin lim m
+  within_here m level operand = record { level = subst (λ n. n ≤ lim.nesting) (sym level) here.level; operand = subst (λ n. n ≤ lim.chain) (sym operand) here.chain }
+
+  module _ {A : Type 0} {round : List Mark → List Mark} {marks : A → List Mark} where
+    pub at_word : (w : a_keyword.Keyword) (s : Span) (next : Reader A) → Told lim (λ ns. round (word_at l w s.from ⨟ ns)) next marks → Taken lim round (Keyword w) s next marks
+    at_word w s next then = record { mark = record { kind = Keyword w; at = Some s.from; span = None; level = l; operand = 1 }; same = refl; at = refl; there = tt; within = within_here _ refl refl; then = then }
+
+    pub at_sign : (w : a_sign.Sign) (s : Span) (next : Reader A) → Told lim (λ ns. round (sign_at l w s.from ⨟ ns)) next marks → Taken lim round (Sign w) s next marks
+    at_sign w s next then = record { mark = record { kind = Sign w; at = Some s.from; span = None; level = l; operand = 1 }; same = refl; at = refl; there = tt; within = within_here _ refl refl; then = then }
+
+    pub at_number : (v : ℕ) (s : Span) (next : Reader A) → Told lim (λ ns. round (number_at l v s.from ⨟ ns)) next marks → Taken lim round (Number v) s next marks
+    at_number v s next then = record { mark = record { kind = Number v; at = Some s.from; span = None; level = l; operand = 1 }; same = refl; at = refl; there = tt; within = within_here _ refl refl; then = then }
+
+    pub a_word : (w : a_keyword.Keyword) (s : Span) (next : Reader A) → Told lim (λ ns. round (word l w ⨟ ns)) next marks → Taken lim round (Keyword w) s next marks
+    a_word w s next then = record { mark = record { kind = Keyword w; at = None; span = None; level = l; operand = 1 }; same = refl; at = tt; there = tt; within = within_here _ refl refl; then = then }
+
+    pub a_sign' : (w : a_sign.Sign) (s : Span) (next : Reader A) → Told lim (λ ns. round (sign l w ⨟ ns)) next marks → Taken lim round (Sign w) s next marks
+    a_sign' w s next then = record { mark = record { kind = Sign w; at = None; span = None; level = l; operand = 1 }; same = refl; at = tt; there = tt; within = within_here _ refl refl; then = then }
+
+    pub a_number' : (v : ℕ) (s : Span) (next : Reader A) → Told lim (λ ns. round (number l v ⨟ ns)) next marks → Taken lim round (Number v) s next marks
+    a_number' v s next then = record { mark = record { kind = Number v; at = None; span = None; level = l; operand = 1 }; same = refl; at = tt; there = tt; within = within_here _ refl refl; then = then }
+
+    pub a_name' : (s : Span) (next : Reader A) → Told lim (λ ns. round (name l s ⨟ ns)) next marks → Taken lim round Name s next marks
+    a_name' s next then = record { mark = record { kind = Name; at = None; span = Some s; level = l; operand = 1 }; same = refl; at = tt; there = refl; within = within_here _ refl refl; then = then }
+
+    pub or_sign : (w : a_sign.Sign) (next otherwise : Reader A) → Told lim (λ ns. round (sign l w ⨟ ns)) next marks → Told lim round otherwise marks → Told lim round (either (that (Sign w) next) otherwise) marks
+    or_sign w next otherwise then other = told_that (record { kind = Sign w; at = None; span = None; level = l; operand = 1 }) refl refl (within_here _ refl refl) next otherwise then other
+
+    pub or_word : (w : a_keyword.Keyword) (next otherwise : Reader A) → Told lim (λ ns. round (word l w ⨟ ns)) next marks → Told lim round otherwise marks → Told lim round (either (that (Keyword w) next) otherwise) marks
+    or_word w next otherwise then other = told_that (record { kind = Keyword w; at = None; span = None; level = l; operand = 1 }) refl refl (within_here _ refl refl) next otherwise then other
+
+  token_tells : (w : a_sign.Sign) → Tells lim (token (Sign w)) (λ _. sign l w)
+  unfolding token ◌⨟◌
+  token_tells w = alone (or_sign w (give tt) stop (told_give tt refl) told_stop)
+
+  -- a sign that is wanted, and what follows
+  pub skip : {A : Type 0} {round : List Mark → List Mark} {marks : A → List Mark} (w : a_sign.Sign) (k : Unit {0} → Reader A) → Told lim (λ ns. round (sign l w ⨟ ns)) (k tt) marks → Told lim round (token (Sign w) >>= k) marks
+  skip w k then = told_then k (token_tells w) (λ x. told_unit k x then)
+    where
+    told_unit : {A : Type 0} {round : List Mark → List Mark} {marks : A → List Mark} (k : Unit {0} → Reader A) (x : Unit {0}) → Told lim round (k tt) marks → Told lim round (k x) marks
+    told_unit k x then = then
+
+  -- ---- words
+
+  pub binder_tells : Tells lim a_binder (Grammar.binder l)
+  unfolding a_binder ◌⨟◌
+  binder_tells = alone (told_either _ cases told_stop)
+    where
+    cases : (k : Kind) (s : Span) → Case lim (λ ns. ns) (Grammar.binder l) k s (binder_case k)
+    cases Name s = a_name' s _ (told_give _ refl)
+    cases (Sign UnderscoreSign) s = a_sign' UnderscoreSign s _ (told_give _ refl)
+    cases _ s = tt
+
+  pub name_tells : Tells lim a_name_there (name l)
+  unfolding a_name_there ◌⨟◌
+  name_tells = alone (told_either _ cases told_stop)
+    where
+    cases : (k : Kind) (s : Span) → Case lim (λ ns. ns) (name l) k s (name_case k)
+    cases Name s = a_name' s _ (told_give _ refl)
+    cases _ s = tt
+
+  pub number_tells : Tells lim a_number_there (number l)
+  unfolding a_number_there ◌⨟◌
+  number_tells = alone (told_either _ cases told_stop)
+    where
+    cases : (k : Kind) (s : Span) → Case lim (λ ns. ns) (number l) k s (number_case k)
+    cases (Number v) s = a_number' v s _ (told_give _ refl)
+    cases _ s = tt
+
+  over_tells : Tells lim over_there (Grammar.over l)
+  unfolding over_there ◌⨟◌
+  over_tells = alone (or_sign CaretSign _ _ (told_last Some number_tells (λ x. refl)) (told_give _ refl))
+
+  pub heap_tells : Tells lim a_heap (Grammar.heap l)
+  unfolding a_heap ◌⨟◌
+  heap_tells = alone (told_either _ cases told_stop)
+    where
+    cases : (k : Kind) (s : Span) → Case lim (λ ns. ns) (Grammar.heap l) k s (heap_case k)
+    cases Name s = a_name' s _ (told_give _ refl)
+    cases (Keyword InitWord) s = at_word InitWord s _ (told_last (heaps.Init s.from) over_tells (λ n. refl))
+    cases (Keyword MemWord) s = at_word MemWord s _ (told_last (heaps.Mem s.from) over_tells (λ n. refl))
+    cases _ s = tt
+
+  -- ---- lists with commas
+
+  commas_tell : {A : Type 0} (r : Reader A) (marks : A → List Mark) → Tells lim r marks → (n : ℕ) → Tells lim (after_commas (Sign CommaSign) r n) (each_after (sign l CommaSign) marks)
+  unfolding after_commas each_after ◌⨟◌
+  commas_tell r marks item zero = alone (told_give _ refl)
+  commas_tell r marks item (suc n) = alone (or_sign CommaSign _ _ (told_then _ item (λ x. told_last (λ xs. x ∷ xs) (commas_tell r marks item n) (λ xs. refl))) (told_give _ refl))
+
+  pub more_tell : {A : Type 0} (r : Reader A) (marks : A → List Mark) → Tells lim r marks → Tells lim (measured (after_commas (Sign CommaSign) r)) (each_after (sign l CommaSign) marks)
+  more_tell r marks item = tells_measured (λ n. commas_tell r marks item n)
+
+-- ---- monotypes
+
+-- the marks of the brackets that are open, the outermost first, before others
+opened : ℕ → List ℕ → List Mark → List Mark
+opened l [] ns = ns
+opened l (at ∷ opens) ns = opened l opens (sign_at l OpenParenSign at ⨟ ns)
+
+module _ {lim : Limits} (d : Deeper) (l : ℕ) (here : Stands lim l) (trust : Trusts lim d (suc l)) where
+  mono_name_told : (k : Kind) (s : Span) → Case lim (λ ns. ns) (Grammar.mono_name l) k s (mono_name_case k)
+  unfolding ◌⨟◌
+  mono_name_told Name s = a_name' l here s _ (told_give _ refl)
+  mono_name_told (Keyword WordWord) s = at_word l here WordWord s _ (told_give _ refl)
+  mono_name_told (Keyword BoolWord) s = at_word l here BoolWord s _ (told_give _ refl)
+  mono_name_told (Keyword LocWord) s = at_word l here LocWord s _ (told_give _ refl)
+  mono_name_told (Keyword UnitWord) s = at_word l here UnitWord s _ (told_give _ refl)
+  mono_name_told _ s = tt
+
+  -- the right side of a factor: what is read is the marks of the whole without those of the factor
+  right_told : (round : List Mark → List Mark) (f : FactorTree) → Told lim (λ ns. round (Grammar.factor l f ⨟ ns)) (mono_right d f) (λ m. round (Grammar.mono l m ⨟ []))
+  right_told round f = ?
