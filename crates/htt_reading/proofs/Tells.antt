@@ -89,6 +89,9 @@ pub told_refuse : {A : Type 0} {lim : Limits} {round : List Mark → List Mark} 
 unfolding refuse
 told_refuse why begins = record { told = λ before ts x rest round e. cc }
 
+pub reround : {A : Type 0} {lim : Limits} {r : Reader A} {marks : A → List Mark} (round other : List Mark → List Mark) → ((ns : List Mark) → round ns ≡ other ns) → Told lim round r marks → Told lim other r marks
+reround {lim = lim} round other same told = record { told = λ before ts x rest go e. told.told before ts x rest (λ ns end s. subst (λ ms. Spells lim ms before end) (sym (same ns)) (go ns end s)) e }
+
 -- ---- by the first token
 
 pub record Taken {A : Type 0} (lim : Limits) (round : List Mark → List Mark) (kind : Kind) (span : Span) (reader : Reader A) (marks : A → List Mark) : Type 0 where

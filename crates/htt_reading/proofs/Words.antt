@@ -27,9 +27,9 @@ use Rattle.raw_trees.specs.Trees.{FactorTree, MonoTree, m_name, m_brackets, m_fa
 use Rattle.htt_grammar.specs.Marks.{Mark, Limits, IsWithin, ◌⨟◌, sign, word, name, number, sign_at, word_at, number_at, numbered, separated, each_after}
 use Rattle.htt_grammar.specs.Grammar
 use Rattle.htt_grammar.specs.Readers.{Reader, measured, give, ◌>>=◌, stop, refuse, either, if_first, that, same_kind, token, after_commas, too_long}
-use Rattle.htt_grammar.specs.Phrases.{Deeper, binder_case, a_binder, name_case, a_name_there, number_case, a_number_there, over_there, heap_case, a_heap, mono_right, mono_closes, mono_name_case, mono_inside, mono_case, mono_opens, mono_at, bracketed, more_monos, terms_on, is_close, terms_there, bracket_case, atom_case, atom_at, part_case, no_part_case, parts_on, unary_case, appl_at, on_prod_sign, prod_on, prod_at, on_sum_sign, sum_on, sum_at, rel_at, triple_at, params_on, term_case, term_at, is_colon, binder_and_colon, starts_function, function_case, ty_case, ty_at, step_case, step_at, comp_on, comp_at, sort_at, quantified, argument_case, use_case, fatom_case, relation_case, fatom_at, star_at, conj_at, disj_at, quantifier_case, formula_at}
+use Rattle.htt_grammar.specs.Phrases.{Deeper, binder_case, a_binder, name_case, a_name_there, number_case, a_number_there, over_there, heap_case, a_heap, with_right, mono_right, mono_closes, mono_name_case, mono_inside, mono_case, mono_opens, mono_at, bracketed, more_monos, terms_on, is_close, terms_there, bracket_case, atom_case, atom_at, part_case, no_part_case, parts_on, unary_case, appl_at, on_prod_sign, prod_on, prod_at, on_sum_sign, sum_on, sum_at, rel_at, triple_at, params_on, term_case, term_at, is_colon, binder_and_colon, starts_function, function_case, ty_case, ty_at, step_case, step_at, comp_on, comp_at, sort_at, quantified, argument_case, use_case, fatom_case, relation_case, fatom_at, star_at, conj_at, disj_at, quantifier_case, formula_at}
 use Rattle.htt_grammar.proofs.Spells.{Spells}
-use Rattle.htt_reading.proofs.Tells.{Tells, Told, join, alone, at_front, told_then, told_last, told_give, told_stop, told_refuse, Taken, Case, told_either, told_first, tells_measured, told_that, renumber}
+use Rattle.htt_reading.proofs.Tells.{Tells, Told, join, alone, at_front, told_then, told_last, told_give, told_stop, told_refuse, Taken, Case, told_either, told_first, tells_measured, told_that, renumber, reround}
 
 -- the readers at this level tell the truth
 pub record Trusts (lim : Limits) (d : Deeper) (l : ℕ) : Type 0 where
@@ -153,6 +153,26 @@ opened : ℕ → List ℕ → List Mark → List Mark
 opened l [] ns = ns
 opened l (at ∷ opens) ns = opened l opens (sign_at l OpenParenSign at ⨟ ns)
 
+-- the marks of what stands at the right of a factor
+right_marks : ℕ → Option MonoTree → List Mark
+right_marks l None = []
+right_marks l (Some m) = sign l StarSign ⨟ Grammar.mono (suc l) m
+
+with_right_marks : (l : ℕ) (f : FactorTree) (r : Option MonoTree) → Grammar.mono l (with_right f r) ≡ Grammar.factor l f ⨟ right_marks l r
+unfolding right_marks Grammar.mono ◌⨟◌
+with_right_marks l f None = sym (append-nil (Grammar.factor l f))
+with_right_marks l f (Some m) = refl
+
+in_brackets_again : (l at : ℕ) (m : MonoTree) (r : Option MonoTree) (ns : List Mark) → Grammar.mono l (with_right (m_brackets at m) r) ⨟ ns ≡ sign_at l OpenParenSign at ⨟ (Grammar.mono l m ⨟ (sign l CloseParenSign ⨟ (right_marks l r ⨟ ns)))
+unfolding Grammar.factor ◌⨟◌
+in_brackets_again l at m r ns =
+    ap (λ ms. ms ++ ns) (with_right_marks l (m_brackets at m) r)
+    ∙ ap (λ ms. sign_at l OpenParenSign at ++ ms) (append_assoc (Grammar.mono l m ++ sign l CloseParenSign) (right_marks l r) ns ∙ append_assoc (Grammar.mono l m) (sign l CloseParenSign) (right_marks l r ++ ns))
+
+after_name : (l : ℕ) (x : MonoName) (r : Option MonoTree) (ns : List Mark) → Grammar.mono l (with_right (m_name x) r) ⨟ ns ≡ Grammar.mono_name l x ⨟ (right_marks l r ⨟ ns)
+unfolding Grammar.factor ◌⨟◌
+after_name l x r ns = ap (λ ms. ms ++ ns) (with_right_marks l (m_name x) r) ∙ append_assoc (Grammar.mono_name l x) (right_marks l r) ns
+
 module _ {lim : Limits} (d : Deeper) (l : ℕ) (here : Stands lim l) (trust : Trusts lim d (suc l)) where
   mono_name_told : (k : Kind) (s : Span) → Case lim (λ ns. ns) (Grammar.mono_name l) k s (mono_name_case k)
   unfolding ◌⨟◌
@@ -163,6 +183,37 @@ module _ {lim : Limits} (d : Deeper) (l : ℕ) (here : Stands lim l) (trust : Tr
   mono_name_told (Keyword UnitWord) s = at_word l here UnitWord s _ (told_give _ refl)
   mono_name_told _ s = tt
 
-  -- the right side of a factor: what is read is the marks of the whole without those of the factor
-  right_told : (round : List Mark → List Mark) (f : FactorTree) → Told lim (λ ns. round (Grammar.factor l f ⨟ ns)) (mono_right d f) (λ m. round (Grammar.mono l m ⨟ []))
-  right_told round f = ?
+  mono_name_tells : Tells lim (either mono_name_case stop) (Grammar.mono_name l)
+  mono_name_tells = alone (told_either _ mono_name_told told_stop)
+
+  right_tells : Tells lim (mono_right d) (right_marks l)
+  unfolding mono_right right_marks ◌⨟◌
+  right_tells = alone (or_sign l here StarSign _ _ (told_last Some trust.mono (λ m. refl)) (told_give None refl))
+
+  closes_told : (opens : List ℕ) (m : MonoTree) → Told lim (λ ns. opened l opens (Grammar.mono l m ⨟ ns)) (mono_closes d opens m) (Grammar.mono l)
+  unfolding mono_closes opened ◌⨟◌
+  closes_told [] m = told_give m (append-nil (Grammar.mono l m))
+  closes_told (at ∷ opens) m = skip l here CloseParenSign _ (told_then _ right_tells (λ r.
+      reround _ _ (λ ns. ap (opened l opens) (in_brackets_again l at m r ns)) (closes_told opens (with_right (m_brackets at m) r))))
+
+  opens_told : (n : ℕ) (opens : List ℕ) → Told lim (opened l opens) (mono_opens d n opens) (Grammar.mono l)
+  unfolding mono_opens mono_inside opened
+  opens_told zero opens = told_stop
+  opens_told (suc n) opens = told_either _ (cases n opens (λ s. opens_told n (s.from ∷ opens))) (told_then _ mono_name_tells (λ x. told_then _ right_tells (λ r.
+      reround _ _ (λ ns. ap (opened l opens) (after_name l x r ns)) (closes_told opens (with_right (m_name x) r)))))
+    where
+    cases : (n : ℕ) (opens : List ℕ) → ((s : Span) → Told lim (opened l (s.from ∷ opens)) (mono_opens d n (s.from ∷ opens)) (Grammar.mono l)) → (k : Kind) (s : Span) → Case lim (opened l opens) (Grammar.mono l) k s (mono_case (mono_opens d n) opens k)
+    cases n opens next (Sign OpenParenSign) s = at_sign l here OpenParenSign s _ (next s)
+    cases n opens next _ s = tt
+
+  pub mono_tells : Tells lim (mono_at d) (Grammar.mono l)
+  unfolding mono_at opened
+  mono_tells = tells_measured (λ n. alone (opens_told n []))
+
+  pub bracketed_tells : Tells lim (bracketed d) (Grammar.in_brackets l)
+  unfolding bracketed ◌⨟◌
+  bracketed_tells = alone (skip l here OpenBracketSign _ (told_then _ mono_tells (λ m. skip l here CloseBracketSign _ (told_give m refl))))
+
+  pub more_monos_tell : Tells lim (more_monos d) (each_after (sign l CommaSign) (Grammar.mono l))
+  unfolding more_monos
+  more_monos_tell = more_tell l here (mono_at d) (Grammar.mono l) mono_tells
