@@ -137,6 +137,7 @@ module _ {lim : Limits} (d : Deeper) (l : ℕ) (know : Knows lim d (suc l)) wher
 
   mutual
     unfolding Grammar.factor mono_opens mono_inside mono_closes right_marks
+
     spine : {c : Kind → Bool} (n : ℕ) (opens : List ℕ) (m : MonoTree) (ns : List Mark) (y : MonoTree) → ((mid rest : List Token) → Spells lim ns mid rest → Stops c rest → Stops goes_on_mono mid) → ((k : ℕ) → Gets lim c k (mono_closes d opens m) ns y) → Gets lim c n (mono_opens d n opens) (Grammar.mono l m ⨟ ns) y
     spine n opens (m_factor f) ns y before closes = empty_between (Grammar.factor l f) ns (spine_factor n opens f None ns y before closes)
     spine n opens (m_pair f r) ns y before closes = regroup _ _ _ (spine_factor n opens f (Some r) ns y before closes)
@@ -148,8 +149,8 @@ module _ {lim : Limits} (d : Deeper) (l : ℕ) (know : Knows lim d (suc l)) wher
         (then_any _ (mono_name_gets l x) (then _ (right_gets r) before (closes (suc n))))
     spine_factor {c = c} (suc n) opens (m_brackets at m') r ns y before closes =
         regroup _ _ _ (taken_less _ _ _ refl (λ s e span. regroup _ _ _ (spine n (s.from ∷ opens) m' (sign l CloseParenSign ⨟ (right_marks r ⨟ ns)) y
-          (λ mid rest told stops. stops_at goes_on_mono lim _ _ mid rest refl told)
-          (λ k. skip _ _ _ refl (then _ (right_gets r) before (subst (λ a. Gets lim c k (mono_closes d opens (with_right (m_brackets a m') r)) ns y) (sym e) (closes k)))))))
+        (λ mid rest told stops. stops_at goes_on_mono lim _ _ mid rest refl told)
+        (λ k. skip _ _ _ refl (then _ (right_gets r) before (subst (λ a. Gets lim c k (mono_closes d opens (with_right (m_brackets a m') r)) ns y) (sym e) (closes k)))))))
 
   closed : {j : ℕ} (m : MonoTree) → Gets lim goes_on_mono j (mono_closes d [] m) [] m
   unfolding mono_closes

@@ -1,43 +1,32 @@
 -- The readers of terms, types and computations tell the truth.
-use Rattle.std.proofs.Common.{◌≡◌, ℕ, lit≤, zero, suc, ◌+◌, ◌<◌, ◌≤◌, List, [], ◌∷◌, ◌++◌, length, refl, sym, ◌∙◌, ap, subst, arith, append_assoc, append-nil}
-use Rattle.std.specs.Prelude.{Bool, true, false, Option, Some, None, Result, Ok, cond}
+use Rattle.std.proofs.Common.{◌≡◌, ℕ, zero, suc, ◌+◌, ◌≤◌, List, refl, arith, append-nil}
+use Rattle.std.specs.Prelude.{Bool, true, false, Ok, cond}
 use Rattle.htt_tokens.specs.declared.tokens.Kind.{Kind}
 use Rattle.htt_tokens.specs.declared.tokens.Kind.TheVariants.{Name, Number, Keyword, Sign}
 use Rattle.htt_tokens.specs.declared.tokens.Token.{Token}
-use Rattle.htt_tokens.specs.declared.tokens.Keyword as a_keyword
-use Rattle.htt_tokens.specs.declared.tokens.Keyword.TheVariants.{TypeWord, PredWord, DefWord, ValWord, ProofWord, AutoWord, WordWord, BoolWord, LocWord, UnitWord, HeapWord, FunWord, DoWord, FixWord, RetWord, AllocWord, GetWord, SetWord, FreeWord, IfWord, ClaimWord, TrueWord, FalseWord, NullWord, PlaceWord, FstWord, SndWord, NotWord, EqWord, SelWord, EmpWord, TtWord, FfWord, AllWord, ExWord, CapitalEmpWord, CellWord, BlockWord, JoinWord, SameWord, InitWord, MemWord, IntroWord, GenWord, HaveWord, OpenWord, BothWord, LeftWord, RightWord, GiveWord, TrivialWord, ReflWord, AbsurdWord, CaseWord, RewriteWord, InductWord, SplitWord, FirstWord, SecondWord, AppWord, InstWord, AxiomWord, LemWord, TheWord}
-use Rattle.htt_tokens.specs.declared.tokens.Sign as a_sign
-use Rattle.htt_tokens.specs.declared.tokens.Sign.TheVariants.{OpenParenSign, CloseParenSign, OpenBracketSign, CloseBracketSign, OpenBraceSign, CloseBraceSign, CommaSign, SemicolonSign, ColonSign, DotSign, EqualSign, ImpliesSign, ArrowSign, LeftArrowSign, PointsToSign, UnderscoreSign, PlusSign, MinusSign, StarSign, AmpersandSign, BarSign, CaretSign, ShiftLeftSign, ShiftRightSign, LessSign, DoubleStarSign, AndSign, OrSign, AtSign, BangSign}
+use Rattle.htt_tokens.specs.declared.tokens.Keyword.TheVariants.{FunWord, DoWord, FixWord, RetWord, AllocWord, GetWord, SetWord, FreeWord, IfWord, ClaimWord, TrueWord, FalseWord, NullWord, PlaceWord, FstWord, SndWord, NotWord, EqWord, SelWord}
+use Rattle.htt_tokens.specs.declared.tokens.Sign.TheVariants.{OpenParenSign, CloseParenSign, OpenBracketSign, CloseBracketSign, OpenBraceSign, CloseBraceSign, CommaSign, SemicolonSign, ColonSign, DotSign, ArrowSign, LeftArrowSign, PlusSign, MinusSign, StarSign, AmpersandSign, BarSign, CaretSign, ShiftLeftSign, ShiftRightSign, LessSign}
 use Rattle.raw_trees.specs.declared.place.Span.{Span}
-use Rattle.raw_trees.specs.declared.place.Binder.{Binder}
-use Rattle.raw_trees.specs.declared.place.Binder.TheVariants as binders
-use Rattle.raw_trees.specs.declared.mono.MonoName.{MonoName}
-use Rattle.raw_trees.specs.declared.mono.MonoName.TheVariants as mono_names
 use Rattle.raw_trees.specs.declared.tree.SumSign.{SumSign}
 use Rattle.raw_trees.specs.declared.tree.SumSign.TheVariants as sum_signs
 use Rattle.raw_trees.specs.declared.tree.ProdSign.{ProdSign}
 use Rattle.raw_trees.specs.declared.tree.ProdSign.TheVariants as prod_signs
-use Rattle.raw_trees.specs.declared.tree.UnaryWord.{UnaryWord}
 use Rattle.raw_trees.specs.declared.tree.UnaryWord.TheVariants as unary_words
-use Rattle.raw_trees.specs.declared.tree.RawHeap.{RawHeap}
-use Rattle.raw_trees.specs.declared.tree.RawHeap.TheVariants as heaps
-use Rattle.raw_trees.specs.declared.proof.UnaryRule.{UnaryRule}
-use Rattle.raw_trees.specs.declared.proof.UnaryRule.TheVariants as unary_rules
-use Rattle.raw_trees.specs.Trees.{FactorTree, MonoTree, m_name, m_brackets, m_factor, m_pair, TyTree, TripleTree, TermTree, ParamTrees, RelTree, SumTree, SumRestTree, ProdTree, ProdRestTree, ApplTree, PartTrees, AtomTree, CompTree, StepTree, FormulaTree, SortTree, DisjTree, ConjTree, StarTree, FatomTree, TermTrees, y_fun, y_all, y_hoare, y_mono, triple_of, t_fun, t_fun_mono, t_do, t_fix, t_rel, no_params, more_params, r_sum, r_less, s_sum, s_end, s_more, x_prod, x_end, x_more, l_unary, l_apply, no_parts, atom_part, mono_part, a_name, a_number, a_true, a_false, a_null, a_place, a_eq, a_sel, a_unit, a_brackets, a_pair, a_annotated, c_ret, c_step, s_alloc, s_get, s_set, s_free, s_if, s_claim, s_run, f_all, f_ex, f_disj, f_implies, over_mono, over_heap, d_conj, d_or, j_star, j_and, k_fatom, k_times, g_tt, g_ff, g_emp, g_brackets, g_at_heap, g_emp_of, g_same, g_join, g_cell, g_block, g_use, g_use_at, g_use_at_heap, g_eq, g_points, g_points_any, no_terms, more_terms, ArgTree, arg_heap, arg_term, MotiveTree, motive_of, ProofTree, StmtTree, EndTree, ProofTrees, p_end, p_step, b_intro, b_gen, b_open, b_have, e_name, e_trivial, e_refl, e_unary, e_both, e_give, e_app, e_inst, e_case, e_rewrite, e_induct, e_split, e_axiom, e_unfold, e_lem, e_the, no_proofs, more_proofs, MonoParamTree, mono_param, BodyTree, body_auto, body_proof, DeclTree, decl_type, decl_pred, decl_induct, decl_def, decl_val, decl_proof}
-use Rattle.htt_grammar.specs.Marks.{Mark, Limits, IsWithin, ◌⨟◌, sign, word, name, number, sign_at, word_at, number_at, numbered, separated, each_after}
+use Rattle.raw_trees.specs.Trees.{TyTree, TermTree, SumRestTree, ProdRestTree, PartTrees, y_fun, y_all, y_hoare, y_mono, t_fun, t_fun_mono, t_do, t_fix, t_rel, more_params, r_sum, r_less, s_sum, s_more, x_prod, x_more, l_unary, l_apply, atom_part, mono_part, a_place, c_ret, c_step, s_alloc, s_get, s_set, s_free, s_run, more_terms}
+use Rattle.htt_grammar.specs.Marks.{Limits, ◌⨟◌, sign, sign_at}
 use Rattle.htt_grammar.specs.Grammar
-use Rattle.htt_grammar.specs.Readers.{Reader, measured, give, ◌>>=◌, stop, refuse, either, if_first, that, same_kind, token, after_commas, too_long}
+use Rattle.htt_grammar.specs.Readers.{Reader, measured, give, ◌>>=◌, stop, either}
 use Rattle.htt_grammar.specs.Beginnings.{sum_sign_of, prod_sign_of}
-use Rattle.htt_grammar.specs.Phrases.{Deeper, binder_case, a_binder, name_case, a_name_there, number_case, a_number_there, over_there, heap_case, a_heap, with_right, mono_right, mono_closes, mono_name_case, mono_inside, mono_case, mono_opens, mono_at, bracketed, more_monos, terms_on, is_close, terms_there, bracket_case, atom_case, atom_at, part_case, no_part_case, parts_on, unary_case, appl_at, on_prod_sign, prod_on, prod_at, on_sum_sign, sum_on, sum_at, rel_at, triple_at, params_on, term_case, term_at, is_colon, binder_and_colon, starts_function, function_case, ty_case, ty_at, step_case, step_at, comp_on, comp_at, sort_at, quantified, argument_case, use_case, fatom_case, relation_case, fatom_at, star_at, conj_at, disj_at, quantifier_case, formula_at}
+use Rattle.htt_grammar.specs.Phrases.{Deeper, mono_at, terms_on, terms_there, bracket_case, atom_case, atom_at, part_case, no_part_case, parts_on, unary_case, appl_at, on_prod_sign, prod_on, prod_at, on_sum_sign, sum_on, sum_at, rel_at, triple_at, params_on, term_case, term_at, starts_function, function_case, ty_case, ty_at, step_case, step_at, comp_on, comp_at}
 use Rattle.htt_grammar.proofs.Spells.{Spells}
-use Rattle.htt_reading.proofs.Tells.{Tells, Told, join, alone, at_front, told_then, told_last, told_give, told_stop, told_refuse, Taken, Case, told_either, told_first, tells_measured, told_that}
-use Rattle.htt_reading.proofs.Words.{Trusts, Stands, numbered_tells, at_word, at_sign, at_number, a_word, a_sign', a_number', a_name', or_sign, or_word, skip, binder_tells, name_tells, number_tells, heap_tells, more_tell, mono_tells, bracketed_tells, more_monos_tell}
+use Rattle.htt_reading.proofs.Tells.{Tells, Told, alone, told_then, told_last, told_give, told_stop, told_refuse, Case, told_either, told_first, tells_measured}
+use Rattle.htt_reading.proofs.Words.{Trusts, Stands, numbered_tells, at_word, at_sign, at_number, a_word, a_sign', a_name', or_sign, or_word, skip, binder_tells, name_tells, number_tells, mono_tells, bracketed_tells}
 
 -- the marks of a chain from the operand with this number on
-chain_next : (k m chain : ℕ) → k + suc m ≤ suc chain → suc k + m ≤ suc chain
+pub chain_next : (k m chain : ℕ) → k + suc m ≤ suc chain → suc k + m ≤ suc chain
 chain_next k m chain h = grind (arith, h)
 
-chain_now : (k m chain : ℕ) → k + suc m ≤ suc chain → k ≤ chain
+pub chain_now : (k m chain : ℕ) → k + suc m ≤ suc chain → k ≤ chain
 chain_now k m chain h = omega (arith, h)
 
 module _ {lim : Limits} (d : Deeper) (l : ℕ) (here : Stands lim l) (trust : Trusts lim d (suc l)) where

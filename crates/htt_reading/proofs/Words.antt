@@ -1,35 +1,21 @@
 -- The readers of names, numbers, heaps and monotypes tell the truth.
-use Rattle.std.proofs.Common.{◌≡◌, ℕ, lit≤, zero, suc, ◌+◌, ◌<◌, ◌≤◌, List, [], ◌∷◌, ◌++◌, length, refl, sym, ◌∙◌, ap, subst, arith, append_assoc, append-nil}
-use Rattle.std.specs.Prelude.{Bool, true, false, Option, Some, None, Result, Ok, cond}
+use Rattle.std.proofs.Common.{◌≡◌, ℕ, zero, suc, ◌≤◌, List, [], ◌∷◌, ◌++◌, refl, sym, ◌∙◌, ap, subst, append_assoc, append-nil}
+use Rattle.std.specs.Prelude.{Option, Some, None}
 use Rattle.htt_tokens.specs.declared.tokens.Kind.{Kind}
 use Rattle.htt_tokens.specs.declared.tokens.Kind.TheVariants.{Name, Number, Keyword, Sign}
-use Rattle.htt_tokens.specs.declared.tokens.Token.{Token}
 use Rattle.htt_tokens.specs.declared.tokens.Keyword as a_keyword
-use Rattle.htt_tokens.specs.declared.tokens.Keyword.TheVariants.{TypeWord, PredWord, DefWord, ValWord, ProofWord, AutoWord, WordWord, BoolWord, LocWord, UnitWord, HeapWord, FunWord, DoWord, FixWord, RetWord, AllocWord, GetWord, SetWord, FreeWord, IfWord, ClaimWord, TrueWord, FalseWord, NullWord, PlaceWord, FstWord, SndWord, NotWord, EqWord, SelWord, EmpWord, TtWord, FfWord, AllWord, ExWord, CapitalEmpWord, CellWord, BlockWord, JoinWord, SameWord, InitWord, MemWord, IntroWord, GenWord, HaveWord, OpenWord, BothWord, LeftWord, RightWord, GiveWord, TrivialWord, ReflWord, AbsurdWord, CaseWord, RewriteWord, InductWord, SplitWord, FirstWord, SecondWord, AppWord, InstWord, AxiomWord, LemWord, TheWord}
+use Rattle.htt_tokens.specs.declared.tokens.Keyword.TheVariants.{WordWord, BoolWord, LocWord, UnitWord, InitWord, MemWord}
 use Rattle.htt_tokens.specs.declared.tokens.Sign as a_sign
-use Rattle.htt_tokens.specs.declared.tokens.Sign.TheVariants.{OpenParenSign, CloseParenSign, OpenBracketSign, CloseBracketSign, OpenBraceSign, CloseBraceSign, CommaSign, SemicolonSign, ColonSign, DotSign, EqualSign, ImpliesSign, ArrowSign, LeftArrowSign, PointsToSign, UnderscoreSign, PlusSign, MinusSign, StarSign, AmpersandSign, BarSign, CaretSign, ShiftLeftSign, ShiftRightSign, LessSign, DoubleStarSign, AndSign, OrSign, AtSign, BangSign}
+use Rattle.htt_tokens.specs.declared.tokens.Sign.TheVariants.{OpenParenSign, CloseParenSign, OpenBracketSign, CloseBracketSign, CommaSign, UnderscoreSign, StarSign, CaretSign}
 use Rattle.raw_trees.specs.declared.place.Span.{Span}
-use Rattle.raw_trees.specs.declared.place.Binder.{Binder}
-use Rattle.raw_trees.specs.declared.place.Binder.TheVariants as binders
 use Rattle.raw_trees.specs.declared.mono.MonoName.{MonoName}
-use Rattle.raw_trees.specs.declared.mono.MonoName.TheVariants as mono_names
-use Rattle.raw_trees.specs.declared.tree.SumSign.{SumSign}
-use Rattle.raw_trees.specs.declared.tree.SumSign.TheVariants as sum_signs
-use Rattle.raw_trees.specs.declared.tree.ProdSign.{ProdSign}
-use Rattle.raw_trees.specs.declared.tree.ProdSign.TheVariants as prod_signs
-use Rattle.raw_trees.specs.declared.tree.UnaryWord.{UnaryWord}
-use Rattle.raw_trees.specs.declared.tree.UnaryWord.TheVariants as unary_words
-use Rattle.raw_trees.specs.declared.tree.RawHeap.{RawHeap}
 use Rattle.raw_trees.specs.declared.tree.RawHeap.TheVariants as heaps
-use Rattle.raw_trees.specs.declared.proof.UnaryRule.{UnaryRule}
-use Rattle.raw_trees.specs.declared.proof.UnaryRule.TheVariants as unary_rules
-use Rattle.raw_trees.specs.Trees.{FactorTree, MonoTree, m_name, m_brackets, m_factor, m_pair, TyTree, TripleTree, TermTree, ParamTrees, RelTree, SumTree, SumRestTree, ProdTree, ProdRestTree, ApplTree, PartTrees, AtomTree, CompTree, StepTree, FormulaTree, SortTree, DisjTree, ConjTree, StarTree, FatomTree, TermTrees, y_fun, y_all, y_hoare, y_mono, triple_of, t_fun, t_fun_mono, t_do, t_fix, t_rel, no_params, more_params, r_sum, r_less, s_sum, s_end, s_more, x_prod, x_end, x_more, l_unary, l_apply, no_parts, atom_part, mono_part, a_name, a_number, a_true, a_false, a_null, a_place, a_eq, a_sel, a_unit, a_brackets, a_pair, a_annotated, c_ret, c_step, s_alloc, s_get, s_set, s_free, s_if, s_claim, s_run, f_all, f_ex, f_disj, f_implies, over_mono, over_heap, d_conj, d_or, j_star, j_and, k_fatom, k_times, g_tt, g_ff, g_emp, g_brackets, g_at_heap, g_emp_of, g_same, g_join, g_cell, g_block, g_use, g_use_at, g_use_at_heap, g_eq, g_points, g_points_any, no_terms, more_terms, ArgTree, arg_heap, arg_term, MotiveTree, motive_of, ProofTree, StmtTree, EndTree, ProofTrees, p_end, p_step, b_intro, b_gen, b_open, b_have, e_name, e_trivial, e_refl, e_unary, e_both, e_give, e_app, e_inst, e_case, e_rewrite, e_induct, e_split, e_axiom, e_unfold, e_lem, e_the, no_proofs, more_proofs, MonoParamTree, mono_param, BodyTree, body_auto, body_proof, DeclTree, decl_type, decl_pred, decl_induct, decl_def, decl_val, decl_proof}
-use Rattle.htt_grammar.specs.Marks.{Mark, Limits, IsWithin, ◌⨟◌, sign, word, name, number, sign_at, word_at, number_at, numbered, separated, each_after}
+use Rattle.raw_trees.specs.Trees.{FactorTree, MonoTree, m_name, m_brackets}
+use Rattle.htt_grammar.specs.Marks.{Mark, Limits, IsWithin, ◌⨟◌, sign, word, name, number, sign_at, word_at, number_at, numbered, each_after}
 use Rattle.htt_grammar.specs.Grammar
-use Rattle.htt_grammar.specs.Readers.{Reader, measured, give, ◌>>=◌, stop, refuse, either, if_first, that, same_kind, token, after_commas, too_long}
-use Rattle.htt_grammar.specs.Phrases.{Deeper, binder_case, a_binder, name_case, a_name_there, number_case, a_number_there, over_there, heap_case, a_heap, with_right, mono_right, mono_closes, mono_name_case, mono_inside, mono_case, mono_opens, mono_at, bracketed, more_monos, terms_on, is_close, terms_there, bracket_case, atom_case, atom_at, part_case, no_part_case, parts_on, unary_case, appl_at, on_prod_sign, prod_on, prod_at, on_sum_sign, sum_on, sum_at, rel_at, triple_at, params_on, term_case, term_at, is_colon, binder_and_colon, starts_function, function_case, ty_case, ty_at, step_case, step_at, comp_on, comp_at, sort_at, quantified, argument_case, use_case, fatom_case, relation_case, fatom_at, star_at, conj_at, disj_at, quantifier_case, formula_at}
-use Rattle.htt_grammar.proofs.Spells.{Spells}
-use Rattle.htt_reading.proofs.Tells.{Tells, Told, join, alone, at_front, told_then, told_last, told_give, told_stop, told_refuse, Taken, Case, told_either, told_first, tells_measured, told_that, renumber, reround}
+use Rattle.htt_grammar.specs.Readers.{Reader, measured, give, ◌>>=◌, stop, either, that, token, after_commas}
+use Rattle.htt_grammar.specs.Phrases.{Deeper, binder_case, a_binder, name_case, a_name_there, number_case, a_number_there, over_there, heap_case, a_heap, with_right, mono_right, mono_closes, mono_name_case, mono_inside, mono_case, mono_opens, mono_at, bracketed, more_monos}
+use Rattle.htt_reading.proofs.Tells.{Tells, Told, alone, told_then, told_last, told_give, told_stop, Taken, Case, told_either, tells_measured, told_that, renumber, reround}
 
 -- the readers at this level tell the truth
 pub record Trusts (lim : Limits) (d : Deeper) (l : ℕ) : Type 0 where
@@ -92,8 +78,8 @@ module _ {lim : Limits} (l : ℕ) (here : Stands lim l) where
   pub skip : {A : Type 0} {round : List Mark → List Mark} {marks : A → List Mark} (w : a_sign.Sign) (k : Unit {0} → Reader A) → Told lim (λ ns. round (sign l w ⨟ ns)) (k tt) marks → Told lim round (token (Sign w) >>= k) marks
   skip w k then = told_then k (token_tells w) (λ x. told_unit k x then)
     where
-    told_unit : {A : Type 0} {round : List Mark → List Mark} {marks : A → List Mark} (k : Unit {0} → Reader A) (x : Unit {0}) → Told lim round (k tt) marks → Told lim round (k x) marks
-    told_unit k x then = then
+      told_unit : {A : Type 0} {round : List Mark → List Mark} {marks : A → List Mark} (k : Unit {0} → Reader A) (x : Unit {0}) → Told lim round (k tt) marks → Told lim round (k x) marks
+      told_unit k x then = then
 
   -- ---- words
 
@@ -101,26 +87,26 @@ module _ {lim : Limits} (l : ℕ) (here : Stands lim l) where
   unfolding a_binder ◌⨟◌
   binder_tells = alone (told_either _ cases told_stop)
     where
-    cases : (k : Kind) (s : Span) → Case lim (λ ns. ns) (Grammar.binder l) k s (binder_case k)
-    cases Name s = a_name' s _ (told_give _ refl)
-    cases (Sign UnderscoreSign) s = a_sign' UnderscoreSign s _ (told_give _ refl)
-    cases _ s = tt
+      cases : (k : Kind) (s : Span) → Case lim (λ ns. ns) (Grammar.binder l) k s (binder_case k)
+      cases Name s = a_name' s _ (told_give _ refl)
+      cases (Sign UnderscoreSign) s = a_sign' UnderscoreSign s _ (told_give _ refl)
+      cases _ s = tt
 
   pub name_tells : Tells lim a_name_there (name l)
   unfolding a_name_there ◌⨟◌
   name_tells = alone (told_either _ cases told_stop)
     where
-    cases : (k : Kind) (s : Span) → Case lim (λ ns. ns) (name l) k s (name_case k)
-    cases Name s = a_name' s _ (told_give _ refl)
-    cases _ s = tt
+      cases : (k : Kind) (s : Span) → Case lim (λ ns. ns) (name l) k s (name_case k)
+      cases Name s = a_name' s _ (told_give _ refl)
+      cases _ s = tt
 
   pub number_tells : Tells lim a_number_there (number l)
   unfolding a_number_there ◌⨟◌
   number_tells = alone (told_either _ cases told_stop)
     where
-    cases : (k : Kind) (s : Span) → Case lim (λ ns. ns) (number l) k s (number_case k)
-    cases (Number v) s = a_number' v s _ (told_give _ refl)
-    cases _ s = tt
+      cases : (k : Kind) (s : Span) → Case lim (λ ns. ns) (number l) k s (number_case k)
+      cases (Number v) s = a_number' v s _ (told_give _ refl)
+      cases _ s = tt
 
   over_tells : Tells lim over_there (Grammar.over l)
   unfolding over_there ◌⨟◌
@@ -130,11 +116,11 @@ module _ {lim : Limits} (l : ℕ) (here : Stands lim l) where
   unfolding a_heap ◌⨟◌
   heap_tells = alone (told_either _ cases told_stop)
     where
-    cases : (k : Kind) (s : Span) → Case lim (λ ns. ns) (Grammar.heap l) k s (heap_case k)
-    cases Name s = a_name' s _ (told_give _ refl)
-    cases (Keyword InitWord) s = at_word InitWord s _ (told_last (heaps.Init s.from) over_tells (λ n. refl))
-    cases (Keyword MemWord) s = at_word MemWord s _ (told_last (heaps.Mem s.from) over_tells (λ n. refl))
-    cases _ s = tt
+      cases : (k : Kind) (s : Span) → Case lim (λ ns. ns) (Grammar.heap l) k s (heap_case k)
+      cases Name s = a_name' s _ (told_give _ refl)
+      cases (Keyword InitWord) s = at_word InitWord s _ (told_last (heaps.Init s.from) over_tells (λ n. refl))
+      cases (Keyword MemWord) s = at_word MemWord s _ (told_last (heaps.Mem s.from) over_tells (λ n. refl))
+      cases _ s = tt
 
   -- ---- lists with commas
 
@@ -202,9 +188,9 @@ module _ {lim : Limits} (d : Deeper) (l : ℕ) (here : Stands lim l) (trust : Tr
   opens_told (suc n) opens = told_either _ (cases n opens (λ s. opens_told n (s.from ∷ opens))) (told_then _ mono_name_tells (λ x. told_then _ right_tells (λ r.
       reround _ _ (λ ns. ap (opened l opens) (after_name l x r ns)) (closes_told opens (with_right (m_name x) r)))))
     where
-    cases : (n : ℕ) (opens : List ℕ) → ((s : Span) → Told lim (opened l (s.from ∷ opens)) (mono_opens d n (s.from ∷ opens)) (Grammar.mono l)) → (k : Kind) (s : Span) → Case lim (opened l opens) (Grammar.mono l) k s (mono_case (mono_opens d n) opens k)
-    cases n opens next (Sign OpenParenSign) s = at_sign l here OpenParenSign s _ (next s)
-    cases n opens next _ s = tt
+      cases : (n : ℕ) (opens : List ℕ) → ((s : Span) → Told lim (opened l (s.from ∷ opens)) (mono_opens d n (s.from ∷ opens)) (Grammar.mono l)) → (k : Kind) (s : Span) → Case lim (opened l opens) (Grammar.mono l) k s (mono_case (mono_opens d n) opens k)
+      cases n opens next (Sign OpenParenSign) s = at_sign l here OpenParenSign s _ (next s)
+      cases n opens next _ s = tt
 
   pub mono_tells : Tells lim (mono_at d) (Grammar.mono l)
   unfolding mono_at opened
