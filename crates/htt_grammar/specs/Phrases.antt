@@ -71,14 +71,19 @@ a_heap = either heap_case stop
 
 -- ---- monotypes
 
--- what stands at the right of an operand
-unfoldable pub mono_right : Deeper → FactorTree → Reader MonoTree
-mono_right d f = either (that (Sign StarSign) (d.mono >>= (λ m. give (m_pair f m)))) (give (m_factor f))
+-- a factor with what stands at the right of it
+abbrev pub with_right : FactorTree → Option MonoTree → MonoTree
+with_right f None = m_factor f
+with_right f (Some m) = m_pair f m
+
+-- what stands at the right of a factor
+unfoldable pub mono_right : Deeper → Reader (Option MonoTree)
+mono_right d = either (that (Sign StarSign) (d.mono >>= (λ m. give (Some m)))) (give None)
 
 -- the brackets that are open, from the innermost, are closed one after the other
 unfoldable pub mono_closes : Deeper → List ℕ → MonoTree → Reader MonoTree
 mono_closes d [] m = give m
-mono_closes d (at ∷ opens) m = token (Sign CloseParenSign) >>= (λ _. mono_right d (m_brackets at m) >>= mono_closes d opens)
+mono_closes d (at ∷ opens) m = token (Sign CloseParenSign) >>= (λ _. mono_right d >>= (λ r. mono_closes d opens (with_right (m_brackets at m) r)))
 
 abbrev pub mono_name_case : Kind → Option (Span → Reader MonoName)
 mono_name_case Name = Some (λ s. give (mono_names.Name s))
@@ -89,7 +94,7 @@ mono_name_case (Keyword UnitWord) = Some (λ s. give (mono_names.Unit s.from))
 mono_name_case _ = None
 
 unfoldable pub mono_inside : Deeper → List ℕ → Reader MonoTree
-mono_inside d opens = either mono_name_case stop >>= (λ n. mono_right d (m_name n) >>= mono_closes d opens)
+mono_inside d opens = either mono_name_case stop >>= (λ n. mono_right d >>= (λ r. mono_closes d opens (with_right (m_name n) r)))
 
 -- opens brackets, at most as many as there are tokens
 abbrev pub mono_case : (List ℕ → Reader MonoTree) → List ℕ → Kind → Option (Span → Reader MonoTree)
