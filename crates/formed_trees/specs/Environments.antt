@@ -1,4 +1,4 @@
--- A formed environment, with the context in it.
+-- Formed environments, and formed contexts in them.
 use Rattle.std.specs.Prelude.{◌≡◌, ℕ, ◌≤◌, List, [], ◌∷◌, Some, All, length, take, slice_get}
 use Rattle.htt_syntax.specs.Trees.{MonoTree, TyTree, TermTree, y_mono, m_word}
 use Rattle.htt_truth.specs.Predicates.{RecTree}
@@ -47,15 +47,19 @@ pub record IsFormedRec (file : FileShapes) (r : RecTree) : Type 0 where
   pub at_zero : IsFormedFormula file (context_shape (zero_context r.params)) r.at_zero
   pub at_next : IsFormedFormula file (context_shape (next_context r.params)) r.at_next
 
-pub record IsFormedEnvironment (env : Environment) (g : Context) : Type 0 where
+pub record IsFormedEnvironment (env : Environment) : Type 0 where
   -- the types of values and definitions are formed and canonical without entries
   pub val_types : (number : ℕ) (ty : TyTree) → slice_get env.vals number ≡ Some ty → IsFormedTy (file_shapes env) [] ty
   pub def_types : (number : ℕ) (definition : TyTree × TermTree) → slice_get env.defs number ≡ Some definition → IsFormedTy (file_shapes env) [] (definition.0)
   pub vals_end : (number : ℕ) (ty : TyTree) → slice_get env.vals number ≡ Some ty → EndsInHoare ty
-  pub entries : IsFormedContext (file_shapes env) g
   pub def_terms : (number : ℕ) (definition : TyTree × TermTree) → slice_get env.defs number ≡ Some definition → IsDefined (before_def env number) definition
   pub recs_formed : (number : ℕ) (r : RecTree) → slice_get env.recs number ≡ Some r → IsFormedRec (file_shapes env) r
   -- each recursive atom is one of an earlier predicate, or above 0 the predicate's own at the index
   -- less one
   pub recs_founded : IsFoundedTable env.recs
+
+-- a formed environment with a formed context that isn't too long
+pub record IsFormedIn (env : Environment) (g : Context) : Type 0 where
+  pub environment : IsFormedEnvironment env
+  pub entries : IsFormedContext (file_shapes env) g
   pub few : length g ≤ entry_limit
