@@ -14,7 +14,7 @@ use Rattle.sorted_trees.proofs.Instances.{instance_sorted}
 use Rattle.axioms_true.specs.Laws.{AreOfSorts, AreOfShape}
 use Rattle.axioms_true.proofs.True.{axioms}
 use Rattle.typed_values.specs.FirstOrder.{IsFirstOrder, sorts_of}
-use Rattle.typed_values.specs.Environments.{IsFormedEnvironment}
+use Rattle.formed_trees.specs.Environments.{IsFormedEnvironment}
 use Rattle.typed_values.proofs.Formed.{SortedContext, mono_formed}
 use Rattle.typed_values.proofs.TypedForms.{SoundEnvironment}
 use Rattle.typed_values.proofs.Sorted.{values, term_sorted}

@@ -17,14 +17,16 @@ use Rattle.canonical_trees.specs.Eta.{expansion}
 use Rattle.substitution.specs.Closing.{closing}
 use Rattle.substitution.specs.Substitution.{u_y_mono, u_bin, u_reduced, u_word, r_var, u_f_emp}
 use Rattle.htt_typing.specs.Places.{plain_ty}
-use Rattle.htt_typing.specs.Contexts.{type_here, type_there, heap_here, forms_word}
-use Rattle.htt_typing.specs.Typing.{forms_mono, forms_fun, forms_hoare, forms_triple, forms_tt, forms_eq, forms_rec, fits_none, fits_more, gives_var, gives_word, gives_def, gives_app, gives_bin, fits_lam, fits_given}
+use Rattle.htt_typing.specs.Contexts.{EndsInHoare, type_here, forms_word}
+use Rattle.htt_typing.specs.Typing.{forms_eq, gives_var, gives_word, gives_def, gives_app, gives_bin, fits_lam, fits_given}
 use Rattle.proof_rules.specs.Rules.{infers_hyp, infers_inst_term}
 use Rattle.proof_rules.specs.Examples.{doubles, env, with_word, with_heap, is_five}
 use Rattle.proof_rules.proofs.Examples as derivations
 use Rattle.sorted_trees.specs.Sorts.{SortedMono, SortedTerm, SortedFormula}
 use Rattle.typed_values.specs.FirstOrder.{sorts_of, IsFirstOrder, fo_none, fo_value, fo_heap}
-use Rattle.typed_values.specs.Environments.{IsFormedVal, IsFormedDef, IsFormedRec, IsFormedEnvironment}
+use Rattle.formed_trees.specs.Shapes.{shape, rename_shape, heap_at_zero, shape_at_zero, shape_further}
+use Rattle.formed_trees.specs.Formed.{file_shapes, IsFormedMono, z_m_word, z_word, z_bin, z_neutral, w_var, z_no_terms, z_more_terms, IsFormedTy, z_mono, z_fun, z_hoare, z_triple, z_tt, z_equal, z_rec}
+use Rattle.formed_trees.specs.Environments.{before_def, IsDefined, IsFormedRec, IsFormedEnvironment}
 use Rattle.proofs_true.specs.Examples.{successor, word_to_word, with_definition, one_block, against_its_sort, WorkedExamples, SortsAreNeeded}
 use Rattle.proofs_true.proofs.True.{inferred, proved}
 
@@ -48,40 +50,54 @@ table_founded : IsFoundedTable (doubles ∷ [])
 table_founded zero r e = subst (IsFounded 0) (same_rec e) doubles_founded
 table_founded (suc p) r e = absurd (no_element e)
 
-doubles_formed : IsFormedRec env doubles
-unfolding contractum expansion rename_ty rename_mono
+doubles_formed : IsFormedRec (file_shapes env) doubles
+unfolding rename_shape rename_mono contractum shape
 doubles_formed = record {
-  params = (forms_word, tt);
-  at_zero = forms_eq forms_word (fits_given tt (gives_var (type_there type_here)) refl) (fits_given tt (gives_word (omega arith)) refl);
-  at_next = forms_rec refl heap_here (fits_given tt (gives_var (type_there (type_there type_here))) refl) (fits_more (fits_given tt (gives_bin (fits_given tt (gives_var (type_there type_here)) refl) (fits_given tt (gives_word (omega arith)) refl)) refl) fits_none);
+  params = All-cons (IsFormedMono []) m_word [] z_m_word (All-nil (IsFormedMono []));
+  at_zero = z_equal z_m_word (z_neutral (w_var (shape_further shape_at_zero))) (z_word (omega arith));
+  at_next = z_rec refl heap_at_zero (z_neutral (w_var (shape_further (shape_further shape_at_zero)))) (z_more_terms (z_bin (z_neutral (w_var (shape_further shape_at_zero))) (z_word (omega arith)) refl) z_no_terms);
 }
 
-recs_formed : (n : ℕ) (r : RecTree) → slice_get (doubles ∷ []) n ≡ Some r → IsFormedRec env r
-recs_formed zero r e = subst (IsFormedRec env) (same_rec e) doubles_formed
+recs_formed : (n : ℕ) (r : RecTree) → slice_get (doubles ∷ []) n ≡ Some r → IsFormedRec (file_shapes env) r
+recs_formed zero r e = subst (IsFormedRec (file_shapes env)) (same_rec e) doubles_formed
 recs_formed (suc n) r e = absurd (no_element e)
 
 predicate_formed : IsFormedEnvironment env
-predicate_formed = record { vals = λ n ty e. absurd (no_element e); defs = λ n d e. absurd (no_element e); recs = recs_formed; founded = table_founded }
+predicate_formed = record {
+  val_types = λ n ty e. absurd (no_element e);
+  def_types = λ n d e. absurd (no_element e);
+  vals_end = λ n ty e. absurd (no_element e);
+  def_terms = λ n d e. absurd (no_element e);
+  recs_formed = recs_formed;
+  recs_founded = table_founded;
+}
 
-val_formed : (n : ℕ) (ty : TyTree) → slice_get (y_hoare (triple f_tt m_word f_tt) ∷ []) n ≡ Some ty → IsFormedVal with_definition ty
-val_formed zero ty e = subst (IsFormedVal with_definition) (same_type e) (record { formed = forms_hoare (forms_triple forms_tt forms_word forms_tt); ends = tt })
+val_formed : (n : ℕ) (ty : TyTree) → slice_get (y_hoare (triple f_tt m_word f_tt) ∷ []) n ≡ Some ty → IsFormedTy (file_shapes with_definition) [] ty × EndsInHoare ty
+val_formed zero ty e = subst (λ (a : TyTree). IsFormedTy (file_shapes with_definition) [] a × EndsInHoare a) (same_type e) (z_hoare (z_triple z_tt z_m_word z_tt), tt)
 val_formed (suc n) ty e = absurd (no_element e)
 
-successor_formed : IsFormedDef with_definition 0 (word_to_word, successor)
+successor_defined : IsDefined (before_def with_definition 0) (word_to_word, successor)
 unfolding contractum expansion rename_ty rename_mono
-successor_formed = record {
-  formed = forms_fun (forms_mono forms_word) (forms_mono forms_word);
-  term = successor;
+successor_defined = record {
+  written = successor;
   owed = [];
   fits = fits_lam (fits_given tt (gives_bin (fits_given tt (gives_var type_here) refl) (fits_given tt (gives_word (omega arith)) refl)) refl);
 }
 
-def_formed : (n : ℕ) (d : TyTree × TermTree) → slice_get ((word_to_word, successor) ∷ []) n ≡ Some d → IsFormedDef with_definition n d
-def_formed zero d e = subst (IsFormedDef with_definition 0) (same_definition e) successor_formed
+def_formed : (n : ℕ) (d : TyTree × TermTree) → slice_get ((word_to_word, successor) ∷ []) n ≡ Some d → IsFormedTy (file_shapes with_definition) [] (d.0) × IsDefined (before_def with_definition n) d
+unfolding shape
+def_formed zero d e = subst (λ (x : TyTree × TermTree). IsFormedTy (file_shapes with_definition) [] (x.0) × IsDefined (before_def with_definition 0) x) (same_definition e) (z_fun (z_mono z_m_word) refl (z_mono z_m_word), successor_defined)
 def_formed (suc n) d e = absurd (no_element e)
 
 definition_formed : IsFormedEnvironment with_definition
-definition_formed = record { vals = val_formed; defs = def_formed; recs = λ n r e. absurd (no_element e); founded = λ n r e. absurd (no_element e) }
+definition_formed = record {
+  val_types = λ n ty e. (val_formed n ty e).0;
+  def_types = λ n d e. (def_formed n d e).0;
+  vals_end = λ n ty e. (val_formed n ty e).1;
+  def_terms = λ n d e. (def_formed n d e).1;
+  recs_formed = λ n r e. absurd (no_element e);
+  recs_founded = λ n r e. absurd (no_element e);
+}
 
 words : IsFirstOrder with_word (o_value m_word ∷ [])
 words = fo_value forms_word fo_none

@@ -32,7 +32,7 @@ use Rattle.word_laws.proofs.Order.{below}
 use Rattle.word_laws.proofs.Induction.{word_induction}
 use Rattle.axioms_true.proofs.Values.{literal_at, op_given, WordAt}
 use Rattle.typed_values.specs.FirstOrder.{sorts_of}
-use Rattle.typed_values.specs.Environments.{IsFormedEnvironment}
+use Rattle.formed_trees.specs.Environments.{IsFormedEnvironment}
 use Rattle.typed_values.proofs.Formed.{SortedTy, SortedContext}
 use Rattle.typed_values.proofs.TypedForms.{SoundEnvironment}
 use Rattle.typed_values.proofs.Environments.{sound}
@@ -152,9 +152,9 @@ infers_sorted (infers_second p) f c s = (infers_sorted p f c s).1
 infers_sorted (infers_app p q) f c s = (infers_sorted p f c s).1
 infers_sorted {env = env} {g = g} (infers_inst_term {m' = m'} p d u) f c s = put_sorted m' (sorts_of g) u (term_sorted (sound env f) c d) (infers_sorted p f c s).1
 infers_sorted {g = g} (infers_inst_heap {h = h} {F = F} p i) f c s = sorting.heap_sorted h (sorts_of g) (heap_entry i) F (infers_sorted p f c s)
-infers_sorted {env = env} {g = g} (infers_axiom axiom_name {monos = monos} {arguments' = values} {F = F} text m shaped side fits row) f c s = arguments.instance_is_sorted (sorts_of g) axiom_name monos values F row (arguments.monos_sorted m) (arguments.args_sorted fits (sound env f) c)
+infers_sorted {env = env} {g = g} (infers_axiom axiom_name {monos = monos} {arguments' = values} {F = F} text m shaped side sorted fits row) f c s = arguments.instance_is_sorted (sorts_of g) axiom_name monos values F row (arguments.monos_sorted m) (arguments.args_sorted fits (sound env f) c)
 infers_sorted {env = env} (infers_lem p) f c s = let d = formula_sorted p (sound env f) c in (d, (d, tt))
 infers_sorted {env = env} (infers_the p q) f c s = formula_sorted p (sound env f) c
-infers_sorted {env = env} {g = g} (infers_at_zero {number = number} {r = r} {h = h} {arguments = args} {values = values} {F = F} e fits put) f c s = zero_is_sorted env f g c number r e h args values fits F put
-infers_sorted {env = env} {g = g} (infers_at_next {number = number} {r = r} {h = h} {m = m} {arguments = args} {values = values} {F = F} e fits put) f c s = next_is_sorted env f g c number r e h m args values fits F put
+infers_sorted {env = env} {g = g} (infers_at_zero {number = number} {r = r} {h = h} {arguments = args} {values = values} {F = F} e sorted fits put) f c s = zero_is_sorted env f g c number r e h args values fits F put
+infers_sorted {env = env} {g = g} (infers_at_next {number = number} {r = r} {h = h} {m = m} {arguments = args} {values = values} {F = F} e sorted fits put) f c s = next_is_sorted env f g c number r e h m args values fits F put
 infers_sorted (infers_at p) f c s = infers_sorted p f c s

@@ -26,7 +26,10 @@ use Rattle.term_values.proofs.Plain.{same_value, same_truth}
 use Rattle.word_laws.specs.Laws.{IsBelow}
 use Rattle.axioms_true.proofs.Values.{WordTerm, as_word}
 use Rattle.typed_values.specs.FirstOrder.{IsFirstOrder, sorts_of}
-use Rattle.typed_values.specs.Environments.{IsFormedEnvironment}
+use Rattle.formed_trees.specs.Shapes.{context_shape}
+use Rattle.formed_trees.specs.Formed.{file_shapes, IsFormedFormula}
+use Rattle.formed_trees.specs.Environments.{IsFormedEnvironment}
+use Rattle.typed_values.proofs.FormedTrees.{first_order_alike, formed_sorted}
 use Rattle.typed_values.proofs.Environments.{sound}
 use Rattle.typed_values.proofs.Sorted.{term_sorted, formula_sorted, context_sorted}
 use Rattle.proofs_true.specs.Sequents.{Each, AreSorted, AreTrue}
@@ -82,11 +85,11 @@ mutual
   infers_true (infers_app p q) f s = infers_true p f s (proves_true q f s (sorted_in p f s).0)
   infers_true {env = env} {g = g} (infers_inst_term {m' = m'} {t = t} p d u) f {w = w} s = put_in (recs_of env.recs) m' (sorts_of g) w u (sorted_in p f s).1 (infers_true p f s (term_value w m') (arguments.value_of_term t f s.first_order s.world d))
   infers_true (infers_inst_heap {h = h} {F = F} p i) f {w = w} s = heap_put h F s i (infers_true p f s (heap_at w h) (heap_there h (heap_entry i) s.first_order s.world).1)
-  infers_true {env = env} {g = g} (infers_axiom axiom_name {monos = monos} {sorts = sorts} {arguments = args} {arguments' = values} {F = F} text m shaped side fits row) f {w = w} s = arguments.instances env f g s.entries s.first_order axiom_name monos sorts args values shaped fits F (record { side_condition = side; row = row }) w s.world
+  infers_true {env = env} {g = g} (infers_axiom axiom_name {monos = monos} {sorts = sorts} {arguments = args} {arguments' = values} {F = F} text m shaped side sorted fits row) f {w = w} s = arguments.instances env f g s.entries s.first_order axiom_name monos sorts args values shaped fits F (record { side_condition = side; row = row }) w s.world
   infers_true {env = env} (infers_lem {F' = F'} p) f {w = w} s = classical.excluded_middle env.recs w F'
   infers_true (infers_the p q) f s = proves_true q f s (formed_in p f s)
-  infers_true {env = env} {g = g} (infers_at_zero {number = number} {r = r} {h = h} {arguments = args} {values = values} {F = F} e fits put) f {w = w} s = unfolds_at_zero env f g s.entries s.first_order number r e h args values fits F put w s.world
-  infers_true {env = env} {g = g} (infers_at_next {number = number} {r = r} {h = h} {m = m} {arguments = args} {values = values} {F = F} e fits put) f {w = w} s = unfolds_at_next env f g s.entries s.first_order number r e h m args values fits F put w s.world
+  infers_true {env = env} {g = g} (infers_at_zero {number = number} {r = r} {h = h} {arguments = args} {values = values} {F = F} e sorted fits put) f {w = w} s = unfolds_at_zero env f g s.entries s.first_order number r e h args values fits F put w s.world
+  infers_true {env = env} {g = g} (infers_at_next {number = number} {r = r} {h = h} {m = m} {arguments = args} {values = values} {F = F} e sorted fits put) f {w = w} s = unfolds_at_next env f g s.entries s.first_order number r e h m args values fits F put w s.world
   infers_true (infers_at p) f s = infers_true p f s
 
   pub proves_true : {env : Environment} {g : Context} {hs : List FormulaTree} {p : ProofTree} {G : FormulaTree} → Proves env g hs p G → IsFormedEnvironment env → {w : World} → Scene env g hs w → SortedFormula (sorts_of g) G → Holds (recs_of env.recs) w G
@@ -148,8 +151,8 @@ each_to : (P Q : FormulaTree → Type 0) → ((F : FormulaTree) → P F → Q F)
 each_to P Q h [] d = tt
 each_to P Q h (F ∷ hs) d = (h F d.0, each_to P Q h hs d.1)
 
-formed_to_sorted : (env : Environment) → IsFormedEnvironment env → (g : Context) (c : List FirstOrder) → IsFirstOrder g c → (F : FormulaTree) → FormsFormula env g F F → SortedFormula (sorts_of g) F
-formed_to_sorted env f g c p F d = formula_sorted d (sound env f) (context_sorted p)
+formed_to_sorted : (env : Environment) → IsFormedEnvironment env → (g : Context) (c : List FirstOrder) → IsFirstOrder g c → (F : FormulaTree) → IsFormedFormula (file_shapes env) (context_shape g) F → SortedFormula (sorts_of g) F
+formed_to_sorted env f g c p F d = formed_sorted (file_shapes env) g F (first_order_alike p) d
 
 proved_sorted : (env : Environment) → IsFormedEnvironment env → (g : Context) (c : List FirstOrder) → IsFirstOrder g c → (hs : List FormulaTree) (G : FormulaTree) → AreSorted (sorts_of g) hs → SortedFormula (sorts_of g) G → (p : ProofTree) → Proves env g hs p G → (w : World) → IsWorld c w → AreTrue env w hs → Holds (recs_of env.recs) w G
 proved_sorted env f g c p hs G d e proof i w q t = proves_true i f (scene p q d t) e
@@ -157,7 +160,7 @@ proved_sorted env f g c p hs G d e proof i w q t = proves_true i f (scene p q d 
 pub proved : ProvedIsTrue
 proved = record {
   sorted = proved_sorted;
-  formed = λ env f g c p hs G d e proof i w q t. proved_sorted env f g c p hs G (each_to (λ F. FormsFormula env g F F) (SortedFormula (sorts_of g)) (formed_to_sorted env f g c p) hs d) (formed_to_sorted env f g c p G e) proof i w q t;
+  formed = λ env f g c p hs G d e proof i w q t. proved_sorted env f g c p hs G (each_to (IsFormedFormula (file_shapes env) (context_shape g)) (SortedFormula (sorts_of g)) (formed_to_sorted env f g c p) hs d) (formed_to_sorted env f g c p G e) proof i w q t;
   canonical = λ env f g c p heads hs G d e proof i w q t. proved_sorted env f g c p hs G (each_to (IsCanonicalFormula heads (standings (sorts_of g))) (SortedFormula (sorts_of g)) (canonicity.canonical.formulas heads (sorts_of g)) hs d) (canonicity.canonical.formulas heads (sorts_of g) G e) proof i w q t;
   alone = λ env f g c p G e proof i w q. proved_sorted env f g c p [] G tt (formed_to_sorted env f g c p G e) proof i w q tt;
 }

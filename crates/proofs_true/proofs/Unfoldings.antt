@@ -14,7 +14,7 @@ use Rattle.canonical_trees.specs.Folding.{folding}
 use Rattle.htt_typing.specs.Contexts.{en_term, Context, Environment}
 use Rattle.logic_axioms.specs.Table.{ArgSort, heap_sort, term_sort}
 use Rattle.proof_rules.specs.Sequents.{PutArgs, terms_of, FitsArgs, fits_no_args, fits_heap_arg, fits_term_arg, below_greatest, both_ways}
-use Rattle.sorted_trees.specs.Sorts.{Sort, Sorts, for_value, for_heap, HasSort, SortedMono, SortedFormula, AreSortedArgs, under_args, KeepsSorts}
+use Rattle.sorted_trees.specs.Sorts.{Sort, Sorts, for_value, for_heap, HasSort, SortedFormula, AreSortedArgs, under_args, KeepsSorts}
 use Rattle.sorted_trees.proofs.Renamed as sorting
 use Rattle.substitution_truth.specs.Reindexing.{AgreesOn, world_of_args, AreHeapsIn}
 use Rattle.substitution_truth.proofs.Entries.{agrees_next, truth_agrees}
@@ -23,10 +23,11 @@ use Rattle.word_laws.specs.Laws.{IsBelow}
 use Rattle.word_laws.proofs.Order.{below, next_word}
 use Rattle.axioms_true.proofs.Values.{WordTerm, as_word, op_given, literal_at, sum_at}
 use Rattle.typed_values.specs.FirstOrder.{IsFirstOrder, sorts_of}
-use Rattle.typed_values.specs.Environments.{AreFormedMonos, IsFormedEnvironment, under_params}
-use Rattle.typed_values.proofs.Formed.{SortedTy, SortedContext, mono_formed, wider_closed, ty_wider}
+use Rattle.formed_trees.specs.Environments.{IsFormedEnvironment, with_params, zero_context, next_context}
+use Rattle.formed_trees.specs.Formed.{file_shapes}
+use Rattle.typed_values.proofs.FormedTrees.{formed_sorted, heap_alike, value_alike, params_alike}
 use Rattle.typed_values.proofs.Environments.{sound}
-use Rattle.typed_values.proofs.Sorted.{formula_sorted, term_sorted, context_sorted}
+use Rattle.typed_values.proofs.Sorted.{term_sorted, context_sorted}
 use Rattle.proofs_true.specs.Laws.{UnfoldingsAreTrue}
 use Rattle.proofs_true.proofs.Scenes.{heap_there, heap_entry}
 use Rattle.proofs_true.proofs.Arguments.{value_of_term, args_sorted, more_sorted}
@@ -78,7 +79,7 @@ heaps_in w (a_term m ∷ others) h d e = heaps_in w others h d e
 agrees_none : (w v : World) → AgreesOn [] w v
 agrees_none w v = record { at = λ n s e. absurd (no_sort e) }
 
-agrees_params : (params : List MonoTree) (vs : List Value) (g : Context) (w v : World) → length vs ≡ length params → AgreesOn (sorts_of g) w v → AgreesOn (sorts_of (under_params g params)) (world_of_values w vs) (world_of_values v vs)
+agrees_params : (params : List MonoTree) (vs : List Value) (g : Context) (w v : World) → length vs ≡ length params → AgreesOn (sorts_of g) w v → AgreesOn (sorts_of (with_params g params)) (world_of_values w vs) (world_of_values v vs)
 agrees_params [] [] g w v e a = a
 agrees_params [] (x ∷ vs) g w v e a = absurd (omega (arith, e))
 agrees_params (t ∷ params) [] g w v e a = absurd (omega (arith, e))
@@ -94,7 +95,7 @@ keeps_next {g = g} {h = h} s k = record { at = go }
 keeps_none : (h : Sorts) → KeepsSorts (λ n. n) [] h
 keeps_none h = record { at = λ n s e. absurd (no_sort e) }
 
-keeps_params : (params : List MonoTree) (values : List ArgTree) (g : Context) (s : Sorts) (h : ℕ) → AllTerms values → length values ≡ length params → KeepsSorts (λ n. n) (sorts_of g) s → KeepsSorts (λ n. n) (for_heap ∷ sorts_of (under_params g params)) (under_args (values ++ a_heap h ∷ []) s)
+keeps_params : (params : List MonoTree) (values : List ArgTree) (g : Context) (s : Sorts) (h : ℕ) → AllTerms values → length values ≡ length params → KeepsSorts (λ n. n) (sorts_of g) s → KeepsSorts (λ n. n) (for_heap ∷ sorts_of (with_params g params)) (under_args (values ++ a_heap h ∷ []) s)
 keeps_params [] [] g s h d e k = keeps_next for_heap k
 keeps_params [] (x ∷ values) g s h d e k = absurd (omega (arith, e))
 keeps_params (t ∷ params) [] g s h d e k = absurd (omega (arith, e))
@@ -105,27 +106,18 @@ keeps_params (t ∷ params) (a_term m ∷ values) g s h d e k = keeps_params par
 wider_formula : (g h : Sorts) (F : FormulaTree) → KeepsSorts (λ n. n) g h → SortedFormula g F → SortedFormula h F
 wider_formula g h F k d = subst (SortedFormula h) (formula_stays (λ n. n) (λ n. refl) F) (sorting.formula_sorted F k d)
 
-params_context : (params : List MonoTree) (g : Context) → AreFormedMonos params → SortedContext g → SortedContext (under_params g params)
-unfolding SortedTy
-params_context [] g f c = c
-params_context (t ∷ params) g f c = params_context params (en_term (y_mono t) ∷ g) f.1 (ty_wider (y_mono t) (wider_closed (sorts_of g)) (mono_formed f.0), c)
+zero_sorted : (env : Environment) → IsFormedEnvironment env → (number : ℕ) (r : RecTree) → slice_get env.recs number ≡ Some r → SortedFormula (for_heap ∷ sorts_of (with_params [] r.params)) r.at_zero
+zero_sorted env f number r e = formed_sorted (file_shapes env) (zero_context r.params) r.at_zero (heap_alike (with_params [] r.params) (params_alike r.params [] refl)) (f.recs_formed number r e).at_zero
 
-word_context : SortedContext (en_term (y_mono m_word) ∷ [])
-unfolding SortedTy SortedMono
-word_context = (tt, tt)
-
-zero_sorted : (env : Environment) → IsFormedEnvironment env → (number : ℕ) (r : RecTree) → slice_get env.recs number ≡ Some r → SortedFormula (for_heap ∷ sorts_of (under_params [] r.params)) r.at_zero
-zero_sorted env f number r e = let q = f.recs number r e in formula_sorted q.at_zero (sound env f) (params_context r.params [] q.params tt)
-
-next_sorted : (env : Environment) → IsFormedEnvironment env → (number : ℕ) (r : RecTree) → slice_get env.recs number ≡ Some r → SortedFormula (for_heap ∷ sorts_of (under_params (en_term (y_mono m_word) ∷ []) r.params)) r.at_next
-next_sorted env f number r e = let q = f.recs number r e in formula_sorted q.at_next (sound env f) (params_context r.params (en_term (y_mono m_word) ∷ []) q.params word_context)
+next_sorted : (env : Environment) → IsFormedEnvironment env → (number : ℕ) (r : RecTree) → slice_get env.recs number ≡ Some r → SortedFormula (for_heap ∷ sorts_of (with_params (en_term (y_mono m_word) ∷ []) r.params)) r.at_next
+next_sorted env f number r e = formed_sorted (file_shapes env) (next_context r.params) r.at_next (heap_alike (with_params (en_term (y_mono m_word) ∷ []) r.params) (params_alike r.params (en_term (y_mono m_word) ∷ []) (value_alike m_word [] refl))) (f.recs_formed number r e).at_next
 
 -- the sorts of the bodies where the arguments are put
 pub zero_sorted_put : (env : Environment) → IsFormedEnvironment env → (number : ℕ) (r : RecTree) → slice_get env.recs number ≡ Some r → (s : Sorts) (values : List ArgTree) (h : ℕ) → AllTerms values → length values ≡ length r.params → SortedFormula (under_args (values ++ a_heap h ∷ []) s) r.at_zero
-zero_sorted_put env f number r e s values h all long = wider_formula (for_heap ∷ sorts_of (under_params [] r.params)) (under_args (values ++ a_heap h ∷ []) s) r.at_zero (keeps_params r.params values [] s h all long (keeps_none s)) (zero_sorted env f number r e)
+zero_sorted_put env f number r e s values h all long = wider_formula (for_heap ∷ sorts_of (with_params [] r.params)) (under_args (values ++ a_heap h ∷ []) s) r.at_zero (keeps_params r.params values [] s h all long (keeps_none s)) (zero_sorted env f number r e)
 
 pub next_sorted_put : (env : Environment) → IsFormedEnvironment env → (number : ℕ) (r : RecTree) → slice_get env.recs number ≡ Some r → (s : Sorts) (values : List ArgTree) (h : ℕ) → AllTerms values → length values ≡ length r.params → SortedFormula (under_args (values ++ a_heap h ∷ []) (for_value ∷ s)) r.at_next
-next_sorted_put env f number r e s values h all long = wider_formula (for_heap ∷ sorts_of (under_params (en_term (y_mono m_word) ∷ []) r.params)) (under_args (values ++ a_heap h ∷ []) (for_value ∷ s)) r.at_next (keeps_params r.params values (en_term (y_mono m_word) ∷ []) (for_value ∷ s) h all long (keeps_next for_value (keeps_none s))) (next_sorted env f number r e)
+next_sorted_put env f number r e s values h all long = wider_formula (for_heap ∷ sorts_of (with_params (en_term (y_mono m_word) ∷ []) r.params)) (under_args (values ++ a_heap h ∷ []) (for_value ∷ s)) r.at_next (keeps_params r.params values (en_term (y_mono m_word) ∷ []) (for_value ∷ s) h all long (keeps_next for_value (keeps_none s))) (next_sorted env f number r e)
 
 -- the first body with the arguments put in is the body in the predicate's own world
 zero_body : (env : Environment) → IsFormedEnvironment env → (number : ℕ) (r : RecTree) → slice_get env.recs number ≡ Some r → (s : Sorts) (w : World) (values : List ArgTree) (h : ℕ) → AllTerms values → length values ≡ length r.params → AreSortedArgs s (values ++ a_heap h ∷ []) → thing_at w h ≡ th_heap (heap_at w h) → (F : FormulaTree) → PutArgs (values ++ a_heap h ∷ []) r.at_zero F → Holds (recs_of env.recs) w F ≡ Holds (recs_of env.recs) (zero_world (term_values w (terms_of values)) (heap_at w h)) r.at_zero
@@ -159,7 +151,7 @@ unfolds_at_zero env f g c p number r e h arguments values (fits_heap_arg i rest)
     let t = fits_terms rest r.params refl in
     let entry = heap_entry i in
     let sorted = more_sorted (sorts_of g) values h (args_sorted rest (sound env f) (context_sorted p)) entry in
-    through (unfolds.at_zero env.recs f.founded number r e (term_values w (terms_of values)) (heap_at w h)) (zero_body env f number r e (sorts_of g) w values h t.0 t.1 sorted (heap_there h entry p q).0 F put)
+    through (unfolds.at_zero env.recs f.recs_founded number r e (term_values w (terms_of values)) (heap_at w h)) (zero_body env f number r e (sorts_of g) w values h t.0 t.1 sorted (heap_there h entry p q).0 F put)
 
 -- the word after a word that isn't the greatest
 next_place : (w : World) (m : TermTree) (a : WordTerm w m) → term_value w (folding (t_bin Lt m (t_word 18446744073709551615))) ≡ term_value w (t_bool true) → word_of (term_value w (folding (t_bin Add m (t_word 1)))) ≡ suc a.number
@@ -178,7 +170,7 @@ unfolds_at_next env f g c p number r e h m arguments values (fits_heap_arg i (fi
     let a = as_word w m (value_of_term m_word f p q d) in
     let sorted : AreSortedArgs (sorts_of g) (a_term m ∷ values ++ a_heap h ∷ []) = (term_sorted (sound env f) (context_sorted p) d, more_sorted (sorts_of g) values h (args_sorted rest (sound env f) (context_sorted p)) entry) in
     let vs = term_values w (terms_of values) in
-    let law = unfolds.at_next env.recs f.founded number r e a.number vs (as_many w values t.0 ∙ t.1) (heap_at w h) in
+    let law = unfolds.at_next env.recs f.recs_founded number r e a.number vs (as_many w values t.0 ∙ t.1) (heap_at w h) in
     let said = ap (λ (n : ℕ). recs_of env.recs number n vs (heap_at w h)) (next_place w m a isb) in
     let body = next_body env f number r e (sorts_of g) w m a.number a.at.same values h t.0 t.1 sorted (heap_there h entry p q).0 F put in
     through ((λ x. law.0 (subst as_is said x)), (λ y. subst as_is (sym said) (law.1 y))) body

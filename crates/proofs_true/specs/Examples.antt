@@ -14,7 +14,7 @@ use Rattle.proof_rules.specs.Sequents.{both_ways}
 use Rattle.proof_rules.specs.Rules.{Infers}
 use Rattle.proof_rules.specs.Examples.{env, with_word, with_heap, is_five}
 use Rattle.typed_values.specs.FirstOrder.{IsFirstOrder}
-use Rattle.typed_values.specs.Environments.{IsFormedEnvironment}
+use Rattle.formed_trees.specs.Environments.{IsFormedEnvironment}
 use Rattle.proofs_true.specs.Sequents.{AreTrue}
 
 -- fun y . y + 1, of words

@@ -9,7 +9,8 @@ use Rattle.canonical_trees.specs.Contexts.{Heads}
 use Rattle.canonical_trees.specs.Canonical.{IsCanonicalFormula}
 use Rattle.canonical_trees.specs.Folding.{folding}
 use Rattle.htt_typing.specs.Contexts.{Context, Environment}
-use Rattle.htt_typing.specs.Typing.{FormsFormula}
+use Rattle.formed_trees.specs.Shapes.{context_shape}
+use Rattle.formed_trees.specs.Formed.{file_shapes, IsFormedFormula}
 use Rattle.logic_axioms.specs.Names.{AxiomName}
 use Rattle.logic_axioms.specs.Table.{ArgSort, heap_sort, term_sort, shape_of, IsInstance}
 use Rattle.proof_rules.specs.Sequents.{PutArgs, terms_of, FitsArgs, below_greatest, both_ways}
@@ -17,7 +18,7 @@ use Rattle.proof_rules.specs.Rules.{Infers, Proves}
 use Rattle.sorted_trees.specs.Sorts.{SortedFormula}
 use Rattle.sorted_trees.specs.Laws.{standings}
 use Rattle.typed_values.specs.FirstOrder.{IsFirstOrder, sorts_of}
-use Rattle.typed_values.specs.Environments.{IsFormedEnvironment}
+use Rattle.formed_trees.specs.Environments.{IsFormedEnvironment}
 use Rattle.proofs_true.specs.Sequents.{Each, AreSorted, AreFormed, AreTrue}
 
 -- An instance of an axiom at the canonical forms of arguments that fit its sorts.
@@ -37,6 +38,6 @@ InferredIsTrue = (env : Environment) → IsFormedEnvironment env → (g : Contex
 -- canonical with any heads; and a goal without hypotheses.
 pub record ProvedIsTrue : Type 0 where
   pub sorted : (env : Environment) → IsFormedEnvironment env → (g : Context) (c : List FirstOrder) → IsFirstOrder g c → (hypotheses : List FormulaTree) (goal : FormulaTree) → AreSorted (sorts_of g) hypotheses → SortedFormula (sorts_of g) goal → (p : ProofTree) → Proves env g hypotheses p goal → (w : World) → IsWorld c w → AreTrue env w hypotheses → Holds (recs_of env.recs) w goal
-  pub formed : (env : Environment) → IsFormedEnvironment env → (g : Context) (c : List FirstOrder) → IsFirstOrder g c → (hypotheses : List FormulaTree) (goal : FormulaTree) → AreFormed env g hypotheses → FormsFormula env g goal goal → (p : ProofTree) → Proves env g hypotheses p goal → (w : World) → IsWorld c w → AreTrue env w hypotheses → Holds (recs_of env.recs) w goal
+  pub formed : (env : Environment) → IsFormedEnvironment env → (g : Context) (c : List FirstOrder) → IsFirstOrder g c → (hypotheses : List FormulaTree) (goal : FormulaTree) → AreFormed env g hypotheses → IsFormedFormula (file_shapes env) (context_shape g) goal → (p : ProofTree) → Proves env g hypotheses p goal → (w : World) → IsWorld c w → AreTrue env w hypotheses → Holds (recs_of env.recs) w goal
   pub canonical : (env : Environment) → IsFormedEnvironment env → (g : Context) (c : List FirstOrder) → IsFirstOrder g c → (heads : Heads) (hypotheses : List FormulaTree) (goal : FormulaTree) → Each (IsCanonicalFormula heads (standings (sorts_of g))) hypotheses → IsCanonicalFormula heads (standings (sorts_of g)) goal → (p : ProofTree) → Proves env g hypotheses p goal → (w : World) → IsWorld c w → AreTrue env w hypotheses → Holds (recs_of env.recs) w goal
-  pub alone : (env : Environment) → IsFormedEnvironment env → (g : Context) (c : List FirstOrder) → IsFirstOrder g c → (goal : FormulaTree) → FormsFormula env g goal goal → (p : ProofTree) → Proves env g [] p goal → (w : World) → IsWorld c w → Holds (recs_of env.recs) w goal
+  pub alone : (env : Environment) → IsFormedEnvironment env → (g : Context) (c : List FirstOrder) → IsFirstOrder g c → (goal : FormulaTree) → IsFormedFormula (file_shapes env) (context_shape g) goal → (p : ProofTree) → Proves env g [] p goal → (w : World) → IsWorld c w → Holds (recs_of env.recs) w goal

@@ -5,7 +5,8 @@ use Rattle.htt_truth.specs.Worlds.{World}
 use Rattle.htt_truth.specs.Truth.{Holds}
 use Rattle.htt_truth.specs.Predicates.{recs_of}
 use Rattle.htt_typing.specs.Contexts.{Context, Environment}
-use Rattle.htt_typing.specs.Typing.{FormsFormula}
+use Rattle.formed_trees.specs.Shapes.{context_shape}
+use Rattle.formed_trees.specs.Formed.{file_shapes, IsFormedFormula}
 use Rattle.sorted_trees.specs.Sorts.{Sorts, SortedFormula}
 
 abbrev pub Each : (FormulaTree → Type 0) → List FormulaTree → Type 0
@@ -16,9 +17,9 @@ Each P (F ∷ others) = P F × Each P others
 abbrev pub AreSorted : Sorts → List FormulaTree → Type 0
 AreSorted g hypotheses = Each (SortedFormula g) hypotheses
 
--- They are formed, and canonical: each is its own canonical form.
+-- They are formed, and canonical.
 abbrev pub AreFormed : Environment → Context → List FormulaTree → Type 0
-AreFormed env g hypotheses = Each (λ F. FormsFormula env g F F) hypotheses
+AreFormed env g hypotheses = Each (IsFormedFormula (file_shapes env) (context_shape g)) hypotheses
 
 -- They are true in the world, with what the environment's predicates say.
 abbrev pub AreTrue : Environment → World → List FormulaTree → Type 0
