@@ -3,7 +3,7 @@ use Rattle.std.proofs.Common.{ℕ, ◌≡◌, ◌+◌, ◌≤◌, List, [], ◌�
 use Rattle.std.proofs.lemmas.List.{length-append, length-take-le, length-drop, take_at, drop_at}
 use Rattle.word_loader.specs.Machine.{Frame, Stack, above, top, with_top, goes_on, with_words}
 use Rattle.flat_frames.specs.declared.frames.Activation.{Activation}
-use Rattle.flat_frames.specs.Stacks.{locals_of, ResultFits, IsBottom, Returns}
+use Rattle.flat_frames.specs.Stacks.{locals_of, ResultFits, Returns}
 use Rattle.flat_frames.specs.Activations.{frame_of, stack_of, StandInOrder}
 use Rattle.flat_frames.proofs.Parts.{take-with_words, drop-with_words}
 use Rattle.flat_frames.proofs.Stacks.{start_within, order_within, top-stack_of, top-view, locals-view, with_top-stack_of, goes_on-stack_of}
@@ -82,9 +82,3 @@ not_popped-stack_of words ws a stack after is same = rw same (subst (λ (s : Sta
 pub order_below : (end other : ℕ) (start : ℕ) (caller : Activation) (below : List Activation) → StandInOrder end start (caller ∷ below) → other ≡ start → StandInOrder other caller.start below
 unfolding StandInOrder
 order_below end other start caller below order same = rw same order.1
-
--- the bottom frame alone
-pub bottom_words : (words : List ℕ) (a : Activation) (below : List Activation) (stack : Stack) → stack_of words a below ≡ stack → StandInOrder (length words) a.start below → IsBottom stack → words ≡ locals_of stack
-unfolding stack_of StandInOrder
-bottom_words words a [] stack is order alone = sym (locals-view words a [] stack is ∙ rw order refl)
-bottom_words words a (b ∷ below) stack is order alone = absurd (subst IsBottom (sym is) alone)

@@ -3,11 +3,8 @@ use Rattle.std.proofs.Common.{ℕ, zero, suc, ◌≡◌, ◌+◌, ◌-◌, ◌<�
 use Rattle.std.proofs.lemmas.List.{length-append, length-take, length-take-le, length-drop, drop-drop, get_or-drop, set_split, take-take, take_at, drop_at, take_all, take-append-le, drop-append-le, drop-replicate}
 use Rattle.std.proofs.lemmas.Slice.{between_is}
 use Rattle.std.proofs.Math.Seq.{take-append-add}
+use Rattle.machine_laws.proofs.Words.{length-words_at}
 use Rattle.word_loader.specs.Machine.{word_at, words_at, with_words}
-
-pub length-with_words : (words : List ℕ) (place : ℕ) (ws : List ℕ) → place + length ws ≤ length words → length (with_words words place ws) ≡ length words
-length-with_words words place ws within =
-    simp (length-append, length-take, length-drop) (omega arith)
 
 -- a write past the start leaves what stands before it
 pub take-with_words : (start : ℕ) (words : List ℕ) (place : ℕ) (ws : List ℕ) → start ≤ length words → take start (with_words words (start + place) ws) ≡ take start words
@@ -27,9 +24,6 @@ word_at-drop start words place = get_or-drop start words place 0
 
 pub words_at-drop : (start : ℕ) (words : List ℕ) (place n : ℕ) → words_at (drop start words) place n ≡ words_at words (start + place) n
 words_at-drop start words place n = ap (take n) (drop-drop place start words)
-
-pub length-words_at : (words : List ℕ) (place n : ℕ) → place + n ≤ length words → length (words_at words place n) ≡ n
-length-words_at words place n within = length-take-le n (drop place words) (omega (arith, length-drop place words))
 
 -- one word
 pub set-with_words : (words : List ℕ) (place word : ℕ) → place < length words → set words place word ≡ with_words words place (word ∷ [])

@@ -24,10 +24,6 @@ abbrev pub ResultFits : Stack → ℕ → Type 0
 ResultFits (bottom frame) n = Unit {0}
 ResultFits (above frame d below) n = d + n ≤ length (locals_of below)
 
-abbrev pub IsBottom : Stack → Type 0
-IsBottom (bottom frame) = Unit {0}
-IsBottom (above frame d below) = ⊥
-
 -- the top frame returns these words: the frame below goes on with them in their place; from the
 -- bottom frame nothing changes
 abbrev pub Returns : Stack → List ℕ → Stack → Bool → Type 0

@@ -4,7 +4,7 @@
 
 ghost use Rattle.std.specs.Prelude.{◌≡◌, ◌+◌, ◌-◌, ◌<◌, ◌≤◌, ◌^◌, [], ◌∷◌, ◌++◌, length, replicate, IfOk, OnOk, OnErr};
 ghost use Rattle.word_loader.specs.Machine.{top, bottom, above, with_top, goes_on, entered, word_at, words_at, with_words};
-ghost use Rattle.flat_frames.specs.Stacks.{locals_of, written, frame_total, total_below, ResultFits, IsBottom, Returns};
+ghost use Rattle.flat_frames.specs.Stacks.{locals_of, written, frame_total, total_below, ResultFits, Returns};
 
 use crate::copy::{copy_within, write_at};
 use std::alloc::{AllocError, Global};
@@ -256,16 +256,18 @@ impl Frames {
         self.words.truncate(start + count as usize);
     }
 
-    /// The locals of the bottom frame, where no other stands above it. It takes no memory.
+    /// The locals of the top frame. It takes no memory.
     pub fn into_words(self) -> Vec<u64>
-        requires { IsBottom self }
         ensures { result.items ≡ locals_of self }
     {
         let Frames {
-            words,
-            top: _,
+            mut words,
+            top,
             below: _,
         } = self;
+        let count = words.len() - top.start;
+        copy_within(&mut words, top.start, 0, count);
+        words.truncate(count);
         words
     }
 }

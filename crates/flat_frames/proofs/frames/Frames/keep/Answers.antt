@@ -3,7 +3,8 @@ use Rattle.std.proofs.lemmas.List.{with_items_is}
 use Rattle.word_loader.specs.Machine.{words_at}
 use Rattle.flat_frames.specs.Stacks.{locals_of}
 use Rattle.flat_frames.proofs.Stacks.{room, start_within, locals-view}
-use Rattle.flat_frames.proofs.Parts.{take-with_words_end, words_at-drop, length-words_at}
+use Rattle.flat_frames.proofs.Parts.{take-with_words_end, words_at-drop}
+use Rattle.machine_laws.proofs.Words.{length-words_at}
 use Rattle.flat_frames.proofs.Calls.{kept-stack_of, replaced_in_order}
 use Rattle.flat_frames.proofs.frames.Frames.keep.Goals as goal
 

@@ -5,7 +5,8 @@ use Rattle.flat_frames.specs.declared.frames.Activation.{Activation}
 use Rattle.flat_frames.specs.Stacks.{locals_of}
 use Rattle.flat_frames.specs.Activations.{stack_of}
 use Rattle.flat_frames.proofs.Stacks.{room, reverse_pushed, locals-view}
-use Rattle.flat_frames.proofs.Parts.{words_at-drop, length-words_at, take-with_words_past}
+use Rattle.flat_frames.proofs.Parts.{words_at-drop, take-with_words_past}
+use Rattle.machine_laws.proofs.Words.{length-words_at}
 use Rattle.flat_frames.proofs.Calls.{room_below, popped-stack_of, not_popped-stack_of, order_below}
 use Rattle.flat_frames.proofs.frames.Frames.pop.Goals as goal
 

@@ -3,7 +3,8 @@ use Rattle.std.proofs.lemmas.List.{length-append, length-replicate, with_items_i
 use Rattle.word_loader.specs.Machine.{words_at}
 use Rattle.flat_frames.specs.Stacks.{locals_of}
 use Rattle.flat_frames.proofs.Stacks.{room, start_within, locals-view}
-use Rattle.flat_frames.proofs.Parts.{length-words_at, moved_down, words_at-drop}
+use Rattle.flat_frames.proofs.Parts.{moved_down, words_at-drop}
+use Rattle.machine_laws.proofs.Words.{length-words_at}
 use Rattle.flat_frames.proofs.Calls.{replaced-stack_of, replaced_in_order}
 use Rattle.flat_frames.proofs.frames.Frames.tail.Goals as goal
 
