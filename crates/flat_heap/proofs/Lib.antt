@@ -1,0 +1,7 @@
+pub mod HeapLemmas
+pub mod TableLemmas
+pub mod ListingLemmas
+pub mod SpanLemmas
+pub mod WriteLemmas
+pub mod SizeLemmas
+pub mod BlockLemmas
