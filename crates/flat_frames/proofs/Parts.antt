@@ -1,6 +1,6 @@
 -- Reads and writes in the last part of a list, seen from its start.
 use Rattle.std.proofs.Common.{ℕ, zero, suc, ◌≡◌, ◌+◌, ◌-◌, ◌<◌, ◌≤◌, List, [], ◌∷◌, ◌++◌, length, take, drop, set, append_assoc, zero-add, suc-add, add-one, sym, ap, ◌∙◌, refl, arith, rules, replicate}
-use Rattle.std.proofs.lemmas.List.{length-append, length-take, length-take-le, length-drop, drop-drop, get_or-drop, set_split, take-take, take_at, drop_at, take_all, take-append-le, drop-append-le, drop-replicate}
+use Rattle.std.proofs.lemmas.List.{length-append, length-take, length-drop, drop-drop, get_or-drop, set_split, take-take, take_at, drop_at, take_all, take-append-le, drop-append-le, drop-replicate}
 use Rattle.std.proofs.lemmas.Slice.{between_is}
 use Rattle.std.proofs.Math.Seq.{take-append-add}
 use Rattle.machine_laws.proofs.Words.{length-words_at}

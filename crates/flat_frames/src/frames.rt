@@ -95,17 +95,15 @@ impl Frames {
         &self.words[from..from + count as usize]
     }
 
-    /// The locals plus 1 of all frames below the top one.
+    /// The locals plus 1, over all frames below the top one.
     pub fn total_below(&self) -> u64
-        requires { total_below self.now < 2 ^ 64 }
         ensures { result ≡ total_below self.now }
     {
         self.top.start as u64 + self.below.len() as u64
     }
 
-    /// The locals plus 1 of all frames.
+    /// The locals plus 1, over all frames.
     pub fn total(&self) -> u64
-        requires { frame_total self.now < 2 ^ 64 }
         ensures { result ≡ frame_total self.now }
     {
         self.words.len() as u64 + self.below.len() as u64 + 1

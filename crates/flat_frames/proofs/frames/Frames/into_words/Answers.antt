@@ -1,4 +1,4 @@
-use Rattle.std.proofs.Common.{List, ◌≡◌, ◌+◌, ◌-◌, ◌∙◌, length, take, drop, ap, refl, sym, arith, zero-add}
+use Rattle.std.proofs.Common.{◌≡◌, ◌-◌, ◌∙◌, length, take, ap, sym, arith, zero-add}
 use Rattle.std.proofs.lemmas.List.{with_items_is, take_rest}
 use Rattle.word_loader.specs.Machine.{words_at, with_words}
 use Rattle.machine_laws.proofs.Words.{length-words_at}
