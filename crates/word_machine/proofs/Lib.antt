@@ -1,3 +1,2 @@
-pub mod CodeLemmas
-pub mod Examples
-pub mod MachineLemmas
+pub mod Room
+pub mod Stepping

@@ -1,4 +1,2 @@
-pub mod Code
-pub mod Frame
-pub mod Laws
-pub mod Machine
+pub mod States
+pub mod Steps
