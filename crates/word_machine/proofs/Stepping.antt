@@ -7,7 +7,7 @@ use Rattle.word_loader.specs.declared.code.Function.{Function}
 use Rattle.word_loader.specs.declared.code.Instr.{Instr}
 use Rattle.word_loader.specs.Valid.{IsValid, IsEntered}
 use Rattle.word_loader.specs.Machine.{Machine as State, Stack, going, halted, faulted, asking, top, effect, step}
-use Rattle.machine_laws.specs.Fits.{function_of, FrameFits, StackFits, FitsCode}
+use Rattle.machine_laws.specs.Fits.{function_of, instr_at, FrameFits, StackFits, FitsCode}
 use Rattle.machine_laws.proofs.Standing.{Standing, found, top_fits}
 use Rattle.machine_laws.proofs.Fitting.{step-at, step_fits}
 use Rattle.machine_laws.proofs.Asking.{next_instr-is}
@@ -16,14 +16,17 @@ use Rattle.word_machine.specs.declared.machine.Over.TheVariants as overs
 use Rattle.word_machine.specs.declared.stepped.Stepped.{Stepped}
 use Rattle.word_machine.specs.declared.stepped.Stepped.TheVariants.{Going, Halted, Fault, Asks}
 use Rattle.word_machine.specs.States.{state, over_after, answer_of}
-use Rattle.word_machine.specs.Steps.{with_choices, choices_left, Comes, StepsTo, Performs, IsGoing, IsHalted}
+use Rattle.word_machine.specs.Steps.{with_choices, choices_left, next_of, StepsTo, Performs, IsGoing, IsHalted}
+use Rattle.flat_frames.specs.Stacks.{locals_of}
 
 -- an instruction that is done is a step
 pub performed_steps : (code : Code) (h : Heap) (stack : Stack) (f : Function) (i : Instr) (fresh : ℕ) (rest : List ℕ) (s : Stepped) (h' : Heap) (stack' : Stack) → Standing code stack f i →
     Performs s h stack h' stack' (choices_left (Some i) fresh rest) (effect code f i h stack (fresh ∷ rest)) → StepsTo code (going h stack []) fresh rest s (state (over_after s) h' stack')
-performed_steps code h stack f i fresh rest Going h' stack' st p =
-    (tt, step-at code h stack (fresh ∷ rest) f i st.function st.instr_is
-    ∙ (p ∙ ap (λ (o : Option Instr). going h' stack' (choices_left o fresh rest)) (sym (next_instr-is code stack f i st))))
+performed_steps code h stack f i fresh rest Going h' stack' st p = (
+  tt,
+  step-at code h stack (fresh ∷ rest) f i st.function st.instr_is
+      ∙ (p ∙ ap (λ (o : Option Instr). going h' stack' (choices_left o fresh rest)) (sym (next_instr-is code stack f i st))),
+)
 performed_steps code h stack f i fresh rest Halted h' stack' st p = (tt, step-at code h stack (fresh ∷ rest) f i st.function st.instr_is ∙ p)
 performed_steps code h stack f i fresh rest (Fault kind l) h' stack' st p = (refl, step-at code h stack (fresh ∷ rest) f i st.function st.instr_is ∙ p)
 performed_steps code h stack f i fresh rest Asks h' stack' st p =
@@ -101,3 +104,23 @@ main_read code main valid read = slice_get_read code.functions (length code.func
 pub performed_machine : (code : Code) (o o' : Option Over) (h : Heap) (stack : Stack) (f : Function) (i : Instr) (fresh : ℕ) (rest : List ℕ) (s : Stepped) (h' : Heap) (stack' : Stack) → o ≡ None → o' ≡ over_after s → Standing code stack f i →
     Performs s h stack h' stack' (choices_left (Some i) fresh rest) (effect code f i h stack (fresh ∷ rest)) → StepsTo code (state o h stack) fresh rest s (state o' h' stack')
 performed_machine code o o' h stack f i fresh rest s h' stack' e e' st p = rw (e, e') (performed_steps code h stack f i fresh rest s h' stack' st p)
+
+-- what is known of a machine that goes on, and of one that has halted
+pub going_is : (o : Option Over) (h : Heap) (stack : Stack) → IsGoing (state o h stack) → o ≡ None
+going_is None h stack g = refl
+going_is (Some overs.Halted) h stack g = absurd g
+going_is (Some (overs.Fault kind l)) h stack g = absurd g
+
+pub halt_is : (o : Option Over) (h : Heap) (stack : Stack) → IsHalted (state o h stack) → state o h stack ≡ halted (locals_of stack) h
+halt_is None h stack g = absurd g
+halt_is (Some overs.Halted) h stack g = refl
+halt_is (Some (overs.Fault kind l)) h stack g = absurd g
+
+-- the next instruction of one that goes on
+pub next_of-read : (code : Code) (o : Option Over) (h : Heap) (stack : Stack) (f : Function) (i : Instr) → o ≡ None → function_of code (top stack) ≡ Some f → slice_get f.body (top stack).next ≡ Some i → next_of code (state o h stack) ≡ Some i
+next_of-read code o h stack f i e there is = rw e (ap (λ (x : Option Function). instr_at x (top stack).next) there ∙ is)
+
+pub going_state : (o : Option Over) (h : Heap) (stack : Stack) → IsGoing (state o h stack) → state o h stack ≡ going h stack []
+going_state None h stack g = refl
+going_state (Some overs.Halted) h stack g = absurd g
+going_state (Some (overs.Fault kind l)) h stack g = absurd g

@@ -1,2 +1,5 @@
 pub mod States
 pub mod Steps
+pub mod Limits
+pub mod Runs
+pub mod Ends

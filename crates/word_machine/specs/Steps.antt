@@ -1,5 +1,5 @@
 -- What a step answers, and what it leaves.
-use Rattle.std.specs.Prelude.{ℕ, ◌≡◌, List, [], ◌∷◌, Option, Some, None}
+use Rattle.std.specs.Prelude.{ℕ, ◌≡◌, ◌+◌, List, ◌∷◌, Option, Some, None}
 use Rattle.htt_values.specs.Heaps.{Heap}
 use Rattle.flat_frames.specs.Stacks.{locals_of}
 use Rattle.word_loader.specs.declared.code.Code.{Code}
@@ -20,6 +20,12 @@ abbrev pub choices_left : Option Instr → ℕ → List ℕ → List ℕ
 choices_left (Some (Alloc d s n)) l rest = rest
 choices_left instr l rest = l ∷ rest
 
+-- the location to choose next, where the choices are numbers in a row
+abbrev pub next_fresh : Option Instr → ℕ → ℕ
+next_fresh (Some (Alloc d s n)) l = l + 1
+next_fresh instr l = l
+
+-- the next instruction of a state that goes on
 abbrev pub next_of : Code → State → Option Instr
 next_of code (going h stack choices) = next_instr code stack
 next_of code over = None

@@ -5,10 +5,13 @@
 
 mod blocks;
 mod instrs;
+mod limits;
 mod machine;
 mod operations;
+mod runs;
 mod stepped;
 
 pub use htt_words::{Bound, Kind};
 pub use machine::{Machine, StartStop, start};
+pub use runs::{End, run};
 pub use stepped::Stepped;

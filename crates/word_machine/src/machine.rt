@@ -1,20 +1,23 @@
 //! The machine, its start and its step. A machine that is over keeps how it ended beside its heap and
 //! frames; after a halt the only frame has the returned words as its locals.
 
-ghost use Rattle.std.specs.Prelude.{◌≡◌, [], IfOk, OnErr, IfErr, slice_get};
+ghost use Rattle.std.specs.Prelude.{ℕ, ◌≡◌, List, [], IfOk, OnErr, IfErr, slice_get};
 ghost use Rattle.word_loader.specs.Valid.{IsValid};
 ghost use Rattle.word_loader.specs.Machine.{started};
 ghost use Rattle.machine_laws.specs.Fits.{FitsCode};
 ghost use Rattle.flat_heap.specs.Blocks.{blocks_of};
 ghost use Rattle.word_machine.specs.States.{state_of, over_after, answer_of};
-ghost use Rattle.word_machine.specs.Steps.{StepsTo};
+ghost use Rattle.word_machine.specs.Steps.{StepsTo, next_of, IsGoing, IsHalted};
+ghost use Rattle.word_machine.specs.Ends.{HaltsAs};
 
+use crate::runs::End;
 use crate::stepped::Stepped;
 use flat_frames::Frames;
 use flat_heap::Heap;
+use htt_seq::Seq;
 use htt_words::Kind;
 use std::alloc::{AllocError, Global};
-use word_loader::Code;
+use word_loader::{Code, Instr};
 
 /// How a machine ended.
 #[derive(Clone, Copy, Debug, PartialEq, Eq)]
@@ -59,13 +62,38 @@ pub fn start(alloc: Global, code: &Code, heap: Heap) -> Result<Machine, StartSto
 }
 
 impl Machine {
-    /// One step of the written machine, with `fresh` as its first choice of a location. A machine
-    /// that is over answers the same again and doesn't read `fresh`. It takes memory at `alloc`,
-    /// `call` and `tail` alone; after an error nothing has changed.
+    /// The next instruction of a machine that goes on.
+    pub(crate) fn next_instr(&self, code: &Code) -> Instr
+        requires fits { FitsCode code.now (state_of self.now) }
+        requires going { IsGoing (state_of self.now) }
+        ensures { next_of code.now (state_of self.now) ≡ Some result }
+    {
+        let function = &code.functions.as_slice()[self.frames.function() as usize];
+        function.body.as_slice()[self.frames.next() as usize]
+    }
+
+    /// The returned words and the heap of a machine that has halted. It takes no memory.
+    pub(crate) fn into_halt(self) -> End
+        requires { IsHalted (state_of self) }
+        ensures { HaltsAs (state_of self) result }
+    {
+        let Machine {
+            alloc: _,
+            heap,
+            frames,
+            over: _,
+        } = self;
+        End::Halted(Seq::of(frames.into_words()), heap)
+    }
+
+    /// One step of the written machine, with `fresh` as its first choice of a location, whatever
+    /// choices stand behind it. A machine that is over answers the same again and doesn't read
+    /// `fresh`. It takes memory at `alloc`, `call` and `tail` alone; after an error nothing has
+    /// changed.
     pub fn step(&mut self, code: &Code, fresh: u64) -> Result<Stepped, AllocError>
         requires valid { IsValid code.now }
         requires fits { FitsCode code.now (state_of self.old) }
-        ensures steps { IfOk result (λ stepped. StepsTo code.now (state_of self.old) fresh [] stepped (state_of self.new)) }
+        ensures steps { IfOk result (λ stepped. (rest : List ℕ) → StepsTo code.now (state_of self.old) fresh rest stepped (state_of self.new)) }
         ensures unchanged { OnErr result (state_of self.new ≡ state_of self.old) }
         ensures fits { FitsCode code.now (state_of self.new) }
     {

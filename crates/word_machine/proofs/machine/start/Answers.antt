@@ -1,5 +1,4 @@
-use Rattle.std.proofs.Common.{◌≡◌, [], Some, None, get_or, refl}
-use Rattle.std.specs.Prelude.{slice_get}
+use Rattle.std.proofs.Common.{[], None, refl}
 use Rattle.word_machine.specs.States.{state_of}
 use Rattle.machine_laws.proofs.Fitting.{started_fits}
 use Rattle.word_machine.proofs.Stepping.{main_read}

@@ -1,5 +1,5 @@
-use Rattle.std.proofs.Common.{◌≡◌, ◌∷◌, arith}
-use Rattle.word_loader.specs.declared.code.Instr.TheVariants.{Const, Mov, Op, Sel, Alloc, Get, Set, Free, Jump, Jz, Call, Ret, Tail}
+use Rattle.std.proofs.Common.{◌∷◌, arith}
+use Rattle.word_loader.specs.declared.code.Instr.TheVariants.{Const, Mov, Op, Sel, Alloc, Get, Set, Free, Jz, Call, Ret, Tail}
 use Rattle.machine_laws.proofs.Standing.{standing_at}
 use Rattle.word_machine.proofs.Room.{next_fits, named_within, callee_at, result_fits, called-at, replaced-at}
 use Rattle.word_machine.proofs.machine.Machine.perform.Goals as goal

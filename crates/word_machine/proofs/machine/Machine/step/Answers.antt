@@ -1,16 +1,15 @@
 use Rattle.std.specs.Prelude.{slice_get}
-use Rattle.std.proofs.Common.{◌≡◌, [], Some, get_or, sym, ap, ◌∙◌, subst}
+use Rattle.std.proofs.Common.{ℕ, ◌≡◌, List, [], Some, get_or, sym, subst}
 use Rattle.std.proofs.lemmas.Option.{slice_get-get_or}
 use Rattle.std.proofs.lemmas.Result.{err_from_is_err_and}
-use Rattle.htt_values.specs.Heaps.{Heap}
 use Rattle.word_loader.specs.declared.code.Function.{Function}
 use Rattle.word_loader.specs.declared.code.Instr.{Instr}
 use Rattle.word_loader.specs.declared.code.Instr.TheVariants.{Const}
-use Rattle.word_loader.specs.Machine.{top, going}
+use Rattle.word_loader.specs.Machine.{top}
 use Rattle.flat_heap.specs.Blocks.{blocks_of}
-use Rattle.machine_laws.specs.Fits.{FitsCode, StackFits, function_of}
+use Rattle.machine_laws.specs.Fits.{FitsCode, function_of}
 use Rattle.machine_laws.proofs.Standing.{Standing, standing_at}
-use Rattle.word_machine.specs.States.{state_of, state}
+use Rattle.word_machine.specs.States.{state_of}
 use Rattle.word_machine.specs.Steps.{StepsTo}
 use Rattle.word_machine.proofs.Stepping.{performed_machine, over_steps, steps_fit, same_machine, going_fits, function_within, function_read, next_read}
 use Rattle.word_machine.proofs.machine.Machine.step.Goals as goal
@@ -19,7 +18,7 @@ pub returns-in-Some-clause-steps : goal.returns-in-Some-clause-steps
 unfolding state_of
 returns-in-Some-clause-steps c =
     let m = c.args.self.now in
-    rw c.answer_of.ensures (over_steps c.args.code.now m.over c.in-Some.over (blocks_of m.heap) m.frames c.args.fresh [] c.in-Some.is)
+    λ rest. rw c.answer_of.ensures (over_steps c.args.code.now m.over c.in-Some.over (blocks_of m.heap) m.frames c.args.fresh rest c.in-Some.is)
 
 pub bounds-as_slice-function : goal.bounds-as_slice-function
 unfolding state_of
@@ -81,9 +80,9 @@ returns-in_err-stepped-clause-fits c =
     subst (FitsCode c.args.code.now) (sym same) c.requires.fits
 
 -- the instruction that was done
-stepped : (c : goal.After-self-1) → StepsTo c.args.code.now (state_of c.args.self.now) c.args.fresh [] c.in_ok-stepped.stepped (state_of (record c.perform.new.self { over = c.over_after-self.result }))
+stepped : (c : goal.After-self-1) (rest : List ℕ) → StepsTo c.args.code.now (state_of c.args.self.now) c.args.fresh rest c.in_ok-stepped.stepped (state_of (record c.perform.new.self { over = c.over_after-self.result }))
 unfolding state_of
-stepped c =
+stepped c rest =
     let code = c.args.code.now in
     let m = c.args.self.now in
     let n = c.perform.new.self in
@@ -95,7 +94,7 @@ stepped c =
     let i : Instr = get_or c.as_slice-2.result.now c.next.result (Const 0 0) in
     let i_is : slice_get f.body (top m.frames).next ≡ Some i = rw (c.next.ensures, c.as_slice-2.ensures.same_items) (slice_get-get_or f.body (top m.frames).next (Const 0 0) within) in
     let st : Standing code m.frames f i = standing_at code m.frames f i c.requires.valid fits there i_is in
-    performed_machine code m.over c.over_after-self.result (blocks_of m.heap) m.frames f i c.args.fresh [] c.in_ok-stepped.stepped (blocks_of n.heap) n.frames c.in_default.is c.over_after-self.ensures st (c.in_ok-stepped.ensures.performs [])
+    performed_machine code m.over c.over_after-self.result (blocks_of m.heap) m.frames f i c.args.fresh rest c.in_ok-stepped.stepped (blocks_of n.heap) n.frames c.in_default.is c.over_after-self.ensures st (c.in_ok-stepped.ensures.performs rest)
 
 pub returns-clause-steps : goal.returns-clause-steps
 unfolding state_of
@@ -103,4 +102,4 @@ returns-clause-steps c = stepped c
 
 pub returns-clause-fits : goal.returns-clause-fits
 unfolding state_of
-returns-clause-fits c = steps_fit _ _ _ _ _ _ c.requires.valid c.requires.fits (stepped c)
+returns-clause-fits c = steps_fit _ _ _ _ _ _ c.requires.valid c.requires.fits (stepped c [])
