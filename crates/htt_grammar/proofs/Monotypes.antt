@@ -12,12 +12,12 @@ use Rattle.raw_trees.specs.declared.mono.MonoName.{MonoName}
 use Rattle.raw_trees.specs.declared.mono.MonoName.TheVariants as mono_names
 use Rattle.raw_trees.specs.declared.tree.RawHeap.{RawHeap}
 use Rattle.raw_trees.specs.declared.tree.RawHeap.TheVariants as heaps
-use Rattle.raw_trees.specs.Trees.{FactorTree, MonoTree, m_name, m_brackets, m_factor, m_pair, TyTree, TermTree, CompTree, FormulaTree, DisjTree, ConjTree, StarTree, ProofTree}
+use Rattle.raw_trees.specs.Trees.{with_right, FactorTree, MonoTree, m_name, m_brackets, m_factor, m_pair, TyTree, TermTree, CompTree, FormulaTree, DisjTree, ConjTree, StarTree, ProofTree}
 use Rattle.htt_grammar.specs.Marks.{Mark, Limits, ◌⨟◌, sign, name, number, each_after}
 use Rattle.htt_grammar.specs.Grammar
 use Rattle.htt_grammar.specs.Readers.{Reader, measured, stop, either, same_kind, after_commas}
 use Rattle.htt_grammar.specs.Beginnings.{begins_mono_name, begins_mono, goes_on_heap, goes_on_mono, goes_on_list, goes_on_rel, goes_on_star, goes_on_conj, goes_on_disj, goes_on_formula}
-use Rattle.htt_grammar.specs.Phrases.{Deeper, a_binder, a_name_there, a_number_there, over_there, a_heap, with_right, mono_right, mono_closes, mono_name_case, mono_inside, mono_case, mono_opens, mono_at, bracketed, more_monos}
+use Rattle.htt_grammar.specs.Phrases.{Deeper, a_binder, a_name_there, a_number_there, over_there, a_heap, mono_right, mono_closes, mono_name_case, mono_inside, mono_case, mono_opens, mono_at, bracketed, more_monos}
 use Rattle.htt_grammar.proofs.Spells.{Spells, Stops, Leads, leads_of, leads_then}
 use Rattle.htt_grammar.proofs.Gets.{Gets, giving, then, then_any, until_last, last, taken, taken_less, taken_at, taken_alone, passed, ended, measuring, no_room, stops_less, or_left, or_right, regroup, nothing_after, that_not, skip, skip_last}
 use Rattle.htt_grammar.proofs.Opens.{opens_factor}

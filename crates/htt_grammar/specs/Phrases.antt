@@ -11,12 +11,10 @@ use Rattle.raw_trees.specs.declared.place.Binder.{Binder}
 use Rattle.raw_trees.specs.declared.place.Binder.TheVariants as binders
 use Rattle.raw_trees.specs.declared.mono.MonoName.{MonoName}
 use Rattle.raw_trees.specs.declared.mono.MonoName.TheVariants as mono_names
-use Rattle.raw_trees.specs.declared.tree.SumSign.{SumSign}
-use Rattle.raw_trees.specs.declared.tree.ProdSign.{ProdSign}
 use Rattle.raw_trees.specs.declared.tree.UnaryWord.TheVariants as unary_words
 use Rattle.raw_trees.specs.declared.tree.RawHeap.{RawHeap}
 use Rattle.raw_trees.specs.declared.tree.RawHeap.TheVariants as heaps
-use Rattle.raw_trees.specs.Trees.{FactorTree, MonoTree, m_name, m_brackets, m_factor, m_pair, TyTree, TripleTree, TermTree, ParamTrees, RelTree, SumTree, SumRestTree, ProdTree, ProdRestTree, ApplTree, PartTrees, AtomTree, CompTree, StepTree, FormulaTree, SortTree, DisjTree, ConjTree, StarTree, FatomTree, TermTrees, ProofTree, y_fun, y_all, y_hoare, y_mono, triple_of, t_fun, t_fun_mono, t_do, t_fix, t_rel, no_params, more_params, r_sum, r_less, s_sum, s_end, s_more, x_prod, x_end, x_more, l_unary, l_apply, no_parts, atom_part, mono_part, a_name, a_number, a_true, a_false, a_null, a_place, a_eq, a_sel, a_unit, a_brackets, a_pair, a_annotated, c_ret, c_step, s_alloc, s_get, s_set, s_free, s_if, s_claim, s_run, f_all, f_ex, f_disj, f_implies, over_mono, over_heap, d_conj, d_or, j_star, j_and, k_fatom, k_times, g_tt, g_ff, g_emp, g_brackets, g_at_heap, g_emp_of, g_same, g_join, g_cell, g_block, g_use, g_use_at, g_use_at_heap, g_eq, g_points, g_points_any, no_terms, more_terms}
+use Rattle.raw_trees.specs.Trees.{with_right, ProdSign, SumSign, MonoTree, m_name, m_brackets, TyTree, TripleTree, TermTree, ParamTrees, RelTree, SumTree, SumRestTree, ProdTree, ProdRestTree, ApplTree, PartTrees, AtomTree, CompTree, StepTree, FormulaTree, SortTree, DisjTree, ConjTree, StarTree, FatomTree, TermTrees, ProofTree, y_fun, y_all, y_hoare, y_mono, triple_of, t_fun, t_fun_mono, t_do, t_fix, t_rel, no_params, more_params, r_sum, r_less, s_sum, s_end, s_more, x_prod, x_end, x_more, l_unary, l_apply, no_parts, atom_part, mono_part, a_name, a_number, a_true, a_false, a_null, a_place, a_eq, a_sel, a_unit, a_brackets, a_pair, a_annotated, c_ret, c_step, s_alloc, s_get, s_set, s_free, s_if, s_claim, s_run, f_all, f_ex, f_disj, f_implies, over_mono, over_heap, d_conj, d_or, j_star, j_and, k_fatom, k_times, g_tt, g_ff, g_emp, g_brackets, g_at_heap, g_emp_of, g_same, g_join, g_cell, g_block, g_use, g_use_at, g_use_at_heap, g_eq, g_points, g_points_any, no_terms, more_terms}
 use Rattle.htt_grammar.specs.Readers.{Reader, too_long, give, ◌>>=◌, refuse, stop, either, first_is, if_first, measured, same_kind, that, token, after_commas}
 use Rattle.htt_grammar.specs.Beginnings.{begins_binder, begins_mono, begins_atom, begins_appl, sum_sign_of, prod_sign_of}
 
@@ -70,11 +68,6 @@ unfoldable pub a_heap : Reader RawHeap
 a_heap = either heap_case stop
 
 -- ---- monotypes
-
--- a factor with what stands at the right of it
-abbrev pub with_right : FactorTree → Option MonoTree → MonoTree
-with_right f None = m_factor f
-with_right f (Some m) = m_pair f m
 
 -- what stands at the right of a factor
 unfoldable pub mono_right : Deeper → Reader (Option MonoTree)

@@ -7,12 +7,8 @@ use Rattle.htt_tokens.specs.declared.tokens.Token.{Token}
 use Rattle.htt_tokens.specs.declared.tokens.Keyword.TheVariants.{FunWord, DoWord, FixWord, RetWord, AllocWord, GetWord, SetWord, FreeWord, IfWord, ClaimWord, TrueWord, FalseWord, NullWord, PlaceWord, FstWord, SndWord, NotWord, EqWord, SelWord}
 use Rattle.htt_tokens.specs.declared.tokens.Sign.TheVariants.{OpenParenSign, CloseParenSign, OpenBracketSign, CloseBracketSign, OpenBraceSign, CloseBraceSign, CommaSign, SemicolonSign, ColonSign, DotSign, ArrowSign, LeftArrowSign, PlusSign, MinusSign, StarSign, AmpersandSign, BarSign, CaretSign, ShiftLeftSign, ShiftRightSign, LessSign}
 use Rattle.raw_trees.specs.declared.place.Span.{Span}
-use Rattle.raw_trees.specs.declared.tree.SumSign.{SumSign}
-use Rattle.raw_trees.specs.declared.tree.SumSign.TheVariants as sum_signs
-use Rattle.raw_trees.specs.declared.tree.ProdSign.{ProdSign}
-use Rattle.raw_trees.specs.declared.tree.ProdSign.TheVariants as prod_signs
 use Rattle.raw_trees.specs.declared.tree.UnaryWord.TheVariants as unary_words
-use Rattle.raw_trees.specs.Trees.{TyTree, TermTree, SumRestTree, ProdRestTree, PartTrees, y_fun, y_all, y_hoare, y_mono, t_fun, t_fun_mono, t_do, t_fix, t_rel, more_params, r_sum, r_less, s_sum, s_more, x_prod, x_more, l_unary, l_apply, atom_part, mono_part, a_place, c_ret, c_step, s_alloc, s_get, s_set, s_free, s_run, more_terms}
+use Rattle.raw_trees.specs.Trees.{ProdSign, SumSign, ampersand, bar, caret, minus, plus, shift_left, shift_right, times, TyTree, TermTree, SumRestTree, ProdRestTree, PartTrees, y_fun, y_all, y_hoare, y_mono, t_fun, t_fun_mono, t_do, t_fix, t_rel, more_params, r_sum, r_less, s_sum, s_more, x_prod, x_more, l_unary, l_apply, atom_part, mono_part, a_place, c_ret, c_step, s_alloc, s_get, s_set, s_free, s_run, more_terms}
 use Rattle.htt_grammar.specs.Marks.{Limits, ◌⨟◌, sign, sign_at}
 use Rattle.htt_grammar.specs.Grammar
 use Rattle.htt_grammar.specs.Readers.{Reader, measured, give, ◌>>=◌, stop, either}
@@ -104,10 +100,10 @@ module _ {lim : Limits} (d : Deeper) (l : ℕ) (here : Stands lim l) (trust : Tr
   appl_tells = alone (told_either _ unary_told (told_then _ atom_tells (λ a. told_last (l_apply a) (parts_tell d.further 2 all_room) (λ ps. refl))))
 
   prod_sign_told : (n : ℕ) (next : ProdSign → Reader ProdRestTree) → ((o : ProdSign) → Told lim (λ ns. sign l (Grammar.prod_sign o) ⨟ ns) (next o) (Grammar.prod_rest l n)) → (k : Kind) (s : Span) → Case lim (λ ns. ns) (Grammar.prod_rest l n) k s (on_prod_sign next (prod_sign_of k))
-  prod_sign_told n next told (Sign StarSign) s = a_sign' l here StarSign s _ (told prod_signs.Times)
-  prod_sign_told n next told (Sign AmpersandSign) s = a_sign' l here AmpersandSign s _ (told prod_signs.And)
-  prod_sign_told n next told (Sign ShiftLeftSign) s = a_sign' l here ShiftLeftSign s _ (told prod_signs.ShiftLeft)
-  prod_sign_told n next told (Sign ShiftRightSign) s = a_sign' l here ShiftRightSign s _ (told prod_signs.ShiftRight)
+  prod_sign_told n next told (Sign StarSign) s = a_sign' l here StarSign s _ (told times)
+  prod_sign_told n next told (Sign AmpersandSign) s = a_sign' l here AmpersandSign s _ (told ampersand)
+  prod_sign_told n next told (Sign ShiftLeftSign) s = a_sign' l here ShiftLeftSign s _ (told shift_left)
+  prod_sign_told n next told (Sign ShiftRightSign) s = a_sign' l here ShiftRightSign s _ (told shift_right)
   prod_sign_told n next told _ s = tt
 
   prod_rest_tells : (m k : ℕ) → k + m ≤ suc lim.chain → Tells lim (prod_on d m) (Grammar.prod_rest l k)
@@ -120,10 +116,10 @@ module _ {lim : Limits} (d : Deeper) (l : ℕ) (here : Stands lim l) (trust : Tr
   prod_tells = alone (told_then _ appl_tells (λ a. told_last (x_prod a) (prod_rest_tells d.further 2 all_room) (λ rest. refl)))
 
   sum_sign_told : (n : ℕ) (next : SumSign → Reader SumRestTree) → ((o : SumSign) → Told lim (λ ns. sign l (Grammar.sum_sign o) ⨟ ns) (next o) (Grammar.sum_rest l n)) → (k : Kind) (s : Span) → Case lim (λ ns. ns) (Grammar.sum_rest l n) k s (on_sum_sign next (sum_sign_of k))
-  sum_sign_told n next told (Sign PlusSign) s = a_sign' l here PlusSign s _ (told sum_signs.Plus)
-  sum_sign_told n next told (Sign MinusSign) s = a_sign' l here MinusSign s _ (told sum_signs.Minus)
-  sum_sign_told n next told (Sign BarSign) s = a_sign' l here BarSign s _ (told sum_signs.Bar)
-  sum_sign_told n next told (Sign CaretSign) s = a_sign' l here CaretSign s _ (told sum_signs.Caret)
+  sum_sign_told n next told (Sign PlusSign) s = a_sign' l here PlusSign s _ (told plus)
+  sum_sign_told n next told (Sign MinusSign) s = a_sign' l here MinusSign s _ (told minus)
+  sum_sign_told n next told (Sign BarSign) s = a_sign' l here BarSign s _ (told bar)
+  sum_sign_told n next told (Sign CaretSign) s = a_sign' l here CaretSign s _ (told caret)
   sum_sign_told n next told _ s = tt
 
   sum_rest_tells : (m k : ℕ) → k + m ≤ suc lim.chain → Tells lim (sum_on d m) (Grammar.sum_rest l k)

@@ -10,11 +10,11 @@ use Rattle.htt_tokens.specs.declared.tokens.Sign.TheVariants.{OpenParenSign, Clo
 use Rattle.raw_trees.specs.declared.place.Span.{Span}
 use Rattle.raw_trees.specs.declared.mono.MonoName.{MonoName}
 use Rattle.raw_trees.specs.declared.tree.RawHeap.TheVariants as heaps
-use Rattle.raw_trees.specs.Trees.{FactorTree, MonoTree, m_name, m_brackets}
+use Rattle.raw_trees.specs.Trees.{with_right, FactorTree, MonoTree, m_name, m_brackets}
 use Rattle.htt_grammar.specs.Marks.{Mark, Limits, IsWithin, ◌⨟◌, sign, word, name, number, sign_at, word_at, number_at, numbered, each_after}
 use Rattle.htt_grammar.specs.Grammar
 use Rattle.htt_grammar.specs.Readers.{Reader, measured, give, ◌>>=◌, stop, either, that, token, after_commas}
-use Rattle.htt_grammar.specs.Phrases.{Deeper, binder_case, a_binder, name_case, a_name_there, number_case, a_number_there, over_there, heap_case, a_heap, with_right, mono_right, mono_closes, mono_name_case, mono_inside, mono_case, mono_opens, mono_at, bracketed, more_monos}
+use Rattle.htt_grammar.specs.Phrases.{Deeper, binder_case, a_binder, name_case, a_name_there, number_case, a_number_there, over_there, heap_case, a_heap, mono_right, mono_closes, mono_name_case, mono_inside, mono_case, mono_opens, mono_at, bracketed, more_monos}
 use Rattle.htt_reading.proofs.Tells.{Tells, Told, alone, told_then, told_last, told_give, told_stop, Taken, Case, told_either, tells_measured, told_that, renumber, reround}
 
 -- the readers at this level tell the truth
