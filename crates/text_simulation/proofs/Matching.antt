@@ -1,8 +1,8 @@
 -- Environments that match: with less fuel they match too, and each variable has what its type says.
-use Rattle.std.proofs.Common.{◌≡◌, ◌<◌, ◌≤◌, ℕ, zero, suc, List, [], ◌∷◌, Some, refl, sym, ap, ◌∙◌, subst, arith}
+use Rattle.std.proofs.Common.{◌≡◌, ◌≤◌, ℕ, suc, ◌∷◌, Some, refl, sym, subst, arith}
 use Rattle.htt_syntax.specs.Trees.{MonoTree, TyTree, y_mono, y_fun, y_all, y_hoare, y_at}
 use Rattle.htt_renaming.specs.Renaming.{rename_ty}
-use Rattle.htt_meaning.specs.Closures.{RunValue, Env, with_mono, with_value, PureResult, gives, Items, value_entry, mono_entry, pair_mono, closed_mono}
+use Rattle.htt_meaning.specs.Closures.{RunValue, Env, gives, Items, value_entry, mono_entry, pair_mono, closed_mono}
 use Rattle.canonical_trees.specs.Skeletons.{Skeleton, sk_o, sk_c, sk_arrow, sk_all, skeleton}
 use Rattle.canonical_trees.proofs.Renamed.{skeleton_stays}
 use Rattle.htt_typing.specs.Contexts.{Context, IsMono, mono_here, mono_there, HasEntryType, type_here, type_there, FormsMono, forms_word, forms_bool, forms_loc, forms_unit, forms_pair, forms_var}

@@ -1,22 +1,15 @@
 -- A recursive function of the text does what the recursion denotes.
-use Rattle.std.proofs.Common.{◌≡◌, ◌<◌, ◌≤◌, ℕ, zero, suc, List, ◌∷◌, Some, refl, sym, ap, ◌∙◌, subst, arith}
-use Rattle.htt_syntax.specs.Trees.{TyTree, TripleTree, FixTree, CompTree, y_mono, y_fun, y_all, y_hoare, y_at, x_param, x_body}
-use Rattle.htt_renaming.specs.Renaming.{rename_ty, rename_triple}
-use Rattle.htt_values.specs.Heaps.{Heap}
-use Rattle.htt_meaning.specs.Closures.{RunValue, fix_of, Env, with_value, PureResult, Items}
-use Rattle.htt_meaning.specs.Meaning.{application_result, inner_result, start_result, runner_of, comp_result}
-use Rattle.canonical_trees.specs.Skeletons.{Skeleton, sk_c, sk_arrow, skeleton}
-use Rattle.canonical_trees.proofs.Renamed.{skeleton_stays}
+use Rattle.std.proofs.Common.{◌≤◌, ℕ, zero, suc, List, ◌∷◌, arith}
+use Rattle.htt_syntax.specs.Trees.{TyTree, FixTree, y_mono, y_fun, y_all, y_hoare, y_at}
+use Rattle.htt_meaning.specs.Closures.{RunValue, fix_of, Env, with_value, Items}
+use Rattle.htt_meaning.specs.Meaning.{application_result, inner_result}
+use Rattle.canonical_trees.specs.Skeletons.{skeleton}
 use Rattle.htt_typing.specs.Contexts.{Context, Environment, Obligation, EndsInHoare}
 use Rattle.htt_typing.specs.Typing.{FitsFix, fix_param, fix_body}
-use Rattle.denotation.specs.Outcomes.{Running}
-use Rattle.denotation.specs.Valuations.{Domain, Entry, den_mono, den_term, Valuation, HeadEntries}
-use Rattle.denotation.specs.Recursion.{entered, entered_running, unentered, turns, by_fuel, recursion}
-use Rattle.denotation.specs.Satisfaction.{answer_mono}
-use Rattle.denotation_renaming.proofs.Renamed.{agree_suc}
-use Rattle.text_simulation.specs.Simulation.{GivesSo, Alike, Does}
+use Rattle.denotation.specs.Valuations.{Domain, den_mono, den_term, Valuation}
+use Rattle.denotation.specs.Recursion.{entered, turns, by_fuel}
+use Rattle.text_simulation.specs.Simulation.{Does}
 use Rattle.text_simulation.proofs.Results.{gives_more, gives_each}
-use Rattle.text_simulation.proofs.Reindexed.{does_renamed}
 use Rattle.text_simulation.proofs.Matching.{does_down}
 
 -- One of the levels up to a bound, and a number of turns that is no less.
@@ -33,13 +26,13 @@ module _ (items : Items) where
   does_by_fuel (y_mono mono) r w k u g f = absurd r
   does_by_fuel (y_fun argument answer) r w k u g f = λ m le x d h i.
       gives_more (application_result (inner_result items i) u x) (λ y. (l : Level m) → Does items (den_term (skeleton argument) d ∷ w) answer (skeleton answer) l.at y (g l.turn d)) (λ y. Does items (den_term (skeleton argument) d ∷ w) answer (skeleton answer) m y (by_fuel (skeleton answer) (λ n. g n d)))
-        (λ y a. does_by_fuel answer r (den_term (skeleton argument) d ∷ w) m y (λ n. g n d) a)
-        (gives_each (application_result (inner_result items i) u x) (λ (l : Level m) y. Does items (den_term (skeleton argument) d ∷ w) answer (skeleton answer) l.at y (g l.turn d)) (record { at = m; turn = m; below = omega arith; enough = omega arith })
-          (λ l. f (record { at = l.at; turn = l.turn; below = omega (arith, l.below, le); enough = l.enough }) l.at (omega arith) x d (does_down items argument w (skeleton argument) m l.at x d l.below h) i))
+      (λ y a. does_by_fuel answer r (den_term (skeleton argument) d ∷ w) m y (λ n. g n d) a)
+      (gives_each (application_result (inner_result items i) u x) (λ (l : Level m) y. Does items (den_term (skeleton argument) d ∷ w) answer (skeleton answer) l.at y (g l.turn d)) (record { at = m; turn = m; below = omega arith; enough = omega arith })
+      (λ l. f (record { at = l.at; turn = l.turn; below = omega (arith, l.below, le); enough = l.enough }) l.at (omega arith) x d (does_down items argument w (skeleton argument) m l.at x d l.below h) i))
   does_by_fuel (y_all body) r w k u g f = λ t i.
       gives_more _ (λ y. (l : Level k) → Does items (den_mono t ∷ w) body (skeleton body) l.at y (g l.turn t)) (λ y. Does items (den_mono t ∷ w) body (skeleton body) k y (by_fuel (skeleton body) (λ n. g n t)))
-        (λ y a. does_by_fuel body r (den_mono t ∷ w) k y (λ n. g n t) a)
-        (gives_each _ (λ (l : Level k) y. Does items (den_mono t ∷ w) body (skeleton body) l.at y (g l.turn t)) (record { at = k; turn = k; below = omega arith; enough = omega arith }) (λ l. f l t i))
+      (λ y a. does_by_fuel body r (den_mono t ∷ w) k y (λ n. g n t) a)
+      (gives_each _ (λ (l : Level k) y. Does items (den_mono t ∷ w) body (skeleton body) l.at y (g l.turn t)) (record { at = k; turn = k; below = omega arith; enough = omega arith }) (λ l. f l t i))
   does_by_fuel (y_hoare spec) r w k u g f = λ j n below le h cs. f (record { at = suc j; turn = suc n; below = omega (arith, below); enough = omega (arith, le) }) j n (omega arith) le h cs
   does_by_fuel (y_at at ty) r w k u g f = absurd r
 

@@ -1,8 +1,7 @@
 -- Renaming and substitution in a type, and positions, keep what does as a denotation.
-use Rattle.std.proofs.Common.{◌≡◌, ◌<◌, ◌≤◌, ℕ, List, [], ◌∷◌, Some, refl, sym, ap, ◌∙◌, subst}
-use Rattle.htt_syntax.specs.Trees.{MonoTree, TyTree, TermTree, m_var, y_mono, y_fun, y_all, y_hoare, y_at}
+use Rattle.std.proofs.Common.{◌≡◌, ◌<◌, ◌≤◌, ℕ, List, ◌∷◌, Some, refl, sym, ◌∙◌, subst}
+use Rattle.htt_syntax.specs.Trees.{MonoTree, TyTree, TermTree, y_mono, y_fun, y_all, y_hoare, y_at}
 use Rattle.htt_renaming.specs.Renaming.{Map, rename_ty}
-use Rattle.htt_renaming.proofs.Identity.{ty_stays}
 use Rattle.htt_values.specs.Heaps.{Heap}
 use Rattle.htt_meaning.specs.Closures.{RunValue, base, Items}
 use Rattle.htt_meaning.specs.Meaning.{application_result, instance_result, inner_result, start_result, runner_of}
@@ -12,7 +11,7 @@ use Rattle.canonical_trees.specs.Canonical.{IsCanonicalTy, n_mono, n_fun, n_all,
 use Rattle.substitution.specs.Monotypes.{Filling, fill_ty}
 use Rattle.substitution.specs.Substitution.{SubTy, u_y_mono, u_y_fun, u_y_all, u_y_hoare}
 use Rattle.htt_typing.specs.Places.{plain_ty}
-use Rattle.denotation.specs.Valuations.{Domain, den_mono, den_term, Valuation, mono_in, HeadEntries}
+use Rattle.denotation.specs.Valuations.{Domain, den_mono, den_term, Valuation, HeadEntries}
 use Rattle.denotation.specs.Valued.{ContextValued, HeadsValued}
 use Rattle.denotation.proofs.HeadsDenote.{valued_term, valued_other}
 use Rattle.denotation_renaming.specs.Along.{AgreeAlong, FillAlong}

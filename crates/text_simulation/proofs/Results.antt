@@ -1,16 +1,16 @@
 -- How results that are so are put together, and the steps on a heap.
-use Rattle.std.proofs.Common.{◌≡◌, ℕ, List, [], ◌∷◌, Option, Some, None, option_map, refl, sym, ap, ◌∙◌, subst, true, false}
+use Rattle.std.proofs.Common.{◌≡◌, ℕ, List, [], ◌∷◌, Option, Some, None, refl, sym, subst, true, false}
 use Rattle.std.specs.Prelude.{Bool, if◌then◌else◌}
 use Rattle.htt_syntax.specs.declared.mono.Op.{Op}
 use Rattle.htt_syntax.specs.declared.mono.Op.TheVariants.{Lt}
-use Rattle.htt_syntax.specs.Trees.{MonoTree, m_word, m_bool, m_loc, m_unit, m_pair, m_var}
-use Rattle.htt_values.specs.Values.{Value, v_word, v_bool, v_loc, v_unit, v_pair, HasType, is_word, is_bool, is_loc, is_unit, is_pair, op_mono, op_value, encoding, value_of_words, value_of_op, value_of_not, value_of_eq, value_of_sel, value_of_fst, value_of_snd}
+use Rattle.htt_syntax.specs.Trees.{MonoTree, m_word, m_bool, m_loc, m_unit, m_pair}
+use Rattle.htt_values.specs.Values.{Value, v_word, v_bool, v_loc, v_unit, v_pair, HasType, is_word, is_bool, is_loc, is_unit, is_pair, op_mono, op_value, encoding, value_of_op, value_of_not, value_of_eq, value_of_sel, value_of_fst, value_of_snd}
 use Rattle.htt_values.specs.Heaps.{Block, Heap, with_block, without_block}
 use Rattle.htt_values.proofs.Decoding.{decodes}
 use Rattle.htt_truth.specs.TermValue.{value_or_unit}
 use Rattle.htt_typing.specs.Contexts.{IsComparable, compares_word, compares_bool, compares_loc}
 use Rattle.htt_meaning.specs.Closures.{RunValue, base, PureResult, gives, lacks_fuel, faults, RunResult, done, no_fuel, asks, fault}
-use Rattle.htt_meaning.specs.Meaning.{then_with, base_or_fault, of_one, of_two, of_three, of_eq, run_with, then_run, is_fresh, block_value, is_as_wide, alloc_result, get_result, set_result, free_result, branch_result}
+use Rattle.htt_meaning.specs.Meaning.{then_with, base_or_fault, run_with, then_run, is_fresh, block_value, is_as_wide, alloc_result, get_result, set_result, free_result, branch_result}
 use Rattle.denotation.specs.Outcomes.{Outcome, ended, out_of_fuel, asking, wrong, then_outcome, value_outcome, alloc_outcome, get_outcome, set_outcome, free_outcome, branch_outcome}
 use Rattle.denotation.specs.Valuations.{Valuation, mono_in}
 use Rattle.denotation.specs.Laws.{run_result}

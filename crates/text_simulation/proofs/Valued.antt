@@ -1,10 +1,10 @@
 -- What is closed does the same everywhere, the heads of items are valued, and phrases that are the same
 -- but for positions do the same.
-use Rattle.std.proofs.Common.{◌≡◌, ◌<◌, ◌≤◌, ℕ, zero, suc, List, [], ◌∷◌, Option, Some, refl, sym, ap, ◌∙◌, subst, arith}
+use Rattle.std.proofs.Common.{◌≡◌, ◌<◌, ◌≤◌, ℕ, zero, suc, List, [], Option, refl, sym, ap, ◌∙◌, subst, arith}
 use Rattle.htt_syntax.specs.Trees.{MonoTree, TyTree, TermTree, CompTree}
 use Rattle.htt_values.specs.Values.{Value}
 use Rattle.htt_values.specs.Heaps.{Heap}
-use Rattle.htt_meaning.specs.Closures.{RunValue, base, Env, PureResult, Items}
+use Rattle.htt_meaning.specs.Closures.{RunValue, base, Env, Items}
 use Rattle.htt_meaning.specs.Meaning.{base_or_fault, of_one, of_two, of_three, term_result, inner_result, comp_result, runner_of}
 use Rattle.canonical_trees.specs.Skeletons.{Skeleton, skeleton}
 use Rattle.canonical_trees.specs.Contexts.{Heads}
@@ -18,7 +18,7 @@ use Rattle.denotation.specs.Valued.{IsOf, HeadsValued}
 use Rattle.denotation_moves.proofs.Agreeing.{into, out_of}
 use Rattle.denotation_positions.proofs.Plain.{plain_skeleton}
 use Rattle.typing_sound.proofs.Closed.{nothing_valued, nothing_along, ty_same, type_at}
-use Rattle.text_simulation.specs.Simulation.{Shaped, GivesSo, Alike, Does, ValDoes, ItemsDo}
+use Rattle.text_simulation.specs.Simulation.{GivesSo, Alike, Does, ValDoes, ItemsDo}
 use Rattle.text_simulation.proofs.Reindexed.{does_filled, does_plain}
 
 module _ (items : Items) where

@@ -1,6 +1,6 @@
 -- When a value of the text does what a denotation does, at a type and up to a bound on fuel. The text
 -- may want fuel where the denotation doesn't; else both come to the same.
-use Rattle.std.specs.Prelude.{◌≡◌, ◌<◌, ◌≤◌, ℕ, List, [], ◌∷◌, Option, Some, slice_get}
+use Rattle.std.specs.Prelude.{◌≡◌, ◌<◌, ◌≤◌, ℕ, List, [], ◌∷◌, Some, slice_get}
 use Rattle.htt_syntax.specs.Trees.{MonoTree, TyTree, TermTree, m_word, m_bool, m_loc, m_unit, m_pair, y_mono, y_fun, y_all, y_hoare, y_at}
 use Rattle.htt_values.specs.Values.{Value, v_word, v_bool, v_loc, v_unit, v_pair}
 use Rattle.htt_values.specs.Heaps.{Heap}
@@ -8,7 +8,7 @@ use Rattle.htt_meaning.specs.Closures.{RunValue, base, Env, nothing, with_mono, 
 use Rattle.htt_meaning.specs.Meaning.{item_result, application_result, instance_result, inner_result, start_result, runner_of}
 use Rattle.canonical_trees.specs.Skeletons.{Skeleton, sk_o, sk_c, sk_arrow, sk_all, skeleton}
 use Rattle.htt_typing.specs.Contexts.{Context, Environment, en_mono, en_term}
-use Rattle.denotation.specs.Outcomes.{Outcome, ended, out_of_fuel, asking, wrong}
+use Rattle.denotation.specs.Outcomes.{Outcome, ended, asking, wrong}
 use Rattle.denotation.specs.Valuations.{Domain, den_mono, den_term, Valuation, mono_in, HeadEntries}
 use Rattle.denotation.specs.Denotation.{term_den}
 use Rattle.denotation.specs.Satisfaction.{answer_mono}
