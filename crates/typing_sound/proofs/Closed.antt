@@ -24,13 +24,13 @@ use Rattle.typing_sound.specs.Environments.{ValMeans, EnvironmentMeans}
 nothing_undone : Undoes m_var (λ n. n) (λ n. n)
 nothing_undone = record { monos = λ n. refl; indices = λ n. refl }
 
-nothing_valued : ContextValued [] []
+pub nothing_valued : ContextValued [] []
 nothing_valued = record { at = λ n s d. elim d [ ] }
 
-nothing_along : (w : Valuation) → FillAlong m_var (λ n. n) [] [] w
+pub nothing_along : (w : Valuation) → FillAlong m_var (λ n. n) [] [] w
 nothing_along w = record { monos = λ n d. elim d [ ]; heaps = λ n d. elim d [ ]; terms = λ n s d. elim d [ ] }
 
-ty_same : {heads : Heads} {ty : TyTree} → IsCanonicalTy heads [] ty → fill_ty m_var (λ n. n) ty ≡ ty
+pub ty_same : {heads : Heads} {ty : TyTree} → IsCanonicalTy heads [] ty → fill_ty m_var (λ n. n) ty ≡ ty
 ty_same {ty = ty} c = ap (fill_ty m_var (λ n. n)) (sym (ty_stays (λ n. n) (λ n. refl) ty)) ∙ ty_back nothing_undone c
 
 term_same : {heads : Heads} {term : TermTree} {s : Skeleton} → IsCanonical heads [] term s → fill_term m_var (λ n. n) term ≡ term
@@ -43,12 +43,12 @@ pub closed_den : {heads : Heads} {e : HeadEntries} {term : TermTree} {s : Skelet
 closed_den {e = e} {s = s} w h c = ap (λ t. term_den e w t s) (sym (term_same c)) ∙ term_filled h c (nothing_along w) nothing_valued
 
 -- the type of a head of these skeletons
-record TypeAt (types : List TyTree) (n : ℕ) (s : Skeleton) : Type 0 where
-  ty : TyTree
-  found : slice_get types n ≡ Some ty
-  is : skeleton ty ≡ s
+pub record TypeAt (types : List TyTree) (n : ℕ) (s : Skeleton) : Type 0 where
+  pub ty : TyTree
+  pub found : slice_get types n ≡ Some ty
+  pub is : skeleton ty ≡ s
 
-type_at : (types : List TyTree) (n : ℕ) (s : Skeleton) → HasSkeleton (map skeleton types) n s → TypeAt types n s
+pub type_at : (types : List TyTree) (n : ℕ) (s : Skeleton) → HasSkeleton (map skeleton types) n s → TypeAt types n s
 type_at [] n s d = elim d [ ]
 type_at (u ∷ types) zero s first_head = record { ty = u; found = refl; is = refl }
 type_at (u ∷ types) (suc n) s (later_head d) = let o = type_at types n s d in record { ty = o.ty; found = o.found; is = o.is }

@@ -2,13 +2,13 @@
 use Rattle.std.proofs.Common.{◌≡◌, ℕ, zero, suc, List, [], ◌∷◌, ◌++◌, true, false, refl, sym, ap, ◌∙◌, subst, inl, inr}
 use Rattle.htt_syntax.specs.Trees.{MonoTree, TyTree, TripleTree, TermTree, FixTree, CompTree, StepTree, FormulaTree, m_bool, y_mono, y_hoare, triple, t_var, t_val, t_fix, t_fst, t_snd, t_not, t_bin, t_eq, t_sel}
 use Rattle.htt_renaming.specs.Renaming.{rename_ty, rename_triple}
-use Rattle.htt_values.specs.Values.{Value, op_mono, v_bool, v_unit, HasType, is_word, is_bool, is_loc, is_unit, is_pair}
+use Rattle.htt_values.specs.Values.{Value, op_mono, v_bool, HasType, is_word, is_bool, is_loc, is_unit, is_pair}
 use Rattle.htt_values.specs.Heaps.{Heap, IsHeap}
 use Rattle.htt_values.proofs.Joins.{part_is_heap}
 use Rattle.htt_truth.specs.Predicates.{RecTree, recs_of}
 use Rattle.canonical_trees.specs.Skeletons.{Skeleton, sk_o, sk_c, sk_arrow, skeleton}
 use Rattle.canonical_trees.specs.Contexts.{as_term}
-use Rattle.canonical_trees.specs.Canonical.{IsCanonicalComp, IsCanonicalTy, IsCanonicalTriple, IsCanonicalFormula, IsCanonicalMono, n_unit, n_mono, n_m_bool, n_triple}
+use Rattle.canonical_trees.specs.Canonical.{IsCanonicalTy, IsCanonicalTriple, IsCanonicalFormula, IsCanonicalMono, n_mono, n_m_bool, n_triple}
 use Rattle.canonical_trees.proofs.Renamed.{keeps_suc, skeleton_stays, mono_renamed as mono_canonical_renamed, ty_renamed, triple_renamed}
 use Rattle.substitution.specs.Monotypes.{put_mono, put_mono_ty, put_mono_term}
 use Rattle.substitution.specs.Closing.{closing}
@@ -16,15 +16,15 @@ use Rattle.substitution.proofs.Skeletons.{skeleton_kept, skeleton_filled}
 use Rattle.substitution_total.specs.Insertion.{ins_here}
 use Rattle.htt_states.specs.States.{move_get, move_set, move_free, move_run, move_claim, owed, finish, merge, last}
 use Rattle.htt_typing.specs.Contexts.{Context, Environment, Obligation, en_term, EndsInHoare}
-use Rattle.htt_typing.specs.Typing.{Mode, with_heaps, owes, Part, part_step, part_comp, part_unit, Joined, joined_step, joined_comp, joined_unit, Gives, Fits, FormsHeader, FitsFix, FitsBody, Runs, Moves, gives_var, gives_val, gives_def, gives_word, gives_bool, gives_loc, gives_unit, gives_app, gives_inst, gives_ann, gives_pair, gives_fst, gives_snd, gives_bin, gives_not, gives_eq, gives_sel, gives_fix, gives_at, fits_lam, fits_lam_t, fits_pair, fits_do, fits_given, fits_at, header_param, header_body, fix_param, fix_body, fits_body, runs_ret, runs_step, moves_alloc, moves_get, moves_set, moves_free, moves_run, moves_if, moves_claim}
+use Rattle.htt_typing.specs.Typing.{Mode, with_heaps, owes, Part, Gives, Fits, FormsHeader, FitsFix, FitsBody, Runs, Moves, gives_var, gives_val, gives_def, gives_word, gives_bool, gives_loc, gives_unit, gives_app, gives_inst, gives_ann, gives_pair, gives_fst, gives_snd, gives_bin, gives_not, gives_eq, gives_sel, gives_fix, gives_at, fits_lam, fits_lam_t, fits_pair, fits_do, fits_given, fits_at, header_param, header_body, fix_param, fix_body, fits_body, runs_ret, runs_step, moves_alloc, moves_get, moves_set, moves_free, moves_run, moves_if, moves_claim}
 use Rattle.typing_canonical.specs.Environments.{standings, heads_of, at_state, IsCanonicalEnvironment, IsCanonicalContext, mono_entry, term_entry}
-use Rattle.typing_canonical.proofs.Entries.{mono_canonical, argument_part, answer_part, under_mono, spec_part, lam_body, lam_t_body, IsCanonicalPart}
+use Rattle.typing_canonical.proofs.Entries.{mono_canonical, argument_part, answer_part, under_mono, spec_part, lam_body, lam_t_body}
 use Rattle.typing_canonical.proofs.StatesKept.{start_kept, branch_kept}
 use Rattle.typing_canonical.proofs.Typed.{formed_ty, given as canonical_given, fitted as canonical_fitted, header, ran, moved}
-use Rattle.denotation.specs.Outcomes.{Outcome, Running, ended, in_sequence, branch_outcome}
+use Rattle.denotation.specs.Outcomes.{Outcome, Running, branch_outcome}
 use Rattle.denotation.specs.Valuations.{Domain, Entry, den_mono, den_heap, den_term, Valuation, mono_in, HeadEntries}
 use Rattle.denotation.specs.Recursion.{recursion}
-use Rattle.denotation.specs.Denotation.{fix_skeleton, term_den, fix_den, comp_den, step_den}
+use Rattle.denotation.specs.Denotation.{fix_skeleton, term_den, fix_den, comp_den}
 use Rattle.denotation.specs.Satisfaction.{Satisfies, PreAt, PostAt, answer_mono}
 use Rattle.denotation.proofs.HeadsDenote.{fix_value, valued_other}
 use Rattle.denotation_renaming.specs.Insertion.{entry_here}
@@ -34,7 +34,7 @@ use Rattle.denotation_renaming.proofs.Folded.{folded}
 use Rattle.denotation_renaming.proofs.Expanded.{expanded}
 use Rattle.denotation_renaming.proofs.FilledTruth.{put_along}
 use Rattle.denotation_substitution.proofs.Placing.{put_here}
-use Rattle.denotation_substitution.proofs.Terms.{term_put, comp_put, spliced, family_put}
+use Rattle.denotation_substitution.proofs.Terms.{term_put, family_put}
 use Rattle.denotation_types.specs.Meeting.{Post, EndsWell, Meets}
 use Rattle.denotation_types.specs.Types.{Means, ContextMeans, means_mono, means_heap, means_term}
 use Rattle.denotation_types.proofs.Reindexed.{means_renamed, means_put, means_filled}
@@ -50,6 +50,7 @@ use Rattle.typing_sound.specs.Environments.{EnvironmentMeans, IsTrueGoal, AllTru
 use Rattle.typing_sound.specs.Laws.{TypingIsSound}
 use Rattle.typing_sound.proofs.Values.{fst_typed, snd_typed, not_typed, op_typed, eq_typed, sel_typed, op_mono_in, closed_in, all_left, all_right, owed_true}
 use Rattle.typing_sound.proofs.Closed.{closed_means, closed_den, heads_valued}
+use Rattle.typing_sound.proofs.Parts.{part_den, joined_den}
 use Rattle.typing_sound.proofs.Ends.{EndPost, finish_holds, ends_mapped, ends_then}
 
 header_ends : {env : Environment} {g : Context} {fix : FixTree} {ty : TyTree} → FormsHeader env g fix ty → EndsInHoare ty
@@ -60,12 +61,6 @@ fix_is_of : {env : Environment} {g : Context} {whole ty : TyTree} {fix r : FixTr
 unfolding fix_skeleton skeleton
 fix_is_of (fix_param {argument' = argument'} a) = λ j. sk_arrow (skeleton argument') (fix_is_of a j)
 fix_is_of (fix_body a) = refl
-
--- what a step denotes as what it becomes
-abbrev part_den : HeadEntries → Valuation → Part → Running
-part_den e w (part_step step) = step_den e w step
-part_den e w (part_comp comp) = comp_den e w comp
-part_den e w part_unit = λ n h cs. ended v_unit h cs
 
 module _ (table : List RecTree) (env : Environment) (e : HeadEntries) (known : IsCanonicalEnvironment env) (valued : EnvironmentMeans table env e) where
   -- a denotation is of a type at the skeleton of another
@@ -99,12 +94,6 @@ module _ (table : List RecTree) (env : Environment) (e : HeadEntries) (known : I
   branches_mean : {v : Value} (t : MonoTree) (post : Post) (init frame : Heap) (x y : Outcome) → HasType v m_bool → (v ≡ v_bool true → EndsWell t post init frame x) → (v ≡ v_bool false → EndsWell t post init frame y) → EndsWell t post init frame (branch_outcome v x y)
   branches_mean t post init frame x y (is_bool {b = true}) f g = f refl
   branches_mean t post init frame x y (is_bool {b = false}) f g = g refl
-
-  joined_den : {g : Context} {w : Valuation} {part : Part} {others r : CompTree} → Joined part others r → ContextMeans (recs_of table) e g w → IsCanonicalPart (heads_of env) (standings g) part → IsCanonicalComp (heads_of env) (as_term sk_o ∷ standings g) others → comp_den e w r ≡ in_sequence (part_den e w part) (λ v. comp_den e (den_term sk_o v ∷ w) others)
-  unfolding term_den
-  joined_den joined_step k c d = refl
-  joined_den (joined_comp b) k c d = spliced b c d (heads_valued valued) (context_valued table e k)
-  joined_den (joined_unit a) k c d = comp_put a d (put_here (heads_valued valued) (context_valued table e k) n_unit)
 
   mutual
     unfolding Means skeleton term_den
@@ -198,7 +187,7 @@ module _ (table : List RecTree) (env : Environment) (e : HeadEntries) (known : I
         let inner = term_entry c (n_mono x.mono) in
         let mc' = mono_canonical_renamed mc (keeps_suc (as_term sk_o) (standings g)) in
         let y = ran env known inner mc' x.state b in
-        subst (λ (f : Running). EndsWell (mono_in w mono) (EndPost table e w end (left ∷ zs) value) init frame (f n whole cs)) (sym (joined_den j k x.part y.whole))
+        subst (λ (f : Running). EndsWell (mono_in w mono) (EndPost table e w end (left ∷ zs) value) init frame (f n whole cs)) (sym (joined_den j (heads_valued valued) (context_valued table e k) x.part y.whole))
         (ends_then (mono_in w left) (mono_in w mono) (NextState table e w next) (EndPost table e w end (left ∷ zs) value) init frame (part_den e w part n whole cs) (λ v h ds. comp_den e (den_term sk_o v ∷ w) others' n h ds)
         (λ v own h ds ih jh words typed holds.
         ends_mapped (mono_in w mono) (EndPost table e (den_term sk_o v ∷ w) end zs value) (EndPost table e w end (left ∷ zs) value) init frame (comp_den e (den_term sk_o v ∷ w) others' n h ds) (λ u own2 io tu ends. (v, typed, ends))
