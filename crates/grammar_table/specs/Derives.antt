@@ -1,19 +1,20 @@
 -- What the table derives: a phrase takes the first of some tokens, and leaves the rest.
 use Rattle.std.specs.Prelude.{◌≡◌, ℕ, List, [], ◌∷◌}
-use Rattle.htt_tokens.specs.declared.tokens.Token.{Token}
+use Rattle.htt_tokens.specs.declared.tokens.Kind.{Kind}
 use Rattle.htt_tokens.specs.declared.tokens.Kind.TheVariants as kinds
+use Rattle.htt_tokens.specs.declared.tokens.Token.{Token}
 use Rattle.grammar_table.specs.declared.symbols.Symbol.{Symbol}
 use Rattle.grammar_table.specs.declared.symbols.Symbol.TheVariants.{Word, Mark, Name, Number, Phrase}
 use Rattle.grammar_table.specs.declared.symbols.Nonterminal.{Nonterminal}
 use Rattle.grammar_table.specs.Table.{alternatives_of}
 
--- the token is what the symbol asks for
-abbrev pub IsOne : Symbol → Token → Type 0
-IsOne (Word w) token = token.kind ≡ kinds.Keyword w
-IsOne (Mark s) token = token.kind ≡ kinds.Sign s
-IsOne Name token = token.kind ≡ kinds.Name
-IsOne Number token = (n : ℕ) × (token.kind ≡ kinds.Number n)
-IsOne (Phrase n) token = ⊥
+-- a token of this kind is what the symbol asks for
+abbrev pub IsOne : Symbol → Kind → Type 0
+IsOne (Word w) kind = kind ≡ kinds.Keyword w
+IsOne (Mark s) kind = kind ≡ kinds.Sign s
+IsOne Name kind = kind ≡ kinds.Name
+IsOne Number kind = (n : ℕ) × (kind ≡ kinds.Number n)
+IsOne (Phrase n) kind = ⊥
 
 -- the tokens begin with such a phrase, such a row or one of such rows, and these are left
 mutual
@@ -26,7 +27,7 @@ mutual
 
   pub data Row : List Symbol → List Token → List Token → Type 0 where
     row_ends : {ts : List Token} → Row [] ts ts
-    token_first : {s : Symbol} {row : List Symbol} {t : Token} {ts us : List Token} → IsOne s t → Row row ts us → Row (s ∷ row) (t ∷ ts) us
+    token_first : {s : Symbol} {row : List Symbol} {t : Token} {ts us : List Token} → IsOne s t.kind → Row row ts us → Row (s ∷ row) (t ∷ ts) us
     phrase_first : {n : Nonterminal} {row : List Symbol} {ts us vs : List Token} → Derives n ts us → Row row us vs → Row (Phrase n ∷ row) ts vs
 
 -- the tokens are such a phrase, and none is left

@@ -116,7 +116,7 @@ alternatives_of Application =
 alternatives_of Parts =
     ([])
     ∷ (Phrase Atom ∷ Phrase Parts ∷ [])
-    ∷ (Phrase MonoInBrackets ∷ Phrase Parts ∷ [])
+    ∷ (Mark OpenBracketSign ∷ Phrase Mono ∷ Mark CloseBracketSign ∷ Phrase Parts ∷ [])
     ∷ []
 alternatives_of Atom =
     (Name ∷ [])
@@ -275,3 +275,7 @@ alternatives_of File =
     ([])
     ∷ (Phrase Declaration ∷ Phrase File ∷ [])
     ∷ []
+
+-- each nonterminal once
+abbrev pub every_nonterminal : List Nonterminal
+every_nonterminal = Binder ∷ MonoName ∷ SumSign ∷ ProductSign ∷ UnaryWord ∷ UnaryRule ∷ HeapNumber ∷ Heap ∷ Factor ∷ Mono ∷ MonoInBrackets ∷ MonosAfter ∷ Monos ∷ TypePhrase ∷ Triple ∷ Term ∷ Parameters ∷ Relation ∷ Sum ∷ SumRest ∷ Product ∷ ProductRest ∷ Application ∷ Parts ∷ Atom ∷ Comp ∷ Step ∷ Formula ∷ Sort ∷ Disjunction ∷ Conjunction ∷ Separation ∷ FormulaAtom ∷ Terms ∷ TermsAfter ∷ Argument ∷ Arguments ∷ ArgumentsAfter ∷ Motive ∷ Proof ∷ Statement ∷ End ∷ ProofsAfter ∷ NamesAfter ∷ Names ∷ MonoParameter ∷ MonoParametersAfter ∷ MonoParameters ∷ Body ∷ Declaration ∷ File ∷ []

@@ -6,4 +6,4 @@ mod symbols;
 mod table;
 
 pub use symbols::{Nonterminal, Symbol};
-pub use table::alternatives;
+pub use table::{alternatives, nonterminals};

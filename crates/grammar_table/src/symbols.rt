@@ -67,7 +67,7 @@ pub enum Nonterminal {
     ProductRest,
     /// UnaryWord Atom | Atom Parts
     Application,
-    /// nothing | Atom Parts | MonoInBrackets Parts
+    /// nothing | Atom Parts | `[` Mono `]` Parts
     Parts,
     /// name | number | `true` | `false` | `null` | `place` number | `eq` MonoInBrackets `(` Term `,` Term `)` | `sel` MonoInBrackets `(` Term `,` Term `,` Term `)` | `(` `)` | `(` Term `)` | `(` Term `,` Term `)` | `(` Term `:` TypePhrase `)`
     Atom,

@@ -2,7 +2,7 @@
 //! monotypes, types and terms, computations, formulas, proofs and declarations.
 
 ghost use Rattle.std.specs.Prelude.{◌≡◌, map};
-ghost use Rattle.grammar_table.specs.Table.{alternatives_of};
+ghost use Rattle.grammar_table.specs.Table.{alternatives_of, every_nonterminal};
 
 use crate::Nonterminal::*;
 use crate::Symbol::*;
@@ -173,7 +173,12 @@ static APPLICATION: [&[Symbol]; 2] = [
 static PARTS: [&[Symbol]; 3] = [
     &[],
     &[Phrase(Atom), Phrase(Parts)],
-    &[Phrase(MonoInBrackets), Phrase(Parts)],
+    &[
+        Mark(OpenBracketSign),
+        Phrase(Mono),
+        Mark(CloseBracketSign),
+        Phrase(Parts),
+    ],
 ];
 
 static ATOM: [&[Symbol]; 12] = [
@@ -736,4 +741,65 @@ pub fn alternatives(nonterminal: Nonterminal) -> &'static [&'static [Symbol]]
         Nonterminal::Declaration => &DECLARATION,
         Nonterminal::File => &FILE,
     }
+}
+
+static NONTERMINALS: [Nonterminal; 51] = [
+    Binder,
+    MonoName,
+    SumSign,
+    ProductSign,
+    UnaryWord,
+    UnaryRule,
+    HeapNumber,
+    Heap,
+    Factor,
+    Mono,
+    MonoInBrackets,
+    MonosAfter,
+    Monos,
+    TypePhrase,
+    Triple,
+    Term,
+    Parameters,
+    Relation,
+    Sum,
+    SumRest,
+    Product,
+    ProductRest,
+    Application,
+    Parts,
+    Atom,
+    Comp,
+    Step,
+    Formula,
+    Sort,
+    Disjunction,
+    Conjunction,
+    Separation,
+    FormulaAtom,
+    Terms,
+    TermsAfter,
+    Argument,
+    Arguments,
+    ArgumentsAfter,
+    Motive,
+    Proof,
+    Statement,
+    End,
+    ProofsAfter,
+    NamesAfter,
+    Names,
+    MonoParameter,
+    MonoParametersAfter,
+    MonoParameters,
+    Body,
+    Declaration,
+    File,
+];
+
+/// Each nonterminal once.
+pub fn nonterminals() -> &'static [Nonterminal]
+    ensures { result.now ≡ every_nonterminal }
+{
+    &NONTERMINALS
 }
