@@ -1,0 +1,12 @@
+pub mod Takes
+pub mod Operands
+pub mod Phrased
+pub mod MonotypesMake
+pub mod MonotypesBuilt
+pub mod TermsMake
+pub mod TermsBuilt
+pub mod ProofsMake
+pub mod ProofsBuilt
+pub mod FilesMake
+pub mod FilesBuilt
+pub mod OfTable

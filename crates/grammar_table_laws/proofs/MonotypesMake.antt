@@ -1,0 +1,75 @@
+-- From the marks of a tree to a derivation: monotypes.
+use Rattle.std.proofs.Common.{◌≡◌, ℕ, suc, ◌⊎◌, inl, inr, List, [], ◌∷◌, refl}
+use Rattle.std.specs.Prelude.{Option, Some, None}
+use Rattle.htt_tokens.specs.declared.tokens.Token.{Token}
+use Rattle.htt_tokens.specs.declared.tokens.Sign.TheVariants.{CommaSign}
+use Rattle.raw_trees.specs.declared.place.Span.{Span}
+use Rattle.raw_trees.specs.declared.place.Binder.{Binder as BinderTree}
+use Rattle.raw_trees.specs.declared.place.Binder.TheVariants as binders
+use Rattle.raw_trees.specs.declared.mono.MonoName.{MonoName as MonoNameTree}
+use Rattle.raw_trees.specs.declared.mono.MonoName.TheVariants as mono_names
+use Rattle.raw_trees.specs.declared.tree.SumSign.{SumSign as SumSignTree}
+use Rattle.raw_trees.specs.declared.tree.SumSign.TheVariants as sum_signs
+use Rattle.raw_trees.specs.declared.tree.ProdSign.{ProdSign}
+use Rattle.raw_trees.specs.declared.tree.ProdSign.TheVariants as prod_signs
+use Rattle.raw_trees.specs.declared.tree.UnaryWord.{UnaryWord as UnaryWordTree}
+use Rattle.raw_trees.specs.declared.tree.UnaryWord.TheVariants as unary_words
+use Rattle.raw_trees.specs.declared.tree.RawHeap.{RawHeap}
+use Rattle.raw_trees.specs.declared.tree.RawHeap.TheVariants as heaps
+use Rattle.raw_trees.specs.declared.proof.UnaryRule.{UnaryRule as UnaryRuleTree}
+use Rattle.raw_trees.specs.declared.proof.UnaryRule.TheVariants as unary_rules
+use Rattle.raw_trees.specs.Trees.{FactorTree, MonoTree, m_name, m_brackets, m_factor, m_pair, TyTree, TripleTree, TermTree, ParamTrees, RelTree, SumTree, SumRestTree, ProdTree, ProdRestTree, ApplTree, PartTrees, AtomTree, CompTree, StepTree, FormulaTree, SortTree, DisjTree, ConjTree, StarTree, FatomTree, TermTrees, y_fun, y_all, y_hoare, y_mono, triple_of, t_fun, t_fun_mono, t_do, t_fix, t_rel, no_params, more_params, r_sum, r_less, s_sum, s_end, s_more, x_prod, x_end, x_more, l_unary, l_apply, no_parts, atom_part, mono_part, a_name, a_number, a_true, a_false, a_null, a_place, a_eq, a_sel, a_unit, a_brackets, a_pair, a_annotated, c_ret, c_step, s_alloc, s_get, s_set, s_free, s_if, s_claim, s_run, f_all, f_ex, f_disj, f_implies, over_mono, over_heap, d_conj, d_or, j_star, j_and, k_fatom, k_times, g_tt, g_ff, g_emp, g_brackets, g_at_heap, g_emp_of, g_same, g_join, g_cell, g_block, g_use, g_use_at, g_use_at_heap, g_eq, g_points, g_points_any, no_terms, more_terms, ArgTree, arg_heap, arg_term, MotiveTree, motive_of, ProofTree, StmtTree, EndTree, ProofTrees, p_end, p_step, b_intro, b_gen, b_open, b_have, e_name, e_trivial, e_refl, e_unary, e_both, e_give, e_app, e_inst, e_case, e_rewrite, e_induct, e_split, e_axiom, e_unfold, e_lem, e_the, no_proofs, more_proofs, MonoParamTree, mono_param, BodyTree, body_auto, body_proof, DeclTree, decl_type, decl_pred, decl_induct, decl_def, decl_val, decl_proof}
+use Rattle.grammar_table.specs.declared.symbols.Nonterminal.{Nonterminal}
+use Rattle.grammar_table.specs.declared.symbols.Nonterminal.TheVariants.{Binder, MonoName, SumSign, ProductSign, UnaryWord, UnaryRule, HeapNumber, Heap, Factor, Mono, MonoInBrackets, MonosAfter, Monos, TypePhrase, Triple, Term, Parameters, Relation, Sum, SumRest, Product, ProductRest, Application, Parts, Atom, Comp, Step, Formula, Sort, Disjunction, Conjunction, Separation, FormulaAtom, Terms, TermsAfter, Argument, Arguments, ArgumentsAfter, Motive, Proof, Statement, End, ProofsAfter, NamesAfter, Names, MonoParameter, MonoParametersAfter, MonoParameters, Body, Declaration, File}
+use Rattle.htt_grammar.specs.Marks.{Mark, span_of, ◌⨟◌, sign, word_at, name, number, each_after}
+use Rattle.htt_grammar.specs.Grammar
+use Rattle.grammar_table_laws.proofs.Takes.{Makes, none, one, one_alone, sub, last, left_first, skip, unnumbered, by}
+
+pub binder_makes : (l : ℕ) (x : BinderTree) → Makes (Grammar.binder l x) Binder
+unfolding Grammar.mono each_after
+binder_makes l (binders.Name s0) = by 0 tt (one_alone refl)
+binder_makes l binders.Blank = by 1 tt (one_alone refl)
+
+pub mono_name_makes : (l : ℕ) (x : MonoNameTree) → Makes (Grammar.mono_name l x) MonoName
+unfolding Grammar.mono each_after
+mono_name_makes l (mono_names.Word a0) = by 0 tt (one_alone refl)
+mono_name_makes l (mono_names.Bool a0) = by 1 tt (one_alone refl)
+mono_name_makes l (mono_names.Loc a0) = by 2 tt (one_alone refl)
+mono_name_makes l (mono_names.Unit a0) = by 3 tt (one_alone refl)
+mono_name_makes l (mono_names.Name s0) = by 4 tt (one_alone refl)
+
+pub heap_number_makes : (l : ℕ) (x : Option ℕ) → Makes (Grammar.over l x) HeapNumber
+unfolding Grammar.mono each_after
+heap_number_makes l None = by 0 tt none
+heap_number_makes l (Some n1) = by 1 tt (one _ refl (one_alone (n1, refl)))
+
+pub heap_makes : (l : ℕ) (x : RawHeap) → Makes (Grammar.heap l x) Heap
+unfolding Grammar.mono each_after
+heap_makes l (heaps.Name s0) = by 0 tt (one_alone refl)
+heap_makes l (heaps.Init a0 x1) = by 1 tt (one _ refl (last (heap_number_makes _ x1)))
+heap_makes l (heaps.Mem a0 x1) = by 2 tt (one _ refl (last (heap_number_makes _ x1)))
+
+mutual
+  unfolding Grammar.mono each_after
+
+  pub factor_makes : (l : ℕ) (x : FactorTree) → Makes (Grammar.factor l x) Factor
+  factor_makes l (m_name x0) = by 0 tt (last (mono_name_makes _ x0))
+  factor_makes l (m_brackets a0 x1) = by 1 tt (one _ refl (sub (mono_makes _ x1) (one_alone refl)))
+
+  pub mono_makes : (l : ℕ) (x : MonoTree) → Makes (Grammar.mono l x) Mono
+  mono_makes l (m_factor x0) = by 0 tt (last (factor_makes _ x0))
+  mono_makes l (m_pair x0 x2) = by 1 tt (sub (factor_makes _ x0) (one _ refl (last (mono_makes _ x2))))
+
+pub mono_in_brackets_makes : (l : ℕ) (x : MonoTree) → Makes (Grammar.in_brackets l x) MonoInBrackets
+unfolding Grammar.mono each_after
+mono_in_brackets_makes l x1 = by 0 tt (one _ refl (sub (mono_makes _ x1) (one_alone refl)))
+
+pub monos_after_makes : (l : ℕ) (x : List MonoTree) → Makes (each_after (sign l CommaSign) (Grammar.mono l) x) MonosAfter
+unfolding Grammar.mono each_after
+monos_after_makes l [] = by 0 tt none
+monos_after_makes l (x1 ∷ x2) = by 1 tt (one _ refl (sub (mono_makes _ x1) (last (monos_after_makes _ x2))))
+
+pub monos_makes : (l : ℕ) (x : List MonoTree) → Makes (Grammar.monos l x) Monos
+unfolding Grammar.mono each_after
+monos_makes l [] = by 0 tt none
+monos_makes l (x1 ∷ x2) = by 1 tt (one _ refl (left_first _ _ _ (sub (mono_makes _ x1) (sub (monos_after_makes _ x2) (one_alone refl)))))

@@ -1,0 +1,183 @@
+-- Which trees the phrases of the table have, and what a row of the table has.
+use Rattle.std.proofs.Common.{◌≡◌, ℕ, suc, ◌⊎◌, inl, inr, List, [], ◌∷◌, refl}
+use Rattle.std.specs.Prelude.{Option, Some, None}
+use Rattle.htt_tokens.specs.declared.tokens.Token.{Token}
+use Rattle.htt_tokens.specs.declared.tokens.Sign.TheVariants.{CommaSign}
+use Rattle.raw_trees.specs.declared.place.Span.{Span}
+use Rattle.raw_trees.specs.declared.place.Binder.{Binder as BinderTree}
+use Rattle.raw_trees.specs.declared.place.Binder.TheVariants as binders
+use Rattle.raw_trees.specs.declared.mono.MonoName.{MonoName as MonoNameTree}
+use Rattle.raw_trees.specs.declared.mono.MonoName.TheVariants as mono_names
+use Rattle.raw_trees.specs.declared.tree.SumSign.{SumSign as SumSignTree}
+use Rattle.raw_trees.specs.declared.tree.SumSign.TheVariants as sum_signs
+use Rattle.raw_trees.specs.declared.tree.ProdSign.{ProdSign}
+use Rattle.raw_trees.specs.declared.tree.ProdSign.TheVariants as prod_signs
+use Rattle.raw_trees.specs.declared.tree.UnaryWord.{UnaryWord as UnaryWordTree}
+use Rattle.raw_trees.specs.declared.tree.UnaryWord.TheVariants as unary_words
+use Rattle.raw_trees.specs.declared.tree.RawHeap.{RawHeap}
+use Rattle.raw_trees.specs.declared.tree.RawHeap.TheVariants as heaps
+use Rattle.raw_trees.specs.declared.proof.UnaryRule.{UnaryRule as UnaryRuleTree}
+use Rattle.raw_trees.specs.declared.proof.UnaryRule.TheVariants as unary_rules
+use Rattle.raw_trees.specs.Trees.{FactorTree, MonoTree, m_name, m_brackets, m_factor, m_pair, TyTree, TripleTree, TermTree, ParamTrees, RelTree, SumTree, SumRestTree, ProdTree, ProdRestTree, ApplTree, PartTrees, AtomTree, CompTree, StepTree, FormulaTree, SortTree, DisjTree, ConjTree, StarTree, FatomTree, TermTrees, y_fun, y_all, y_hoare, y_mono, triple_of, t_fun, t_fun_mono, t_do, t_fix, t_rel, no_params, more_params, r_sum, r_less, s_sum, s_end, s_more, x_prod, x_end, x_more, l_unary, l_apply, no_parts, atom_part, mono_part, a_name, a_number, a_true, a_false, a_null, a_place, a_eq, a_sel, a_unit, a_brackets, a_pair, a_annotated, c_ret, c_step, s_alloc, s_get, s_set, s_free, s_if, s_claim, s_run, f_all, f_ex, f_disj, f_implies, over_mono, over_heap, d_conj, d_or, j_star, j_and, k_fatom, k_times, g_tt, g_ff, g_emp, g_brackets, g_at_heap, g_emp_of, g_same, g_join, g_cell, g_block, g_use, g_use_at, g_use_at_heap, g_eq, g_points, g_points_any, no_terms, more_terms, ArgTree, arg_heap, arg_term, MotiveTree, motive_of, ProofTree, StmtTree, EndTree, ProofTrees, p_end, p_step, b_intro, b_gen, b_open, b_have, e_name, e_trivial, e_refl, e_unary, e_both, e_give, e_app, e_inst, e_case, e_rewrite, e_induct, e_split, e_axiom, e_unfold, e_lem, e_the, no_proofs, more_proofs, MonoParamTree, mono_param, BodyTree, body_auto, body_proof, DeclTree, decl_type, decl_pred, decl_induct, decl_def, decl_val, decl_proof}
+use Rattle.grammar_table.specs.declared.symbols.Nonterminal.{Nonterminal}
+use Rattle.grammar_table.specs.declared.symbols.Nonterminal.TheVariants.{Binder, MonoName, SumSign, ProductSign, UnaryWord, UnaryRule, HeapNumber, Heap, Factor, Mono, MonoInBrackets, MonosAfter, Monos, TypePhrase, Triple, Term, Parameters, Relation, Sum, SumRest, Product, ProductRest, Application, Parts, Atom, Comp, Step, Formula, Sort, Disjunction, Conjunction, Separation, FormulaAtom, Terms, TermsAfter, Argument, Arguments, ArgumentsAfter, Motive, Proof, Statement, End, ProofsAfter, NamesAfter, Names, MonoParameter, MonoParametersAfter, MonoParameters, Body, Declaration, File}
+use Rattle.htt_grammar.specs.Marks as marks
+use Rattle.htt_grammar.specs.Marks.{span_of, ◌⨟◌, sign, word_at, name, number, each_after}
+use Rattle.htt_grammar.specs.Grammar
+use Rattle.grammar_table.specs.declared.symbols.Symbol.{Symbol}
+use Rattle.grammar_table.specs.declared.symbols.Symbol.TheVariants.{Word, Mark, Name, Number, Phrase}
+use Rattle.grammar_table.specs.Table.{alternatives_of}
+use Rattle.grammar_table.specs.Derives.{IsOne, Derives, SomeRow, Row, derived, this_row, a_later_row, row_ends, token_first, phrase_first}
+use Rattle.grammar_table_laws.proofs.Takes.{Reads, row_at}
+
+abbrev pub Tree : Nonterminal → Type 0
+Tree Binder = BinderTree
+Tree MonoName = MonoNameTree
+Tree SumSign = SumSignTree
+Tree ProductSign = ProdSign
+Tree UnaryWord = ℕ × UnaryWordTree
+Tree UnaryRule = ℕ × UnaryRuleTree
+Tree HeapNumber = Option ℕ
+Tree Heap = RawHeap
+Tree Factor = FactorTree
+Tree Mono = MonoTree
+Tree MonoInBrackets = MonoTree
+Tree MonosAfter = List MonoTree
+Tree Monos = List MonoTree
+Tree TypePhrase = TyTree
+Tree Triple = TripleTree
+Tree Term = TermTree
+Tree Parameters = ParamTrees
+Tree Relation = RelTree
+Tree Sum = SumTree
+Tree SumRest = SumRestTree
+Tree Product = ProdTree
+Tree ProductRest = ProdRestTree
+Tree Application = ApplTree
+Tree Parts = PartTrees
+Tree Atom = AtomTree
+Tree Comp = CompTree
+Tree Step = StepTree
+Tree Formula = FormulaTree
+Tree Sort = SortTree
+Tree Disjunction = DisjTree
+Tree Conjunction = ConjTree
+Tree Separation = StarTree
+Tree FormulaAtom = FatomTree
+Tree Terms = TermTrees
+Tree TermsAfter = TermTrees
+Tree Argument = ArgTree
+Tree Arguments = List ArgTree
+Tree ArgumentsAfter = List ArgTree
+Tree Motive = MotiveTree
+Tree Proof = ProofTree
+Tree Statement = StmtTree
+Tree End = EndTree
+Tree ProofsAfter = ProofTrees
+Tree NamesAfter = List Span
+Tree Names = List Span
+Tree MonoParameter = MonoParamTree
+Tree MonoParametersAfter = List MonoParamTree
+Tree MonoParameters = List MonoParamTree
+Tree Body = BodyTree
+Tree Declaration = DeclTree
+Tree File = List DeclTree
+
+-- the marks of a tree at a level, from an operand of a chain on
+abbrev pub marks_of : (n : Nonterminal) → ℕ → ℕ → Tree n → List marks.Mark
+marks_of Binder l k x = Grammar.binder l x
+marks_of MonoName l k x = Grammar.mono_name l x
+marks_of SumSign l k x = sign l (Grammar.sum_sign x)
+marks_of ProductSign l k x = sign l (Grammar.prod_sign x)
+marks_of UnaryWord l k x = word_at l (Grammar.unary_word x.1) x.0
+marks_of UnaryRule l k x = word_at l (Grammar.unary_rule x.1) x.0
+marks_of HeapNumber l k x = Grammar.over l x
+marks_of Heap l k x = Grammar.heap l x
+marks_of Factor l k x = Grammar.factor l x
+marks_of Mono l k x = Grammar.mono l x
+marks_of MonoInBrackets l k x = Grammar.in_brackets l x
+marks_of MonosAfter l k x = each_after (sign l CommaSign) (Grammar.mono l) x
+marks_of Monos l k x = Grammar.monos l x
+marks_of TypePhrase l k x = Grammar.ty l x
+marks_of Triple l k x = Grammar.triple l x
+marks_of Term l k x = Grammar.term l x
+marks_of Parameters l k x = Grammar.params l x
+marks_of Relation l k x = Grammar.rel l x
+marks_of Sum l k x = Grammar.sum l x
+marks_of SumRest l k x = Grammar.sum_rest l k x
+marks_of Product l k x = Grammar.prod l x
+marks_of ProductRest l k x = Grammar.prod_rest l k x
+marks_of Application l k x = Grammar.appl l x
+marks_of Parts l k x = Grammar.parts l k x
+marks_of Atom l k x = Grammar.atom l x
+marks_of Comp l k x = Grammar.comp l x
+marks_of Step l k x = Grammar.step l x
+marks_of Formula l k x = Grammar.formula l x
+marks_of Sort l k x = Grammar.sort l x
+marks_of Disjunction l k x = Grammar.disj l x
+marks_of Conjunction l k x = Grammar.conj l x
+marks_of Separation l k x = Grammar.star l x
+marks_of FormulaAtom l k x = Grammar.fatom l x
+marks_of Terms l k x = Grammar.terms l x
+marks_of TermsAfter l k x = Grammar.terms_after l x
+marks_of Argument l k x = Grammar.arg l x
+marks_of Arguments l k x = Grammar.args l x
+marks_of ArgumentsAfter l k x = each_after (sign l CommaSign) (Grammar.arg l) x
+marks_of Motive l k x = Grammar.motive l x
+marks_of Proof l k x = Grammar.proof l x
+marks_of Statement l k x = Grammar.stmt l x
+marks_of End l k x = Grammar.ending l x
+marks_of ProofsAfter l k x = Grammar.proofs_after l k x
+marks_of NamesAfter l k x = each_after (sign 0 CommaSign) (name 0) x
+marks_of Names l k x = Grammar.names x
+marks_of MonoParameter l k x = Grammar.mono_parameter x
+marks_of MonoParametersAfter l k x = each_after (sign 0 CommaSign) Grammar.mono_parameter x
+marks_of MonoParameters l k x = Grammar.mono_parameters x
+marks_of Body l k x = Grammar.body x
+marks_of Declaration l k x = Grammar.decl x
+marks_of File l k x = Grammar.file x
+
+-- some tree is read, at any level
+abbrev pub Phrased : Nonterminal → List Token → List Token → Type 0
+Phrased n ts us = (x : Tree n) × ((l k : ℕ) → Reads (marks_of n l k x) ts us)
+
+abbrev pub Walk : List Symbol → List Token → List Token → Type 0
+Walk [] ts us = ts ≡ us
+Walk (Phrase n ∷ row) ts us = (vs : List Token) × Phrased n ts vs × Walk row vs us
+Walk (Word w ∷ row) ts us = (t : Token) × (vs : List Token) × (ts ≡ t ∷ vs) × IsOne (Word w) t.kind × Walk row vs us
+Walk (Mark s ∷ row) ts us = (t : Token) × (vs : List Token) × (ts ≡ t ∷ vs) × IsOne (Mark s) t.kind × Walk row vs us
+Walk (Name ∷ row) ts us = (t : Token) × (vs : List Token) × (ts ≡ t ∷ vs) × IsOne Name t.kind × Walk row vs us
+Walk (Number ∷ row) ts us = (t : Token) × (vs : List Token) × (ts ≡ t ∷ vs) × IsOne Number t.kind × Walk row vs us
+
+abbrev pub SomeWalk : List (List Symbol) → List Token → List Token → Type 0
+SomeWalk [] ts us = ⊥
+SomeWalk (row ∷ rows) ts us = Walk row ts us ⊎ SomeWalk rows ts us
+
+-- the alternative of this number has a tree
+abbrev pub Built : Nonterminal → ℕ → Type 0
+Built n k = (ts us : List Token) → Walk (row_at k (alternatives_of n)) ts us → Phrased n ts us
+
+abbrev pub AllBuilt : Nonterminal → Type 0
+AllBuilt n = (ts us : List Token) → SomeWalk (alternatives_of n) ts us → Phrased n ts us
+
+token_walk : (s : Symbol) (row : List Symbol) (t : Token) (ts us : List Token) → IsOne s t.kind → Walk row ts us → Walk (s ∷ row) (t ∷ ts) us
+token_walk (Word w) row t ts us one rest = (t, ts, refl, one, rest)
+token_walk (Mark s) row t ts us one rest = (t, ts, refl, one, rest)
+token_walk Name row t ts us one rest = (t, ts, refl, one, rest)
+token_walk Number row t ts us one rest = (t, ts, refl, one, rest)
+token_walk (Phrase n) row t ts us one rest = absurd one
+
+-- what is derived has a tree, if each alternative has
+module _ (built : (n : Nonterminal) → AllBuilt n) where
+  mutual
+    pub phrase_tree : (n : Nonterminal) (ts us : List Token) → Derives n ts us → Phrased n ts us
+    phrase_tree n ts us (derived rows) = built n ts us (rows_walk (alternatives_of n) ts us rows)
+
+    rows_walk : (rows : List (List Symbol)) (ts us : List Token) → SomeRow rows ts us → SomeWalk rows ts us
+    rows_walk (row ∷ rows) ts us (this_row r) = inl (row_walk row ts us r)
+    rows_walk (row ∷ rows) ts us (a_later_row r) = inr (rows_walk rows ts us r)
+
+    row_walk : (row : List Symbol) (ts us : List Token) → Row row ts us → Walk row ts us
+    row_walk [] ts _ row_ends = refl
+    row_walk (s ∷ row) (t ∷ ts) us (token_first one r) = token_walk s row t ts us one (row_walk row ts us r)
+    row_walk (Phrase n ∷ row) ts vs (phrase_first {us = us} d r) = (us, phrase_tree n ts us d, row_walk row us vs r)

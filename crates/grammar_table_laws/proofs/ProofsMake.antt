@@ -1,0 +1,91 @@
+-- From the marks of a tree to a derivation: proofs.
+use Rattle.std.proofs.Common.{◌≡◌, ℕ, suc, ◌⊎◌, inl, inr, List, [], ◌∷◌, refl}
+use Rattle.std.specs.Prelude.{Option, Some, None}
+use Rattle.htt_tokens.specs.declared.tokens.Token.{Token}
+use Rattle.htt_tokens.specs.declared.tokens.Sign.TheVariants.{CommaSign}
+use Rattle.raw_trees.specs.declared.place.Span.{Span}
+use Rattle.raw_trees.specs.declared.place.Binder.{Binder as BinderTree}
+use Rattle.raw_trees.specs.declared.place.Binder.TheVariants as binders
+use Rattle.raw_trees.specs.declared.mono.MonoName.{MonoName as MonoNameTree}
+use Rattle.raw_trees.specs.declared.mono.MonoName.TheVariants as mono_names
+use Rattle.raw_trees.specs.declared.tree.SumSign.{SumSign as SumSignTree}
+use Rattle.raw_trees.specs.declared.tree.SumSign.TheVariants as sum_signs
+use Rattle.raw_trees.specs.declared.tree.ProdSign.{ProdSign}
+use Rattle.raw_trees.specs.declared.tree.ProdSign.TheVariants as prod_signs
+use Rattle.raw_trees.specs.declared.tree.UnaryWord.{UnaryWord as UnaryWordTree}
+use Rattle.raw_trees.specs.declared.tree.UnaryWord.TheVariants as unary_words
+use Rattle.raw_trees.specs.declared.tree.RawHeap.{RawHeap}
+use Rattle.raw_trees.specs.declared.tree.RawHeap.TheVariants as heaps
+use Rattle.raw_trees.specs.declared.proof.UnaryRule.{UnaryRule as UnaryRuleTree}
+use Rattle.raw_trees.specs.declared.proof.UnaryRule.TheVariants as unary_rules
+use Rattle.raw_trees.specs.Trees.{FactorTree, MonoTree, m_name, m_brackets, m_factor, m_pair, TyTree, TripleTree, TermTree, ParamTrees, RelTree, SumTree, SumRestTree, ProdTree, ProdRestTree, ApplTree, PartTrees, AtomTree, CompTree, StepTree, FormulaTree, SortTree, DisjTree, ConjTree, StarTree, FatomTree, TermTrees, y_fun, y_all, y_hoare, y_mono, triple_of, t_fun, t_fun_mono, t_do, t_fix, t_rel, no_params, more_params, r_sum, r_less, s_sum, s_end, s_more, x_prod, x_end, x_more, l_unary, l_apply, no_parts, atom_part, mono_part, a_name, a_number, a_true, a_false, a_null, a_place, a_eq, a_sel, a_unit, a_brackets, a_pair, a_annotated, c_ret, c_step, s_alloc, s_get, s_set, s_free, s_if, s_claim, s_run, f_all, f_ex, f_disj, f_implies, over_mono, over_heap, d_conj, d_or, j_star, j_and, k_fatom, k_times, g_tt, g_ff, g_emp, g_brackets, g_at_heap, g_emp_of, g_same, g_join, g_cell, g_block, g_use, g_use_at, g_use_at_heap, g_eq, g_points, g_points_any, no_terms, more_terms, ArgTree, arg_heap, arg_term, MotiveTree, motive_of, ProofTree, StmtTree, EndTree, ProofTrees, p_end, p_step, b_intro, b_gen, b_open, b_have, e_name, e_trivial, e_refl, e_unary, e_both, e_give, e_app, e_inst, e_case, e_rewrite, e_induct, e_split, e_axiom, e_unfold, e_lem, e_the, no_proofs, more_proofs, MonoParamTree, mono_param, BodyTree, body_auto, body_proof, DeclTree, decl_type, decl_pred, decl_induct, decl_def, decl_val, decl_proof}
+use Rattle.grammar_table.specs.declared.symbols.Nonterminal.{Nonterminal}
+use Rattle.grammar_table.specs.declared.symbols.Nonterminal.TheVariants.{Binder, MonoName, SumSign, ProductSign, UnaryWord, UnaryRule, HeapNumber, Heap, Factor, Mono, MonoInBrackets, MonosAfter, Monos, TypePhrase, Triple, Term, Parameters, Relation, Sum, SumRest, Product, ProductRest, Application, Parts, Atom, Comp, Step, Formula, Sort, Disjunction, Conjunction, Separation, FormulaAtom, Terms, TermsAfter, Argument, Arguments, ArgumentsAfter, Motive, Proof, Statement, End, ProofsAfter, NamesAfter, Names, MonoParameter, MonoParametersAfter, MonoParameters, Body, Declaration, File}
+use Rattle.htt_grammar.specs.Marks.{Mark, span_of, ◌⨟◌, sign, word_at, name, number, each_after}
+use Rattle.htt_grammar.specs.Grammar
+use Rattle.grammar_table_laws.proofs.Takes.{Makes, none, one, one_alone, sub, last, left_first, skip, unnumbered, by}
+use Rattle.grammar_table_laws.proofs.Operands.{arguments_unnumbered}
+use Rattle.grammar_table_laws.proofs.MonotypesMake.{binder_makes, mono_name_makes, heap_number_makes, heap_makes, factor_makes, mono_makes, mono_in_brackets_makes, monos_after_makes, monos_makes}
+use Rattle.grammar_table_laws.proofs.TermsMake.{sum_sign_makes, product_sign_makes, unary_word_makes, type_phrase_makes, triple_makes, term_makes, parameters_makes, relation_makes, sum_makes, sum_rest_makes, product_makes, product_rest_makes, application_makes, parts_makes, atom_makes, comp_makes, step_makes, formula_makes, sort_makes, disjunction_makes, conjunction_makes, separation_makes, formula_atom_makes, terms_makes, terms_after_makes}
+
+pub unary_rule_makes : (l : ℕ) (x : ℕ × UnaryRuleTree) → Makes (word_at l (Grammar.unary_rule x.1) x.0) UnaryRule
+unfolding Grammar.proof each_after
+unary_rule_makes l (a0, unary_rules.First) = by 0 tt (one_alone refl)
+unary_rule_makes l (a0, unary_rules.Second) = by 1 tt (one_alone refl)
+unary_rule_makes l (a0, unary_rules.Left) = by 2 tt (one_alone refl)
+unary_rule_makes l (a0, unary_rules.Right) = by 3 tt (one_alone refl)
+unary_rule_makes l (a0, unary_rules.Absurd) = by 4 tt (one_alone refl)
+
+pub argument_makes : (l : ℕ) (x : ArgTree) → Makes (Grammar.arg l x) Argument
+unfolding Grammar.proof each_after
+argument_makes l (arg_heap a0 x1) = by 0 tt (one _ refl (last (heap_makes _ x1)))
+argument_makes l (arg_term x0) = by 1 tt (last (term_makes _ x0))
+
+pub arguments_after_makes : (l : ℕ) (x : List ArgTree) → Makes (each_after (sign l CommaSign) (Grammar.arg l) x) ArgumentsAfter
+unfolding Grammar.proof each_after
+arguments_after_makes l [] = by 0 tt none
+arguments_after_makes l (x1 ∷ x2) = by 1 tt (one _ refl (sub (argument_makes _ x1) (last (arguments_after_makes _ x2))))
+
+pub arguments_makes : (l : ℕ) (x : List ArgTree) → Makes (Grammar.args l x) Arguments
+unfolding Grammar.proof each_after
+arguments_makes l [] = by 0 tt none
+arguments_makes l (x0 ∷ x1) = by 1 tt (sub (argument_makes _ x0) (last (arguments_after_makes _ x1)))
+
+pub motive_makes : (l : ℕ) (x : MotiveTree) → Makes (Grammar.motive l x) Motive
+unfolding Grammar.proof each_after
+motive_makes l (motive_of x0 x3) = by 0 tt (sub (binder_makes _ x0) (one _ refl (one _ refl (sub (formula_makes _ x3) (one_alone refl)))))
+
+mutual
+  unfolding Grammar.proof each_after
+
+  pub proof_makes : (l : ℕ) (x : ProofTree) → Makes (Grammar.proof l x) Proof
+  proof_makes l (p_end x0) = by 0 tt (last (end_makes _ x0))
+  proof_makes l (p_step x0 x1) = by 1 tt (sub (statement_makes _ x0) (last (proof_makes _ x1)))
+
+  pub statement_makes : (l : ℕ) (x : StmtTree) → Makes (Grammar.stmt l x) Statement
+  statement_makes l (b_intro a0 s1) = by 0 tt (one _ refl (one _ refl (one_alone refl)))
+  statement_makes l (b_gen a0 x1) = by 1 tt (one _ refl (sub (binder_makes _ x1) (one_alone refl)))
+  statement_makes l (b_open a0 x1 s2 x4) = by 2 tt (one _ refl (sub (binder_makes _ x1) (one _ refl (one _ refl (sub (proof_makes _ x4) (one_alone refl))))))
+  statement_makes l (b_have a0 s1 x4 x7) = by 3 tt (one _ refl (one _ refl (one _ refl (one _ refl (sub (formula_makes _ x4) (one _ refl (one _ refl (sub (proof_makes _ x7) (one_alone refl)))))))))
+
+  pub end_makes : (l : ℕ) (x : EndTree) → Makes (Grammar.ending l x) End
+  end_makes l (e_name s0) = by 0 tt (one_alone refl)
+  end_makes l (e_trivial a0) = by 1 tt (one_alone refl)
+  end_makes l (e_refl a0) = by 2 tt (one_alone refl)
+  end_makes l (e_unary x0a x0b x2) = by 3 tt (sub (unary_rule_makes _ (x0a, x0b)) (one _ refl (sub (proof_makes _ x2) (one_alone refl))))
+  end_makes l (e_both a0 x2 x4) = by 4 tt (one _ refl (one _ refl (sub (proof_makes _ x2) (one _ refl (sub (proof_makes _ x4) (one_alone refl))))))
+  end_makes l (e_give a0 x2 x4) = by 5 tt (one _ refl (one _ refl (sub (argument_makes _ x2) (one _ refl (sub (proof_makes _ x4) (one_alone refl))))))
+  end_makes l (e_app a0 x2 x4 x5) = by 6 tt (one _ refl (one _ refl (sub (proof_makes _ x2) (one _ refl (sub (unnumbered _ (proof_makes _ x4)) (sub (proofs_after_makes _ _ x5) (one_alone refl)))))))
+  end_makes l (e_inst a0 x2 x4 x5) = by 7 tt (one _ refl (one _ refl (sub (proof_makes _ x2) (one _ refl (sub (unnumbered _ (argument_makes _ x4)) (sub (arguments_unnumbered _ _ x5 (arguments_after_makes _ x5)) (one_alone refl)))))))
+  end_makes l (e_case a0 x2 s4 x6 s8 x10) = by 8 tt (one _ refl (one _ refl (sub (proof_makes _ x2) (one _ refl (one _ refl (one _ refl (sub (proof_makes _ x6) (one _ refl (one _ refl (one _ refl (sub (proof_makes _ x10) (one_alone refl))))))))))))
+  end_makes l (e_rewrite a0 x2 x4 x6) = by 9 tt (one _ refl (one _ refl (sub (proof_makes _ x2) (one _ refl (sub (motive_makes _ x4) (one _ refl (sub (proof_makes _ x6) (one_alone refl))))))))
+  end_makes l (e_induct a0 x2 x4 x6 x8 s9 s10 x12) = by 10 tt (one _ refl (one _ refl (sub (motive_makes _ x2) (one _ refl (sub (term_makes _ x4) (one _ refl (sub (proof_makes _ x6) (one _ refl (sub (binder_makes _ x8) (one _ refl (one _ refl (one _ refl (sub (proof_makes _ x12) (one_alone refl))))))))))))))
+  end_makes l (e_split a0 x2 x4 x6 x8) = by 11 tt (one _ refl (one _ refl (sub (motive_makes _ x2) (one _ refl (sub (term_makes _ x4) (one _ refl (sub (proof_makes _ x6) (one _ refl (sub (proof_makes _ x8) (one_alone refl))))))))))
+  end_makes l (e_axiom a0 s1 x2 x4) = by 12 tt (one _ refl (one _ refl (sub (monos_makes _ x2) (one _ refl (sub (arguments_makes _ x4) (one_alone refl))))))
+  end_makes l (e_unfold a0 s1 n3 x5 x6) = by 13 tt (one _ refl (one _ refl (one _ refl (one _ (n3, refl) (one _ refl (left_first _ _ _ (sub (argument_makes _ x5) (sub (arguments_after_makes _ x6) (one_alone refl)))))))))
+  end_makes l (e_lem a0 x2) = by 14 tt (one _ refl (one _ refl (sub (formula_makes _ x2) (one_alone refl))))
+  end_makes l (e_the a0 x2 x5) = by 15 tt (one _ refl (one _ refl (sub (formula_makes _ x2) (one _ refl (one _ refl (sub (proof_makes _ x5) (one_alone refl)))))))
+
+  pub proofs_after_makes : (l k : ℕ) (x : ProofTrees) → Makes (Grammar.proofs_after l k x) ProofsAfter
+  proofs_after_makes l k no_proofs = by 0 tt none
+  proofs_after_makes l k (more_proofs x1 x2) = by 1 tt (one _ refl (sub (unnumbered _ (proof_makes _ x1)) (last (proofs_after_makes _ _ x2))))

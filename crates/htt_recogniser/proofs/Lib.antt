@@ -1,0 +1,5 @@
+pub mod FirstSymbols
+pub mod Lists
+pub mod Deriving
+pub mod Rounding
+pub mod Filling
