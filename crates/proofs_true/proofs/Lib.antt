@@ -5,3 +5,4 @@ pub mod Rules
 pub mod True
 pub mod WrongCase
 pub mod Examples
+pub mod Consistent

@@ -1,7 +1,7 @@
 -- What is proved is true.
 use Rattle.std.specs.Prelude.{◌≡◌, ℕ, List, [], ◌∷◌, ◌++◌, map, Some, slice_get}
 use Rattle.htt_syntax.specs.declared.mono.Op.TheVariants.{Add}
-use Rattle.htt_syntax.specs.Trees.{MonoTree, TermTree, FormulaTree, ArgTree, ProofTree, m_word, t_word, t_bin, f_imp, f_rec, a_heap, a_term}
+use Rattle.htt_syntax.specs.Trees.{MonoTree, TermTree, FormulaTree, ArgTree, ProofTree, m_word, t_word, t_bin, f_ff, f_imp, f_rec, a_heap, a_term}
 use Rattle.htt_truth.specs.Worlds.{World, FirstOrder, IsWorld}
 use Rattle.htt_truth.specs.Truth.{Holds}
 use Rattle.htt_truth.specs.Predicates.{RecTree, recs_of}
@@ -41,3 +41,8 @@ pub record ProvedIsTrue : Type 0 where
   pub formed : (env : Environment) → IsFormedEnvironment env → (g : Context) (c : List FirstOrder) → IsFirstOrder g c → (hypotheses : List FormulaTree) (goal : FormulaTree) → AreFormed env g hypotheses → IsFormedFormula (file_shapes env) (context_shape g) goal → (p : ProofTree) → Proves env g hypotheses p goal → (w : World) → IsWorld c w → AreTrue env w hypotheses → Holds (recs_of env.recs) w goal
   pub canonical : (env : Environment) → IsFormedEnvironment env → (g : Context) (c : List FirstOrder) → IsFirstOrder g c → (heads : Heads) (hypotheses : List FormulaTree) (goal : FormulaTree) → Each (IsCanonicalFormula heads (standings (sorts_of g))) hypotheses → IsCanonicalFormula heads (standings (sorts_of g)) goal → (p : ProofTree) → Proves env g hypotheses p goal → (w : World) → IsWorld c w → AreTrue env w hypotheses → Holds (recs_of env.recs) w goal
   pub alone : (env : Environment) → IsFormedEnvironment env → (g : Context) (c : List FirstOrder) → IsFirstOrder g c → (goal : FormulaTree) → IsFormedFormula (file_shapes env) (context_shape g) goal → (p : ProofTree) → Proves env g [] p goal → (w : World) → IsWorld c w → Holds (recs_of env.recs) w goal
+
+-- Each first-order context has a world, so without hypotheses nothing false has a proof.
+pub record ProofsAreConsistent : Type 0 where
+  pub has_world : (g : Context) (c : List FirstOrder) → IsFirstOrder g c → (w : World) × IsWorld c w
+  pub no_proof_of_false : (env : Environment) → IsFormedEnvironment env → (g : Context) (c : List FirstOrder) → IsFirstOrder g c → (p : ProofTree) → Proves env g [] p f_ff → ⊥

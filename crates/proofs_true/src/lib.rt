@@ -3,7 +3,7 @@
 #![tactic(auto)]
 
 ghost use Rattle.proofs_true.specs.Examples.{SortsAreNeeded, WorkedExamples};
-ghost use Rattle.proofs_true.specs.Laws.{InferredIsTrue, InstancesAreTrue, ProvedIsTrue, UnfoldingsAreTrue};
+ghost use Rattle.proofs_true.specs.Laws.{InferredIsTrue, InstancesAreTrue, ProofsAreConsistent, ProvedIsTrue, UnfoldingsAreTrue};
 ghost use Rattle.proofs_true.specs.WrongCase.{BranchesNeedTheirOwn};
 
 /// Each instance of an axiom at typed arguments is true in each world of the context.
@@ -24,6 +24,11 @@ pub fn inferred_is_true()
 /// What a proof proves is true where its hypotheses are, and without hypotheses in each world.
 pub fn proved_is_true()
     ensures law { ProvedIsTrue }
+{}
+
+/// In no first-order context has `ff` a proof without hypotheses.
+pub fn proofs_are_consistent()
+    ensures law { ProofsAreConsistent }
 {}
 
 /// With the hypothesis of the first branch in the second, a case distinction would prove what is false.
