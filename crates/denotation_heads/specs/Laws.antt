@@ -1,0 +1,15 @@
+-- A canonical tree denotes the same for all entries that agree on its heads.
+use Rattle.std.specs.Prelude.{◌≡◌, List}
+use Rattle.htt_syntax.specs.Trees.{TermTree, CompTree}
+use Rattle.canonical_trees.specs.Skeletons.{Skeleton}
+use Rattle.canonical_trees.specs.Contexts.{Standing, Heads}
+use Rattle.canonical_trees.specs.Canonical.{IsCanonical, IsNeutral, IsCanonicalComp}
+use Rattle.denotation.specs.Valuations.{Valuation, HeadEntries}
+use Rattle.denotation.specs.Denotation.{term_den, head_den, comp_den}
+use Rattle.denotation.specs.Valued.{ContextValued, HeadsValued}
+use Rattle.denotation_heads.specs.Agreeing.{HeadsAgree}
+
+pub record UsedHeadsCount : Type 0 where
+  pub terms : (heads : Heads) (e e' : HeadEntries) → HeadsValued heads e → HeadsAgree heads e e' → (g : List Standing) (w : Valuation) → ContextValued g w → (term : TermTree) (s : Skeleton) → IsCanonical heads g term s → term_den e' w term s ≡ term_den e w term s
+  pub neutrals : (heads : Heads) (e e' : HeadEntries) → HeadsValued heads e → HeadsAgree heads e e' → (g : List Standing) (w : Valuation) → ContextValued g w → (term : TermTree) (s : Skeleton) → IsNeutral heads g term s → head_den e' w term ≡ head_den e w term
+  pub computations : (heads : Heads) (e e' : HeadEntries) → HeadsValued heads e → HeadsAgree heads e e' → (g : List Standing) (w : Valuation) → ContextValued g w → (comp : CompTree) → IsCanonicalComp heads g comp → comp_den e' w comp ≡ comp_den e w comp
