@@ -64,9 +64,9 @@ unfolding mono_opens opened mono_inside either stop ◌>>=◌
 inside_opens d opens [] = refl
 inside_opens d opens (t ∷ us) = by_test d opens t us (inside_opens d (t.from ∷ opens) us) (same_kind t.kind (Sign OpenParenSign)) refl
   where
-  by_test : (d : Deeper) (opens : List ℕ) (t : Token) (us : List Token) → mono_opens d (length us) (t.from ∷ opens) us ≡ mono_inside d (opened (t.from ∷ opens) us).0 (opened (t.from ∷ opens) us).1 → (b : Bool) → same_kind t.kind (Sign OpenParenSign) ≡ b → chosen (mono_case (λ os. mono_opens d (length us) os) opens t.kind) (mono_inside d opens) t us ≡ mono_inside d (cond b (opened (t.from ∷ opens) us) (opens, t ∷ us)).0 (cond b (opened (t.from ∷ opens) us) (opens, t ∷ us)).1
-  by_test d opens t us next true h = a_bracket d (λ os. mono_opens d (length us) os) opens t us t.kind h ∙ next
-  by_test d opens t us next false h = no_bracket d (λ os. mono_opens d (length us) os) opens t us t.kind h
+    by_test : (d : Deeper) (opens : List ℕ) (t : Token) (us : List Token) → mono_opens d (length us) (t.from ∷ opens) us ≡ mono_inside d (opened (t.from ∷ opens) us).0 (opened (t.from ∷ opens) us).1 → (b : Bool) → same_kind t.kind (Sign OpenParenSign) ≡ b → chosen (mono_case (λ os. mono_opens d (length us) os) opens t.kind) (mono_inside d opens) t us ≡ mono_inside d (cond b (opened (t.from ∷ opens) us) (opens, t ∷ us)).0 (cond b (opened (t.from ∷ opens) us) (opens, t ∷ us)).1
+    by_test d opens t us next true h = a_bracket d (λ os. mono_opens d (length us) os) opens t us t.kind h ∙ next
+    by_test d opens t us next false h = no_bracket d (λ os. mono_opens d (length us) os) opens t us t.kind h
 
 pub at_inside : (d : Deeper) (us : List Token) → mono_at d us ≡ mono_inside d (opened [] us).0 (opened [] us).1
 unfolding mono_at measured

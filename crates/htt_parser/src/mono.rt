@@ -91,7 +91,12 @@ impl Cursor<'_> {
 
     /// Closes brackets, from the innermost to the outermost.
     #[cycle(mono)]
-    fn closes(&self, left: u32, opens: Vec<u64>, at: usize) -> Result<(Vec<RawBracket>, usize), Halted>
+    fn closes(
+        &self,
+        left: u32,
+        opens: Vec<u64>,
+        at: usize,
+    ) -> Result<(Vec<RawBracket>, usize), Halted>
         ensures { (m : MonoTree) → Gives self.now.tokens.now (λ brackets. brackets_tree brackets.items m) result (mono_closes (deeper 63 left) (reverse opens.items) m (drop at self.now.tokens.now)) }
     {
         let mut opens = opens;

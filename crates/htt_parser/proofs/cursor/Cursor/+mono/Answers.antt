@@ -106,8 +106,8 @@ mono_right-returns-in_default n c =
     let d = deeper 63 c.args.left in
     let us = drop c.args.at c.args.self.now.tokens.now in
     elim c.in_default.branch [
-      mono_right-in_default-via-in-Some+else-eq w ↦
-        let other : same_kind w.in-Some.token.kind (Sign StarSign) ≡ false = search rules in
-        right_other d us w.in-Some.token _ w.in-Some.ensures other ∙ ap (λ r. Ok (r, us)) (sym right_nothing)
+      | mono_right-in_default-via-in-Some+else-eq w ↦
+          let other : same_kind w.in-Some.token.kind (Sign StarSign) ≡ false = search rules in
+          right_other d us w.in-Some.token _ w.in-Some.ensures other ∙ ap (λ r. Ok (r, us)) (sym right_nothing)
       | mono_right-in_default-via-in_default w ↦ right_end d us w.in_default.ensures ∙ ap (λ r. Ok (r, us)) (sym right_nothing)
     ]

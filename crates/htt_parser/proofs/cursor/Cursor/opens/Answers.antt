@@ -17,8 +17,8 @@ loop-token-preserved c =
 pub returns : goal.returns
 returns c =
     elim c.match-token.branch [
-      in-Some+then-ne w ↦
-        let other : same_kind w.in-Some.token.kind (Sign OpenParenSign) ≡ false = search rules in
-        sym (c.loop-token.invariant ∙ opened_other (reverse c.loop-token.opens.items) c.args.self.now.tokens.now c.loop-token.next w.in-Some.token _ w.in-Some.ensures other)
+      | in-Some+then-ne w ↦
+          let other : same_kind w.in-Some.token.kind (Sign OpenParenSign) ≡ false = search rules in
+          sym (c.loop-token.invariant ∙ opened_other (reverse c.loop-token.opens.items) c.args.self.now.tokens.now c.loop-token.next w.in-Some.token _ w.in-Some.ensures other)
       | in_default w ↦ sym (c.loop-token.invariant ∙ opened_end (reverse c.loop-token.opens.items) c.args.self.now.tokens.now c.loop-token.next w.in_default.ensures)
     ]

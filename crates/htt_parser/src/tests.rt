@@ -1,0 +1,74 @@
+//! Monotypes whose trees and refusals were found by hand.
+
+use crate::{ParseStop, parse_mono};
+use htt_tokens::{Keyword, Kind, Sign, Token};
+use raw_trees::{MonoName, RawBracket, RawRight};
+use std::test::Fail;
+
+/// A token of one byte.
+fn token(kind: Kind, from: u64) -> Token
+    requires { from < 1000 }
+{
+    Token {
+        kind,
+        from,
+        to: from + 1,
+    }
+}
+
+const OPEN: Kind = Kind::Sign(Sign::OpenParenSign);
+
+const CLOSE: Kind = Kind::Sign(Sign::CloseParenSign);
+
+const STAR: Kind = Kind::Sign(Sign::StarSign);
+
+const WORD: Kind = Kind::Keyword(Keyword::WordWord);
+
+#[test]
+fn brackets_are_kept_from_the_innermost(rt: HostRuntime) -> Result<(), Fail> {
+    let tokens = [
+        token(OPEN, 0),
+        token(OPEN, 1),
+        token(WORD, 2),
+        token(CLOSE, 3),
+        token(STAR, 4),
+        token(Kind::Name, 5),
+        token(CLOSE, 6),
+    ];
+    let mono = parse_mono(rt.alloc(), b"((w)*a)", &tokens)?;
+    assert_eq!(rt; mono.name, MonoName::Word { at: 2 });
+    assert!(rt; matches!(mono.right, RawRight::Nothing));
+    let brackets = mono.brackets.as_slice();
+    assert_eq!(rt; brackets.len(), 2);
+    assert!(rt; matches!(brackets[0], RawBracket::Times { at: 1, .. }));
+    assert!(rt; matches!(brackets[1], RawBracket::Alone { at: 0 }));
+    Ok(())
+}
+
+#[test]
+fn refusals_stand_at_the_first_wrong_token(rt: HostRuntime) {
+    let lists = [
+        (b"".as_slice(), [].as_slice(), 0u64),
+        (
+            b"w w".as_slice(),
+            [token(WORD, 0), token(WORD, 2)].as_slice(),
+            2,
+        ),
+        (
+            b"(w".as_slice(),
+            [token(OPEN, 0), token(WORD, 1)].as_slice(),
+            2,
+        ),
+        (
+            b"w*)".as_slice(),
+            [token(WORD, 0), token(STAR, 1), token(CLOSE, 2)].as_slice(),
+            2,
+        ),
+    ];
+    for (text, tokens, at) in lists {
+        match parse_mono(rt.alloc(), text, tokens) {
+            Ok(_) => assert!(rt; false),
+            Err(stop) => assert_eq!(rt; stop, ParseStop::Expected { at }),
+        }
+    }
+}
