@@ -47,23 +47,15 @@ fn brackets_are_kept_from_the_innermost(rt: HostRuntime) -> Result<(), Fail> {
 
 #[test]
 fn refusals_stand_at_the_first_wrong_token(rt: HostRuntime) {
+    let none: [Token; 0] = [];
+    let two = [token(WORD, 0), token(WORD, 2)];
+    let open = [token(OPEN, 0), token(WORD, 1)];
+    let closed = [token(WORD, 0), token(STAR, 1), token(CLOSE, 2)];
     let lists = [
-        (b"".as_slice(), [].as_slice(), 0u64),
-        (
-            b"w w".as_slice(),
-            [token(WORD, 0), token(WORD, 2)].as_slice(),
-            2,
-        ),
-        (
-            b"(w".as_slice(),
-            [token(OPEN, 0), token(WORD, 1)].as_slice(),
-            2,
-        ),
-        (
-            b"w*)".as_slice(),
-            [token(WORD, 0), token(STAR, 1), token(CLOSE, 2)].as_slice(),
-            2,
-        ),
+        (b"".as_slice(), none.as_slice(), 0u64),
+        (b"w w".as_slice(), two.as_slice(), 2),
+        (b"(w".as_slice(), open.as_slice(), 2),
+        (b"w*)".as_slice(), closed.as_slice(), 2),
     ];
     for (text, tokens, at) in lists {
         match parse_mono(rt.alloc(), text, tokens) {

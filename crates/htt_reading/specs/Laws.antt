@@ -32,7 +32,7 @@ IsMonoWithin tree = AllWithin the_limits (mono 1 tree)
 
 abbrev pub MonoIsDerived : Type 0
 MonoIsDerived =
-  (tokens : List Token) (tree : MonoTree) → read_mono tokens ≡ Ok (tree, []) → IsMono tokens tree × IsMonoWithin tree
+    (tokens : List Token) (tree : MonoTree) → read_mono tokens ≡ Ok (tree, []) → IsMono tokens tree × IsMonoWithin tree
 
 abbrev pub FormulaIsDerived : Type 0
 FormulaIsDerived = (tokens : List Token) (tree : FormulaTree) → read_formula tokens ≡ Ok (tree, []) → IsFormula tokens tree × IsFormulaWithin tree
@@ -48,7 +48,7 @@ FileIsDerived = (tokens : List Token) (decls : List DeclTree) (rest : List Token
 
 abbrev pub MonoIsRead : Type 0
 MonoIsRead =
-  (tokens : List Token) (tree : MonoTree) → IsMono tokens tree → IsMonoWithin tree → read_mono tokens ≡ Ok (tree, [])
+    (tokens : List Token) (tree : MonoTree) → IsMono tokens tree → IsMonoWithin tree → read_mono tokens ≡ Ok (tree, [])
 
 abbrev pub FormulaIsRead : Type 0
 FormulaIsRead = (tokens : List Token) (tree : FormulaTree) → IsFormula tokens tree → IsFormulaWithin tree → read_formula tokens ≡ Ok (tree, [])
