@@ -1,18 +1,16 @@
 -- How a monotype is read, step by step, beside what the functions answer.
-use Rattle.std.proofs.Common.{◌≡◌, ℕ, zero, suc, ◌+◌, ◌-◌, ◌<◌, List, [], ◌∷◌, ◌++◌, length, drop, reverse, refl, sym, ◌∙◌, ap, arith}
-use Rattle.std.specs.Prelude.{Bool, true, false, Option, Some, None, Result, Ok, Err, cond}
+use Rattle.std.proofs.Common.{◌≡◌, ℕ, suc, List, [], ◌∷◌, ◌++◌, length, reverse, refl, sym, ◌∙◌, ap}
+use Rattle.std.specs.Prelude.{Bool, true, false, Some, None, Result, Ok, Err, cond}
 use Rattle.htt_tokens.specs.declared.tokens.Kind.{Kind}
 use Rattle.htt_tokens.specs.declared.tokens.Kind.TheVariants.{Name, Number, Keyword, Sign}
 use Rattle.htt_tokens.specs.declared.tokens.Sign.TheVariants.{OpenParenSign, CloseParenSign, StarSign}
 use Rattle.htt_tokens.specs.declared.tokens.Token.{Token}
-use Rattle.raw_trees.specs.declared.mono.MonoName.{MonoName}
 use Rattle.raw_trees.specs.declared.mono.RawBracket.{RawBracket}
 use Rattle.raw_trees.specs.Views.{bracket_tree}
 use Rattle.raw_trees.specs.Levels.{brackets_tree}
 use Rattle.std.proofs.lemmas.List.{reverse-append}
-use Rattle.raw_trees.specs.Trees.{MonoTree, FactorTree, m_name, m_brackets, with_right}
-use Rattle.htt_grammar.specs.Marks.{span_of}
-use Rattle.htt_grammar.specs.Readers.{Reader, Halt, Why, too_nested, give, after, ◌>>=◌, stop, refuse, chosen, either, measured, same_kind, that, token}
+use Rattle.raw_trees.specs.Trees.{MonoTree, m_name, m_brackets, with_right}
+use Rattle.htt_grammar.specs.Readers.{Reader, Halt, too_nested, give, after, ◌>>=◌, stop, refuse, chosen, either, measured, same_kind, that, token}
 use Rattle.htt_grammar.specs.Beginnings.{begins_mono}
 use Rattle.htt_grammar.specs.Phrases.{Deeper, mono_right, mono_closes, mono_name_case, mono_inside, mono_opens, mono_case, mono_at}
 use Rattle.htt_grammar.specs.Reading.{deeper}

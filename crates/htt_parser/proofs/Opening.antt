@@ -1,7 +1,7 @@
 -- Opening brackets one by one.
-use Rattle.std.proofs.Common.{◌≡◌, ℕ, suc, ◌+◌, List, [], ◌∷◌, ◌++◌, length, drop, reverse, refl, sym, ◌∙◌, ap, arith}
+use Rattle.std.proofs.Common.{◌≡◌, ℕ, List, [], ◌∷◌, ◌++◌, drop, reverse, sym, ◌∙◌, ap}
 use Rattle.std.proofs.lemmas.List.{reverse-append}
-use Rattle.std.specs.Prelude.{Bool, true, false, cond}
+use Rattle.std.specs.Prelude.{true, false, cond}
 use Rattle.htt_tokens.specs.declared.tokens.Kind.TheVariants.{Sign}
 use Rattle.htt_tokens.specs.declared.tokens.Sign.TheVariants.{OpenParenSign}
 use Rattle.htt_tokens.specs.declared.tokens.Token.{Token}

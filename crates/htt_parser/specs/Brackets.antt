@@ -1,5 +1,5 @@
 -- The brackets with which a monotype begins, and what follows them.
-use Rattle.std.specs.Prelude.{ℕ, List, [], ◌∷◌, Bool, if◌then◌else◌}
+use Rattle.std.specs.Prelude.{ℕ, List, [], ◌∷◌, if◌then◌else◌}
 use Rattle.htt_tokens.specs.declared.tokens.Kind.TheVariants.{Sign}
 use Rattle.htt_tokens.specs.declared.tokens.Sign.TheVariants.{OpenParenSign}
 use Rattle.htt_tokens.specs.declared.tokens.Token.{Token}

@@ -1,7 +1,7 @@
 -- What a function that reads must answer: what the reader of its production answers.
 use Rattle.std.specs.Prelude.{◌≡◌, ℕ, ◌+◌, List, [], ◌∷◌, drop, Option, Some, None, Result, Ok, Err}
 use Rattle.htt_tokens.specs.declared.tokens.Token.{Token}
-use Rattle.htt_grammar.specs.Readers.{Why, expected, too_nested, too_long, too_many, Halt, Reader}
+use Rattle.htt_grammar.specs.Readers.{Why, expected, too_nested, too_long, too_many, Halt}
 use Rattle.htt_parser.specs.declared.cursor.Reason.{Reason}
 use Rattle.htt_parser.specs.declared.cursor.Reason.TheVariants as reasons
 use Rattle.htt_parser.specs.declared.cursor.Halted.{Halted}

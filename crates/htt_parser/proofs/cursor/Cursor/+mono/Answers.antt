@@ -1,13 +1,13 @@
-use Rattle.std.proofs.Common.{◌≡◌, ◌∙◌, ap, sym, rules, arith, reverse, drop, [], ◌∷◌, ◌++◌, true, false, ◌+◌, ◌-◌, suc}
+use Rattle.std.proofs.Common.{◌≡◌, ◌∙◌, ap, sym, rules, arith, reverse, drop, [], ◌∷◌, ◌++◌, true, false, ◌-◌, suc}
 use Rattle.std.proofs.lemmas.Result.{err_from_is_err_and}
-use Rattle.std.specs.Prelude.{Ok, Err, Some}
+use Rattle.std.specs.Prelude.{Ok}
 use Rattle.htt_tokens.specs.declared.tokens.Kind.TheVariants.{Sign}
 use Rattle.htt_tokens.specs.declared.tokens.Sign.TheVariants.{CloseParenSign, StarSign}
 use Rattle.raw_trees.specs.declared.mono.RawRight.TheVariants as vright
-use Rattle.raw_trees.specs.Trees.{m_name, m_brackets, with_right}
+use Rattle.raw_trees.specs.Trees.{m_name, with_right}
 use Rattle.raw_trees.specs.Views.{right_tree}
 use Rattle.raw_trees.specs.Levels.{mono_tree, brackets_tree, right_times, right_nothing}
-use Rattle.htt_grammar.specs.Readers.{◌>>=◌, give, token, same_kind, either, stop}
+use Rattle.htt_grammar.specs.Readers.{token, same_kind, either, stop}
 use Rattle.htt_grammar.specs.Phrases.{mono_right, mono_closes, mono_name_case, mono_inside}
 use Rattle.htt_grammar.specs.Reading.{deeper}
 use Rattle.htt_parser.proofs.Monotypes.{bind_ok, bind_err, err_along, gives_along, deeper_none, deeper_some, at_inside, inside_is, right_star, right_other, right_end, given, closes_open, closes_none, brackets_last}

@@ -1,4 +1,4 @@
-use Rattle.std.proofs.Common.{◌≡◌, ◌+◌, rules, ◌∙◌, ap, sym, reverse, drop, [], ◌∷◌, ◌++◌, true, false, arith}
+use Rattle.std.proofs.Common.{◌≡◌, ◌+◌, rules, ◌∙◌, ap, sym, reverse, drop, [], ◌∷◌, ◌++◌, true, false}
 use Rattle.htt_tokens.specs.declared.tokens.Kind.TheVariants.{Sign}
 use Rattle.htt_tokens.specs.declared.tokens.Sign.TheVariants.{OpenParenSign}
 use Rattle.htt_grammar.specs.Readers.{same_kind}
