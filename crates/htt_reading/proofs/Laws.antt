@@ -13,7 +13,7 @@ use Rattle.htt_grammar.specs.Reading.{decl_at, file_on}
 use Rattle.htt_grammar.proofs.Spells.{Spells, spelled}
 use Rattle.htt_grammar.proofs.Monotypes.{Knows}
 use Rattle.htt_grammar.proofs.Files.{knows, file_gets}
-use Rattle.htt_reading.specs.Laws.{outermost, FormulaIsDerived, ProofIsDerived, FileIsDerived, FormulaIsRead, ProofIsRead, FileIsRead}
+use Rattle.htt_reading.specs.Laws.{MonoIsDerived, MonoIsRead, outermost, FormulaIsDerived, ProofIsDerived, FileIsDerived, FormulaIsRead, ProofIsRead, FileIsRead}
 use Rattle.htt_reading.proofs.Tells.{bound, read_of, left_of}
 use Rattle.htt_reading.proofs.Words.{Trusts}
 use Rattle.htt_reading.proofs.Files.{trusts, file_tells}
@@ -31,6 +31,11 @@ known = knows the_limits 63 256 1 (lit≤ tt) (lit< tt)
 
 trusted : Trusts the_limits outermost 1
 trusted = trusts the_limits 63 256 1 (lit≤ tt) (lit≤ tt)
+
+pub mono_is_derived : MonoIsDerived
+mono_is_derived tokens tree e =
+    let s = trusted.mono.tells tokens tree [] e in
+    (all_fit the_limits (Grammar.mono 1 tree) tokens s, all_within the_limits (Grammar.mono 1 tree) tokens [] s)
 
 pub formula_is_derived : FormulaIsDerived
 formula_is_derived tokens tree e =
@@ -63,6 +68,10 @@ file_is_derived tokens decls rest e =
     let s = (file_tells outermost (record { level = lit≤ tt; chain = lit≤ tt }) trusted 10_000).tells tokens decls rest e in
     let to_end = subst (λ us. Spells the_limits (Grammar.file decls) tokens us) end.0 s in
     (all_fit the_limits (Grammar.file decls) tokens to_end, record { marks = all_within the_limits (Grammar.file decls) tokens [] to_end; count = end.1 }, end.0)
+
+pub mono_is_read : MonoIsRead
+mono_is_read tokens tree fit within =
+    (known.mono {n = length tokens} tree).reads tokens [] (omega arith) (spelled the_limits tokens (Grammar.mono 1 tree) fit within) tt
 
 pub formula_is_read : FormulaIsRead
 formula_is_read tokens tree fit within = (known.formula {n = length tokens} tree).reads tokens [] (omega arith) (spelled the_limits tokens (Grammar.formula 1 tree) fit within) tt
