@@ -5,11 +5,10 @@ ghost use Rattle.std.specs.Prelude.{List, ◌↔◌, IfOk, IsTrue};
 ghost use Rattle.raw_trees.specs.Trees.{DeclTree, FormulaTree, ProofTree, TyTree};
 ghost use Rattle.htt_grammar.specs.Derivations.{IsFile, IsFormula, IsProof, IsType};
 
+use crate::chart::derives;
 use grammar_table::Nonterminal;
 use htt_tokens::Token;
 use std::alloc::{AllocError, Global};
-
-use crate::chart::derives;
 
 /// Whether the tokens are a file. Refuses for want of memory alone.
 pub fn is_file(alloc: Global, tokens: &[Token]) -> Result<bool, AllocError>

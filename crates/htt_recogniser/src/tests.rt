@@ -161,17 +161,41 @@ fn proofs_are_statements_and_an_end(rt: HostRuntime) {
 #[test]
 fn programs_are_files(rt: HostRuntime) {
     let texts = [
-        ("val main : {tt} x : word {x =[word] 5} = do ret 2 + 3", true),
+        (
+            "val main : {tt} x : word {x =[word] 5} = do ret 2 + 3",
+            true,
+        ),
         ("val main : {tt} x : word {x =[word] 5} = do ret 2 +", false),
-        ("val main : {emp} x : word {emp} = do l <- alloc[word] 7; ret l", true),
+        (
+            "val main : {emp} x : word {emp} = do l <- alloc[word] 7; ret l",
+            true,
+        ),
         ("def f : word = do l <- alloc 7; ret l", false),
-        ("def f : word = do _ <- set[word] l (g 1); _ <- free[word] l; ret ()", true),
+        (
+            "def f : word = do _ <- set[word] l (g 1); _ <- free[word] l; ret ()",
+            true,
+        ),
         ("def f : word = do _ <- set[word] l; ret ()", false),
+    ];
+    for (text, wanted) in texts {
+        assert!(rt; answers(rt, Call::File, text, wanted), "{text}");
+    }
+}
+
+#[test]
+fn terms_and_computations_are_parts_of_files(rt: HostRuntime) {
+    let texts = [
         ("def f : word = do x <- get[word] place 5; ret x", true),
-        ("def f : word = do b <- if [word] c { ret 0 } { y <- f h; ret y }; ret b", true),
+        (
+            "def f : word = do b <- if [word] c { ret 0 } { y <- f h; ret y }; ret b",
+            true,
+        ),
         ("def f : word = do _ <- claim {tt}; ret ()", true),
         ("def f : word = do x <- 1", false),
-        ("def f : word = fix f (n : word) : {tt} z : word {tt} . ret n", true),
+        (
+            "def f : word = fix f (n : word) : {tt} z : word {tt} . ret n",
+            true,
+        ),
         ("def f : word = fst not x", false),
         ("def f : word = (fst x, sel[word](b, 1, 2) : word)", false),
     ];
