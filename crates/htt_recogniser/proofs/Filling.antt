@@ -1,5 +1,5 @@
 -- How the edges over the tokens are made: the shorter ones, and of those of one width the first.
-use Rattle.std.proofs.Common.{◌≡◌, ℕ, zero, suc, ◌+◌, ◌-◌, ◌≤◌, ◌<◌, ◌⊎◌, inl, inr, List, [], ◌∷◌, ◌++◌, length, map, refl, sym, ap, subst, ◌∙◌, arith}
+use Rattle.std.proofs.Common.{◌≡◌, ℕ, ◌+◌, ◌-◌, ◌≤◌, ◌<◌, inl, inr, List, [], ◌++◌, length, map, refl, sym, subst, arith}
 use Rattle.htt_tokens.specs.declared.tokens.Token.{Token}
 use Rattle.grammar_table.specs.declared.symbols.Nonterminal.{Nonterminal}
 use Rattle.grammar_table.specs.declared.symbols.Nonterminal.TheVariants.{Binder, MonoName, SumSign, ProductSign, UnaryWord, UnaryRule, HeapNumber, Heap, Factor, Mono, MonoInBrackets, MonosAfter, Monos, TypePhrase, Triple, Term, Parameters, Relation, Sum, SumRest, Product, ProductRest, Application, Parts, Atom, Comp, Step, Formula, Sort, Disjunction, Conjunction, Separation, FormulaAtom, Terms, TermsAfter, Argument, Arguments, ArgumentsAfter, Motive, Proof, Statement, End, ProofsAfter, NamesAfter, Names, MonoParameter, MonoParametersAfter, MonoParameters, Body, Declaration, File}
