@@ -276,6 +276,6 @@ alternatives_of File =
     ∷ (Phrase Declaration ∷ Phrase File ∷ [])
     ∷ []
 
--- each nonterminal once
+-- each nonterminal once, after those of which one alone may make up a phrase of it
 abbrev pub every_nonterminal : List Nonterminal
-every_nonterminal = Binder ∷ MonoName ∷ SumSign ∷ ProductSign ∷ UnaryWord ∷ UnaryRule ∷ HeapNumber ∷ Heap ∷ Factor ∷ Mono ∷ MonoInBrackets ∷ MonosAfter ∷ Monos ∷ TypePhrase ∷ Triple ∷ Term ∷ Parameters ∷ Relation ∷ Sum ∷ SumRest ∷ Product ∷ ProductRest ∷ Application ∷ Parts ∷ Atom ∷ Comp ∷ Step ∷ Formula ∷ Sort ∷ Disjunction ∷ Conjunction ∷ Separation ∷ FormulaAtom ∷ Terms ∷ TermsAfter ∷ Argument ∷ Arguments ∷ ArgumentsAfter ∷ Motive ∷ Proof ∷ Statement ∷ End ∷ ProofsAfter ∷ NamesAfter ∷ Names ∷ MonoParameter ∷ MonoParametersAfter ∷ MonoParameters ∷ Body ∷ Declaration ∷ File ∷ []
+every_nonterminal = Binder ∷ MonoName ∷ SumSign ∷ ProductSign ∷ UnaryWord ∷ UnaryRule ∷ HeapNumber ∷ Heap ∷ Factor ∷ Mono ∷ MonoInBrackets ∷ MonosAfter ∷ Monos ∷ TypePhrase ∷ Triple ∷ Atom ∷ Application ∷ Product ∷ Sum ∷ Relation ∷ Term ∷ Parameters ∷ SumRest ∷ ProductRest ∷ Parts ∷ Comp ∷ Step ∷ FormulaAtom ∷ Separation ∷ Conjunction ∷ Disjunction ∷ Formula ∷ Sort ∷ Terms ∷ TermsAfter ∷ Argument ∷ Arguments ∷ ArgumentsAfter ∷ Motive ∷ End ∷ Proof ∷ Statement ∷ ProofsAfter ∷ NamesAfter ∷ Names ∷ MonoParameter ∷ MonoParametersAfter ∷ MonoParameters ∷ Body ∷ Declaration ∷ File ∷ []

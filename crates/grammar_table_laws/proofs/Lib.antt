@@ -5,6 +5,7 @@ pub mod MonotypesMake
 pub mod MonotypesBuilt
 pub mod TermsMake
 pub mod TermsBuilt
+pub mod FormulasBuilt
 pub mod ProofsMake
 pub mod ProofsBuilt
 pub mod FilesMake

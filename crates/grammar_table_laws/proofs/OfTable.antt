@@ -1,6 +1,5 @@
 -- All phrases of the table have trees, and the laws.
-use Rattle.std.proofs.Common.{List, []}
-use Rattle.htt_tokens.specs.declared.tokens.Token.{Token}
+use Rattle.std.proofs.Common.{[]}
 use Rattle.grammar_table.specs.declared.symbols.Nonterminal.{Nonterminal}
 use Rattle.grammar_table.specs.declared.symbols.Nonterminal.TheVariants.{Binder, MonoName, SumSign, ProductSign, UnaryWord, UnaryRule, HeapNumber, Heap, Factor, Mono, MonoInBrackets, MonosAfter, Monos, TypePhrase, Triple, Term, Parameters, Relation, Sum, SumRest, Product, ProductRest, Application, Parts, Atom, Comp, Step, Formula, Sort, Disjunction, Conjunction, Separation, FormulaAtom, Terms, TermsAfter, Argument, Arguments, ArgumentsAfter, Motive, Proof, Statement, End, ProofsAfter, NamesAfter, Names, MonoParameter, MonoParametersAfter, MonoParameters, Body, Declaration, File}
 use Rattle.htt_grammar.specs.Grammar
@@ -8,7 +7,8 @@ use Rattle.grammar_table_laws.specs.Laws.{MonoOfTable, TypeOfTable, TermOfTable,
 use Rattle.grammar_table_laws.proofs.Takes.{from_fit, to_fit}
 use Rattle.grammar_table_laws.proofs.Phrased.{AllBuilt, phrase_tree}
 use Rattle.grammar_table_laws.proofs.MonotypesBuilt.{binder_built, mono_name_built, heap_number_built, heap_built, factor_built, mono_built, mono_in_brackets_built, monos_after_built, monos_built}
-use Rattle.grammar_table_laws.proofs.TermsBuilt.{sum_sign_built, product_sign_built, unary_word_built, type_phrase_built, triple_built, term_built, parameters_built, relation_built, sum_built, sum_rest_built, product_built, product_rest_built, application_built, parts_built, atom_built, comp_built, step_built, formula_built, sort_built, disjunction_built, conjunction_built, separation_built, formula_atom_built, terms_built, terms_after_built}
+use Rattle.grammar_table_laws.proofs.TermsBuilt.{sum_sign_built, product_sign_built, unary_word_built, type_phrase_built, triple_built, term_built, parameters_built, relation_built, sum_built, sum_rest_built, product_built, product_rest_built, application_built, parts_built, atom_built, comp_built, step_built}
+use Rattle.grammar_table_laws.proofs.FormulasBuilt.{formula_built, sort_built, disjunction_built, conjunction_built, separation_built, formula_atom_built, terms_built, terms_after_built}
 use Rattle.grammar_table_laws.proofs.ProofsBuilt.{unary_rule_built, argument_built, arguments_after_built, arguments_built, motive_built, proof_built, statement_built, end_built, proofs_after_built}
 use Rattle.grammar_table_laws.proofs.FilesBuilt.{names_after_built, names_built, mono_parameter_built, mono_parameters_after_built, mono_parameters_built, body_built, declaration_built, file_built}
 use Rattle.grammar_table_laws.proofs.MonotypesMake.{mono_makes}

@@ -1,30 +1,17 @@
 -- From the marks of a tree to a derivation: terms.
-use Rattle.std.proofs.Common.{◌≡◌, ℕ, suc, ◌⊎◌, inl, inr, List, [], ◌∷◌, refl}
-use Rattle.std.specs.Prelude.{Option, Some, None}
-use Rattle.htt_tokens.specs.declared.tokens.Token.{Token}
-use Rattle.htt_tokens.specs.declared.tokens.Sign.TheVariants.{CommaSign}
-use Rattle.raw_trees.specs.declared.place.Span.{Span}
-use Rattle.raw_trees.specs.declared.place.Binder.{Binder as BinderTree}
-use Rattle.raw_trees.specs.declared.place.Binder.TheVariants as binders
-use Rattle.raw_trees.specs.declared.mono.MonoName.{MonoName as MonoNameTree}
-use Rattle.raw_trees.specs.declared.mono.MonoName.TheVariants as mono_names
+use Rattle.std.proofs.Common.{ℕ, refl}
 use Rattle.raw_trees.specs.declared.tree.SumSign.{SumSign as SumSignTree}
 use Rattle.raw_trees.specs.declared.tree.SumSign.TheVariants as sum_signs
 use Rattle.raw_trees.specs.declared.tree.ProdSign.{ProdSign}
 use Rattle.raw_trees.specs.declared.tree.ProdSign.TheVariants as prod_signs
 use Rattle.raw_trees.specs.declared.tree.UnaryWord.{UnaryWord as UnaryWordTree}
 use Rattle.raw_trees.specs.declared.tree.UnaryWord.TheVariants as unary_words
-use Rattle.raw_trees.specs.declared.tree.RawHeap.{RawHeap}
-use Rattle.raw_trees.specs.declared.tree.RawHeap.TheVariants as heaps
-use Rattle.raw_trees.specs.declared.proof.UnaryRule.{UnaryRule as UnaryRuleTree}
-use Rattle.raw_trees.specs.declared.proof.UnaryRule.TheVariants as unary_rules
-use Rattle.raw_trees.specs.Trees.{FactorTree, MonoTree, m_name, m_brackets, m_factor, m_pair, TyTree, TripleTree, TermTree, ParamTrees, RelTree, SumTree, SumRestTree, ProdTree, ProdRestTree, ApplTree, PartTrees, AtomTree, CompTree, StepTree, FormulaTree, SortTree, DisjTree, ConjTree, StarTree, FatomTree, TermTrees, y_fun, y_all, y_hoare, y_mono, triple_of, t_fun, t_fun_mono, t_do, t_fix, t_rel, no_params, more_params, r_sum, r_less, s_sum, s_end, s_more, x_prod, x_end, x_more, l_unary, l_apply, no_parts, atom_part, mono_part, a_name, a_number, a_true, a_false, a_null, a_place, a_eq, a_sel, a_unit, a_brackets, a_pair, a_annotated, c_ret, c_step, s_alloc, s_get, s_set, s_free, s_if, s_claim, s_run, f_all, f_ex, f_disj, f_implies, over_mono, over_heap, d_conj, d_or, j_star, j_and, k_fatom, k_times, g_tt, g_ff, g_emp, g_brackets, g_at_heap, g_emp_of, g_same, g_join, g_cell, g_block, g_use, g_use_at, g_use_at_heap, g_eq, g_points, g_points_any, no_terms, more_terms, ArgTree, arg_heap, arg_term, MotiveTree, motive_of, ProofTree, StmtTree, EndTree, ProofTrees, p_end, p_step, b_intro, b_gen, b_open, b_have, e_name, e_trivial, e_refl, e_unary, e_both, e_give, e_app, e_inst, e_case, e_rewrite, e_induct, e_split, e_axiom, e_unfold, e_lem, e_the, no_proofs, more_proofs, MonoParamTree, mono_param, BodyTree, body_auto, body_proof, DeclTree, decl_type, decl_pred, decl_induct, decl_def, decl_val, decl_proof}
-use Rattle.grammar_table.specs.declared.symbols.Nonterminal.{Nonterminal}
-use Rattle.grammar_table.specs.declared.symbols.Nonterminal.TheVariants.{Binder, MonoName, SumSign, ProductSign, UnaryWord, UnaryRule, HeapNumber, Heap, Factor, Mono, MonoInBrackets, MonosAfter, Monos, TypePhrase, Triple, Term, Parameters, Relation, Sum, SumRest, Product, ProductRest, Application, Parts, Atom, Comp, Step, Formula, Sort, Disjunction, Conjunction, Separation, FormulaAtom, Terms, TermsAfter, Argument, Arguments, ArgumentsAfter, Motive, Proof, Statement, End, ProofsAfter, NamesAfter, Names, MonoParameter, MonoParametersAfter, MonoParameters, Body, Declaration, File}
-use Rattle.htt_grammar.specs.Marks.{Mark, span_of, ◌⨟◌, sign, word_at, name, number, each_after}
+use Rattle.raw_trees.specs.Trees.{TyTree, TripleTree, TermTree, ParamTrees, RelTree, SumTree, SumRestTree, ProdTree, ProdRestTree, ApplTree, PartTrees, AtomTree, CompTree, StepTree, FormulaTree, SortTree, DisjTree, ConjTree, StarTree, FatomTree, TermTrees, y_fun, y_all, y_hoare, y_mono, triple_of, t_fun, t_fun_mono, t_do, t_fix, t_rel, no_params, more_params, r_sum, r_less, s_sum, s_end, s_more, x_prod, x_end, x_more, l_unary, l_apply, no_parts, atom_part, mono_part, a_name, a_number, a_true, a_false, a_null, a_place, a_eq, a_sel, a_unit, a_brackets, a_pair, a_annotated, c_ret, c_step, s_alloc, s_get, s_set, s_free, s_if, s_claim, s_run, f_all, f_ex, f_disj, f_implies, over_mono, over_heap, d_conj, d_or, j_star, j_and, k_fatom, k_times, g_tt, g_ff, g_emp, g_brackets, g_at_heap, g_emp_of, g_same, g_join, g_cell, g_block, g_use, g_use_at, g_use_at_heap, g_eq, g_points, g_points_any, no_terms, more_terms}
+use Rattle.grammar_table.specs.declared.symbols.Nonterminal.TheVariants.{SumSign, ProductSign, UnaryWord, TypePhrase, Triple, Term, Parameters, Relation, Sum, SumRest, Product, ProductRest, Application, Parts, Atom, Comp, Step, Formula, Sort, Disjunction, Conjunction, Separation, FormulaAtom, Terms, TermsAfter}
+use Rattle.htt_grammar.specs.Marks.{sign, word_at}
 use Rattle.htt_grammar.specs.Grammar
-use Rattle.grammar_table_laws.proofs.Takes.{Makes, none, one, one_alone, sub, last, left_first, skip, unnumbered, by}
-use Rattle.grammar_table_laws.proofs.MonotypesMake.{binder_makes, mono_name_makes, heap_number_makes, heap_makes, factor_makes, mono_makes, mono_in_brackets_makes, monos_after_makes, monos_makes}
+use Rattle.grammar_table_laws.proofs.Takes.{Makes, none, one, one_alone, sub, last, unnumbered, by}
+use Rattle.grammar_table_laws.proofs.MonotypesMake.{binder_makes, heap_makes, mono_makes, mono_in_brackets_makes, monos_makes}
 
 pub sum_sign_makes : (l : ℕ) (x : SumSignTree) → Makes (sign l (Grammar.sum_sign x)) SumSign
 unfolding Grammar.term

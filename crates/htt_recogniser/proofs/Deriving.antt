@@ -6,8 +6,6 @@ use Rattle.std.specs.Prelude.{Bool, true, false, ◌&&◌, ◌||◌, ◌==◌}
 use Rattle.std.specs.List.{list_any}
 use Rattle.htt_tokens.specs.contracts.tokens.Keyword as keyword_enum
 use Rattle.htt_tokens.specs.contracts.tokens.Sign as sign_enum
-use Rattle.htt_tokens.specs.declared.tokens.Keyword.{Keyword}
-use Rattle.htt_tokens.specs.declared.tokens.Sign.{Sign}
 use Rattle.htt_tokens.specs.declared.tokens.Kind.{Kind}
 use Rattle.htt_tokens.specs.declared.tokens.Kind.TheVariants as kinds
 use Rattle.htt_tokens.specs.declared.tokens.Token.{Token}

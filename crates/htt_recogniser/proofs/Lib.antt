@@ -3,3 +3,4 @@ pub mod Lists
 pub mod Deriving
 pub mod Rounding
 pub mod Filling
+pub mod Retelling

@@ -1,6 +1,5 @@
-use Rattle.std.proofs.Common.{◌≡◌, ◌∙◌, ◌≤◌, [], sym, ap, subst, length, arith, rules}
+use Rattle.std.proofs.Common.{◌≡◌, ◌∙◌, ◌≤◌, [], sym, ap, subst, length, arith}
 use Rattle.std.proofs.lemmas.Grind.{common_steps}
-use Rattle.std.specs.Vec.{vec_len}
 use Rattle.htt_recogniser.specs.Rounds.{IsChart, round_of}
 use Rattle.htt_recogniser.proofs.Rounding.{Cover, next_cover, last_cover, no_more_left}
 use Rattle.htt_recogniser.proofs.chart.chart_of.Goals as goal

@@ -1,4 +1,4 @@
-use Rattle.std.proofs.Common.{◌≡◌, ◌∙◌, sym, ap, length}
+use Rattle.std.proofs.Common.{◌∙◌, sym, ap, length}
 use Rattle.htt_recogniser.specs.Chart.{phrase_spans_of}
 use Rattle.htt_recogniser.specs.Rounds.{edge_of}
 use Rattle.htt_recogniser.proofs.Deriving.{shown_is_derived, derived_is_shown}

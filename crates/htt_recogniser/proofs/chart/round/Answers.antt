@@ -1,4 +1,4 @@
-use Rattle.std.proofs.Common.{◌≡◌, ◌∙◌, sym, ap, length, arith}
+use Rattle.std.proofs.Common.{◌∙◌, sym, ap}
 use Rattle.htt_recogniser.proofs.Rounding.{round_ends, step_in, step_stays}
 use Rattle.htt_recogniser.proofs.chart.round.Goals as goal
 use Rattle.htt_recogniser.proofs.chart.round.Goals.{then-phrase_spans+in_ok-push, else-phrase_spans+in_ok-push-2}

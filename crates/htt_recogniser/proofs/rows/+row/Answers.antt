@@ -1,4 +1,4 @@
-use Rattle.std.proofs.Common.{◌≡◌, suc, ◌∙◌, sym, ap, add-one}
+use Rattle.std.proofs.Common.{suc, ◌∙◌, sym, ap, add-one}
 use Rattle.std.specs.Prelude.{◌&&◌}
 use Rattle.htt_recogniser.specs.Chart.{row_spans_of}
 use Rattle.htt_recogniser.proofs.FirstSymbols.{nothing_spans, phrase_row, token_row}
