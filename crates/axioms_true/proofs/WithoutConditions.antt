@@ -12,7 +12,7 @@ use Rattle.htt_truth.specs.TermValue.{term_value}
 use Rattle.htt_truth.specs.Truth.{Recs, Holds}
 use Rattle.htt_truth.specs.Predicates.{recs_of}
 use Rattle.logic_axioms.specs.Names.{block_width}
-use Rattle.logic_axioms.specs.Table.{formula_of}
+use Rattle.logic_axioms.specs.Table.{count_of_words, SideCondition, formula_of}
 use Rattle.axioms_true.specs.WithoutConditions.{at_greatest, one_word_held, next_is_above, ConditionsAreNeeded}
 use Rattle.axioms_true.proofs.CellAxioms.{some_is_one}
 
@@ -35,10 +35,17 @@ not_wider R F e h =
     let k = subst (Holds R one_word_held) (sym (row_of e)) h in
     k (λ deny. deny (7 ∷ [], refl, single_is_only 5 (7 ∷ []))) (λ x. two_words x.0 x.1 x.2)
 
+not_as_wide : SideCondition block_width (m_word ∷ m_pair m_word m_word ∷ []) → ⊥
+unfolding SideCondition count_of_words
+not_as_wide s = let e : 1 ≡ 2 = s.same_words in omega (arith, e)
+
 pub needed : ConditionsAreNeeded
+unfolding formula_of
 needed = record {
+  row_of_next_word = λ y. refl;
   greatest_is_a_word = world_value (is_word (omega arith)) world_none;
   no_word_above_greatest = λ table. not_above (recs_of table);
   place_and_heap = world_value (is_loc (omega arith)) (world_heap (only_is_heap (single_is_only 5 (7 ∷ [])) (omega arith) (omega arith) (All-cons IsWord 7 [] (omega arith) (All-nil IsWord))) world_none);
+  other_width = not_as_wide;
   no_block_of_another_width = λ table. not_wider (recs_of table);
 }

@@ -8,7 +8,7 @@ use Rattle.htt_truth.specs.TermValue.{value_or_unit}
 use Rattle.canonical_trees.specs.Skeletons.{Skeleton, sk_o, sk_c, sk_arrow, sk_all, skeleton}
 use Rattle.denotation.specs.Outcomes.{Running, ended, then_outcome, alloc_outcome, get_outcome, set_outcome, free_outcome, branch_outcome}
 use Rattle.denotation.specs.Valuations.{Domain, Entry, den_mono, den_term, Valuation, no_entry, nothing_at, entry_at, value_of_entry, running_of_entry, applied_entry, instance_entry, at_skeleton, mono_in, HeadEntries}
-use Rattle.denotation.specs.Recursion.{entered, recursion}
+use Rattle.denotation.specs.Recursion.{recursion}
 
 -- The skeleton of a recursive function.
 unfoldable pub fix_skeleton : FixTree → Skeleton
@@ -86,9 +86,9 @@ abbrev pub heads_of_entries : List Entry → HeadEntries
 heads_of_entries known = record { vals = λ n. entry_or_none (slice_get known n); made = λ n values. no_entry }
 
 abbrev pub val_entry : HeadEntries → ValTree → Entry
-val_entry e v = den_term v.skeleton (entered v.skeleton (term_den e [] v.term v.skeleton))
+val_entry e v = den_term v.skeleton (term_den e [] v.term v.skeleton)
 
--- Each value of a file knows those before it.
+-- Each value of a file knows those before it. Its use takes no fuel, since it can't use itself.
 abbrev pub entries_of_vals : List Entry → List ValTree → List Entry
 entries_of_vals known [] = known
 entries_of_vals known (v ∷ vs) = entries_of_vals (known ++ (val_entry (heads_of_entries known) v ∷ [])) vs

@@ -11,19 +11,23 @@ use Rattle.denotation.specs.Valuations.{Domain, Valuation, den_mono, den_term, H
 use Rattle.denotation.specs.Denotation.{term_den, comp_den, heads_of_vals}
 use Rattle.denotation.specs.Satisfaction.{Satisfies}
 
--- value 0 is `do ret 5`, value 1 is `fun x . do y <- v0; ret (x, y)`
+-- x <- step; ret x
+abbrev pub only : StepTree → CompTree
+only step = c_step step (c_ret (t_var 0))
+
+-- fix f (n : word) . b <- if n is 0 { ret 0 } { y <- f (n - 1); ret y }; ret b
+abbrev pub count_down : FixTree
+count_down = x_param (y_mono m_word) (x_body (triple f_tt m_word f_tt) (only (s_if m_word (t_eq m_word (t_var 1) (t_word 0)) (c_ret (t_word 0)) (only (s_run (t_app (t_var 0) (t_bin Sub (t_var 1) (t_word 1))) (Some m_word))))))
+
+-- value 0 is `do ret 5`, value 1 is `fun x . do y <- v0; ret (x, y)`, value 2 counts down
 abbrev pub file : HeadEntries
-file = heads_of_vals (record { term = t_do (c_ret (t_word 5)); skeleton = sk_c } ∷ record { term = t_lam (t_do (c_step (s_run (t_val 0) (Some m_word)) (c_ret (t_pair (t_var 1) (t_var 0))))); skeleton = sk_arrow sk_o sk_c } ∷ [])
+file = heads_of_vals (record { term = t_do (c_ret (t_word 5)); skeleton = sk_c } ∷ record { term = t_lam (t_do (c_step (s_run (t_val 0) (Some m_word)) (c_ret (t_pair (t_var 1) (t_var 0))))); skeleton = sk_arrow sk_o sk_c } ∷ record { term = t_lam (t_do (only (s_run (t_app (t_fix 9 count_down) (t_var 0)) (Some m_word)))); skeleton = sk_arrow sk_o sk_c } ∷ [])
 
 abbrev pub denotes : TermTree → (s : Skeleton) → Domain s
 denotes term s = term_den file [] term s
 
 abbrev pub ends : ℕ → CompTree → Heap → List ℕ → Outcome
 ends n comp h cs = comp_den file [] comp n h cs
-
--- x <- step; ret x
-abbrev pub only : StepTree → CompTree
-only step = c_step step (c_ret (t_var 0))
 
 abbrev pub plus_one : TermTree
 plus_one = t_lam (t_bin Add (t_var 0) (t_word 1))
@@ -38,10 +42,6 @@ function = sk_arrow sk_o sk_o
 -- a function variable, which adds one
 abbrev pub adds_one : Valuation
 adds_one = den_term function (denotes plus_one function) ∷ []
-
--- fix f (n : word) . b <- if n is 0 { ret 0 } { y <- f (n - 1); ret y }; ret b
-abbrev pub count_down : FixTree
-count_down = x_param (y_mono m_word) (x_body (triple f_tt m_word f_tt) (only (s_if m_word (t_eq m_word (t_var 1) (t_word 0)) (c_ret (t_word 0)) (only (s_run (t_app (t_var 0) (t_bin Sub (t_var 1) (t_word 1))) (Some m_word))))))
 
 -- fix f (x : word) (y : word) . ret (x, y)
 abbrev pub both : FixTree
@@ -68,11 +68,11 @@ pub record WorkedExamples : Type 0 where
   pub nothing_to_free : ends 0 (only (s_free m_word (t_loc 6))) (single_block 5 (7 ∷ [])) [] ≡ wrong
   pub branch_takes_no_fuel : ends 0 (only (s_if m_word (t_bool false) (c_ret (t_word 1)) (c_ret (t_word 2)))) empty_heap [] ≡ ended (v_word 2) empty_heap []
   pub claim_does_nothing : ends 0 (only (s_claim f_ff)) (single_block 5 []) (6 ∷ []) ≡ ended v_unit (single_block 5 []) (6 ∷ [])
-  pub value_takes_fuel : ends 0 (only (s_run (t_val 0) (Some m_word))) empty_heap [] ≡ out_of_fuel
-  pub value_is_run : ends 1 (only (s_run (t_val 0) (Some m_word))) empty_heap [] ≡ ended (v_word 5) empty_heap []
-  pub value_knows_earlier_ones : ends 2 (only (s_run (t_app (t_val 1) (t_word 3)) (Some (m_pair m_word m_word)))) empty_heap [] ≡ ended (v_pair (v_word 3) (v_word 5)) empty_heap []
-  pub depth_takes_fuel : ends 1 (only (s_run (t_app (t_val 1) (t_word 3)) (Some (m_pair m_word m_word)))) empty_heap [] ≡ out_of_fuel
-  pub no_such_value : ends 9 (only (s_run (t_val 2) (Some m_word))) empty_heap [] ≡ wrong
+  pub value_takes_no_fuel : ends 0 (only (s_run (t_val 0) (Some m_word))) empty_heap [] ≡ ended (v_word 5) empty_heap []
+  pub value_knows_earlier_ones : ends 0 (only (s_run (t_app (t_val 1) (t_word 3)) (Some (m_pair m_word m_word)))) empty_heap [] ≡ ended (v_pair (v_word 3) (v_word 5)) empty_heap []
+  pub recursion_in_a_value : ends 2 (only (s_run (t_app (t_val 2) (t_word 1)) (Some m_word))) empty_heap [] ≡ ended (v_word 0) empty_heap []
+  pub recursion_in_a_value_takes_fuel : ends 1 (only (s_run (t_app (t_val 2) (t_word 1)) (Some m_word))) empty_heap [] ≡ out_of_fuel
+  pub no_such_value : ends 9 (only (s_run (t_val 3) (Some m_word))) empty_heap [] ≡ wrong
   pub counted_down : ends 3 (only (s_run (t_app (t_fix 9 count_down) (t_word 2)) (Some m_word))) empty_heap [] ≡ ended (v_word 0) empty_heap []
   pub more_fuel_is_no_harm : ends 9 (only (s_run (t_app (t_fix 9 count_down) (t_word 2)) (Some m_word))) empty_heap [] ≡ ended (v_word 0) empty_heap []
   pub counting_takes_fuel : ends 2 (only (s_run (t_app (t_fix 9 count_down) (t_word 2)) (Some m_word))) empty_heap [] ≡ out_of_fuel

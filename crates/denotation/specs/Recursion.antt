@@ -1,5 +1,5 @@
--- Recursion by fuel. Fuel counts how deep heads are entered: the body of a recursive function, and a
--- value of the file.
+-- Recursion by fuel. Fuel counts how deep the bodies of recursive functions are entered, and nothing
+-- else.
 use Rattle.std.specs.Prelude.{ℕ, zero, suc}
 use Rattle.htt_values.specs.Values.{v_unit}
 use Rattle.canonical_trees.specs.Skeletons.{Skeleton, sk_o, sk_c, sk_arrow, sk_all}

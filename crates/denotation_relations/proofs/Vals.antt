@@ -5,12 +5,10 @@ use Rattle.canonical_trees.specs.Skeletons.{Skeleton}
 use Rattle.canonical_trees.specs.Contexts.{HasSkeleton, first_head, later_head}
 use Rattle.canonical_trees.specs.Canonical.{IsCanonical}
 use Rattle.denotation.specs.Valuations.{Entry}
-use Rattle.denotation.specs.Recursion.{entered}
 use Rattle.denotation.specs.Denotation.{term_den, ValTree, entry_or_none, heads_of_entries, val_entry, entries_of_vals, heads_of_vals}
 use Rattle.denotation.specs.Valued.{EndsInRun, HeadsRun, HeadsValued}
 use Rattle.denotation_relations.specs.Relating.{Relation, IsKept, RelatedEntries, RelatedValuations, RelatedHeads}
 use Rattle.denotation_relations.specs.Files.{heads_of_skeletons, AreVals, vals_end, vals_more, skeletons_after, heads_of_file}
-use Rattle.denotation_relations.proofs.Recursions.{entered_related}
 use Rattle.denotation_relations.proofs.Related.{term_related}
 
 -- Each entry is related to itself at its skeleton, which ends in a computation.
@@ -39,14 +37,14 @@ module _ (Q : Relation) (kept : IsKept Q) where
   closed : RelatedValuations Q [] [] []
   closed = record { terms = λ n s d. elim d [ ]; monos = λ n d. elim d [ ] }
 
-  val_related : {ss : List Skeleton} {xs : List Entry} {v : ValTree} → AreEntries Q ss xs → IsCanonical (heads_of_skeletons ss) [] v.term v.skeleton → EndsInRun v.skeleton → RelatedEntries Q v.skeleton (val_entry (heads_of_entries xs) v) (val_entry (heads_of_entries xs) v)
-  val_related {xs = xs} {v = v} a c r =
+  val_related : {ss : List Skeleton} {xs : List Entry} {v : ValTree} → AreEntries Q ss xs → IsCanonical (heads_of_skeletons ss) [] v.term v.skeleton → RelatedEntries Q v.skeleton (val_entry (heads_of_entries xs) v) (val_entry (heads_of_entries xs) v)
+  val_related {xs = xs} {v = v} a c =
       let d = term_den (heads_of_entries xs) [] v.term v.skeleton in
-      record { left = entered v.skeleton d; right = entered v.skeleton d; is_left = refl; is_right = refl; related = entered_related Q kept r d d (term_related Q kept (heads_related a) c closed) }
+      record { left = d; right = d; is_left = refl; is_right = refl; related = term_related Q kept (heads_related a) c closed }
 
   vals_related : {ss : List Skeleton} {xs : List Entry} {vs : List ValTree} → AreEntries Q ss xs → AreVals ss vs → AreEntries Q (skeletons_after ss vs) (entries_of_vals xs vs)
   vals_related a vals_end = a
-  vals_related a (vals_more {v = v} c r others) = vals_related (one_more a r (val_related {v = v} a c r)) others
+  vals_related a (vals_more {v = v} c r others) = vals_related (one_more a r (val_related {v = v} a c)) others
 
   pub file_related : (vs : List ValTree) → AreVals [] vs → RelatedHeads Q (heads_of_file vs) (heads_of_vals vs) (heads_of_vals vs)
   file_related vs a = heads_related (vals_related entries_end a)

@@ -6,8 +6,8 @@ use Rattle.htt_tokens.specs.declared.tokens.Sign.TheVariants.{CommaSign}
 use Rattle.raw_trees.specs.declared.place.Span.{Span}
 use Rattle.raw_trees.specs.declared.place.Binder.{Binder as BinderTree}
 use Rattle.raw_trees.specs.declared.mono.MonoName.{MonoName as MonoNameTree}
-use Rattle.raw_trees.specs.declared.tree.SumSign.{SumSign as SumSignTree}
-use Rattle.raw_trees.specs.declared.tree.ProdSign.{ProdSign}
+use Rattle.raw_trees.specs.Trees.{SumSign as SumSignTree}
+use Rattle.raw_trees.specs.Trees.{ProdSign}
 use Rattle.raw_trees.specs.declared.tree.UnaryWord.{UnaryWord as UnaryWordTree}
 use Rattle.raw_trees.specs.declared.tree.RawHeap.{RawHeap}
 use Rattle.raw_trees.specs.declared.proof.UnaryRule.{UnaryRule as UnaryRuleTree}

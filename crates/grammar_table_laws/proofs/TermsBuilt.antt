@@ -1,7 +1,7 @@
 -- From the rows of the table to a tree: terms.
 use Rattle.std.proofs.Common.{inl, inr, refl}
-use Rattle.raw_trees.specs.declared.tree.SumSign.TheVariants as sum_signs
-use Rattle.raw_trees.specs.declared.tree.ProdSign.TheVariants as prod_signs
+use Rattle.raw_trees.specs.Trees.{plus, minus, bar, caret}
+use Rattle.raw_trees.specs.Trees.{times, ampersand, shift_left, shift_right}
 use Rattle.raw_trees.specs.declared.tree.UnaryWord.TheVariants as unary_words
 use Rattle.raw_trees.specs.Trees.{y_fun, y_all, y_hoare, y_mono, triple_of, t_fun, t_fun_mono, t_do, t_fix, t_rel, no_params, more_params, r_sum, r_less, s_sum, s_end, s_more, x_prod, x_end, x_more, l_unary, l_apply, no_parts, atom_part, mono_part, a_name, a_number, a_true, a_false, a_null, a_place, a_eq, a_sel, a_unit, a_brackets, a_pair, a_annotated, c_ret, c_step, s_alloc, s_get, s_set, s_free, s_if, s_claim, s_run}
 use Rattle.grammar_table.specs.declared.symbols.Nonterminal.TheVariants.{SumSign, ProductSign, UnaryWord, TypePhrase, Triple, Term, Parameters, Relation, Sum, SumRest, Product, ProductRest, Application, Parts, Atom, Comp, Step}
@@ -12,19 +12,19 @@ use Rattle.grammar_table_laws.proofs.Phrased.{Built, AllBuilt}
 
 sum_sign_0 : Built SumSign 0
 unfolding Grammar.term
-sum_sign_0 ts us (t0, v0, e0, i0, e) = (sum_signs.Plus, λ l k. up_to e (alone e0 (fit i0 tt tt)))
+sum_sign_0 ts us (t0, v0, e0, i0, e) = (plus, λ l k. up_to e (alone e0 (fit i0 tt tt)))
 
 sum_sign_1 : Built SumSign 1
 unfolding Grammar.term
-sum_sign_1 ts us (t0, v0, e0, i0, e) = (sum_signs.Minus, λ l k. up_to e (alone e0 (fit i0 tt tt)))
+sum_sign_1 ts us (t0, v0, e0, i0, e) = (minus, λ l k. up_to e (alone e0 (fit i0 tt tt)))
 
 sum_sign_2 : Built SumSign 2
 unfolding Grammar.term
-sum_sign_2 ts us (t0, v0, e0, i0, e) = (sum_signs.Bar, λ l k. up_to e (alone e0 (fit i0 tt tt)))
+sum_sign_2 ts us (t0, v0, e0, i0, e) = (bar, λ l k. up_to e (alone e0 (fit i0 tt tt)))
 
 sum_sign_3 : Built SumSign 3
 unfolding Grammar.term
-sum_sign_3 ts us (t0, v0, e0, i0, e) = (sum_signs.Caret, λ l k. up_to e (alone e0 (fit i0 tt tt)))
+sum_sign_3 ts us (t0, v0, e0, i0, e) = (caret, λ l k. up_to e (alone e0 (fit i0 tt tt)))
 
 pub sum_sign_built : AllBuilt SumSign
 sum_sign_built ts us (inl w) = sum_sign_0 ts us w
@@ -35,19 +35,19 @@ sum_sign_built ts us (inr (inr (inr (inr w)))) = absurd w
 
 product_sign_0 : Built ProductSign 0
 unfolding Grammar.term
-product_sign_0 ts us (t0, v0, e0, i0, e) = (prod_signs.Times, λ l k. up_to e (alone e0 (fit i0 tt tt)))
+product_sign_0 ts us (t0, v0, e0, i0, e) = (times, λ l k. up_to e (alone e0 (fit i0 tt tt)))
 
 product_sign_1 : Built ProductSign 1
 unfolding Grammar.term
-product_sign_1 ts us (t0, v0, e0, i0, e) = (prod_signs.And, λ l k. up_to e (alone e0 (fit i0 tt tt)))
+product_sign_1 ts us (t0, v0, e0, i0, e) = (ampersand, λ l k. up_to e (alone e0 (fit i0 tt tt)))
 
 product_sign_2 : Built ProductSign 2
 unfolding Grammar.term
-product_sign_2 ts us (t0, v0, e0, i0, e) = (prod_signs.ShiftLeft, λ l k. up_to e (alone e0 (fit i0 tt tt)))
+product_sign_2 ts us (t0, v0, e0, i0, e) = (shift_left, λ l k. up_to e (alone e0 (fit i0 tt tt)))
 
 product_sign_3 : Built ProductSign 3
 unfolding Grammar.term
-product_sign_3 ts us (t0, v0, e0, i0, e) = (prod_signs.ShiftRight, λ l k. up_to e (alone e0 (fit i0 tt tt)))
+product_sign_3 ts us (t0, v0, e0, i0, e) = (shift_right, λ l k. up_to e (alone e0 (fit i0 tt tt)))
 
 pub product_sign_built : AllBuilt ProductSign
 product_sign_built ts us (inl w) = product_sign_0 ts us w

@@ -1,9 +1,9 @@
 -- From the marks of a tree to a derivation: terms.
 use Rattle.std.proofs.Common.{ℕ, refl}
-use Rattle.raw_trees.specs.declared.tree.SumSign.{SumSign as SumSignTree}
-use Rattle.raw_trees.specs.declared.tree.SumSign.TheVariants as sum_signs
-use Rattle.raw_trees.specs.declared.tree.ProdSign.{ProdSign}
-use Rattle.raw_trees.specs.declared.tree.ProdSign.TheVariants as prod_signs
+use Rattle.raw_trees.specs.Trees.{SumSign as SumSignTree}
+use Rattle.raw_trees.specs.Trees.{plus, minus, bar, caret}
+use Rattle.raw_trees.specs.Trees.{ProdSign}
+use Rattle.raw_trees.specs.Trees.{times, ampersand, shift_left, shift_right}
 use Rattle.raw_trees.specs.declared.tree.UnaryWord.{UnaryWord as UnaryWordTree}
 use Rattle.raw_trees.specs.declared.tree.UnaryWord.TheVariants as unary_words
 use Rattle.raw_trees.specs.Trees.{TyTree, TripleTree, TermTree, ParamTrees, RelTree, SumTree, SumRestTree, ProdTree, ProdRestTree, ApplTree, PartTrees, AtomTree, CompTree, StepTree, FormulaTree, SortTree, DisjTree, ConjTree, StarTree, FatomTree, TermTrees, y_fun, y_all, y_hoare, y_mono, triple_of, t_fun, t_fun_mono, t_do, t_fix, t_rel, no_params, more_params, r_sum, r_less, s_sum, s_end, s_more, x_prod, x_end, x_more, l_unary, l_apply, no_parts, atom_part, mono_part, a_name, a_number, a_true, a_false, a_null, a_place, a_eq, a_sel, a_unit, a_brackets, a_pair, a_annotated, c_ret, c_step, s_alloc, s_get, s_set, s_free, s_if, s_claim, s_run, f_all, f_ex, f_disj, f_implies, over_mono, over_heap, d_conj, d_or, j_star, j_and, k_fatom, k_times, g_tt, g_ff, g_emp, g_brackets, g_at_heap, g_emp_of, g_same, g_join, g_cell, g_block, g_use, g_use_at, g_use_at_heap, g_eq, g_points, g_points_any, no_terms, more_terms}
@@ -15,17 +15,17 @@ use Rattle.grammar_table_laws.proofs.MonotypesMake.{binder_makes, heap_makes, mo
 
 pub sum_sign_makes : (l : ℕ) (x : SumSignTree) → Makes (sign l (Grammar.sum_sign x)) SumSign
 unfolding Grammar.term
-sum_sign_makes l sum_signs.Plus = by 0 tt (one_alone refl)
-sum_sign_makes l sum_signs.Minus = by 1 tt (one_alone refl)
-sum_sign_makes l sum_signs.Bar = by 2 tt (one_alone refl)
-sum_sign_makes l sum_signs.Caret = by 3 tt (one_alone refl)
+sum_sign_makes l plus = by 0 tt (one_alone refl)
+sum_sign_makes l minus = by 1 tt (one_alone refl)
+sum_sign_makes l bar = by 2 tt (one_alone refl)
+sum_sign_makes l caret = by 3 tt (one_alone refl)
 
 pub product_sign_makes : (l : ℕ) (x : ProdSign) → Makes (sign l (Grammar.prod_sign x)) ProductSign
 unfolding Grammar.term
-product_sign_makes l prod_signs.Times = by 0 tt (one_alone refl)
-product_sign_makes l prod_signs.And = by 1 tt (one_alone refl)
-product_sign_makes l prod_signs.ShiftLeft = by 2 tt (one_alone refl)
-product_sign_makes l prod_signs.ShiftRight = by 3 tt (one_alone refl)
+product_sign_makes l times = by 0 tt (one_alone refl)
+product_sign_makes l ampersand = by 1 tt (one_alone refl)
+product_sign_makes l shift_left = by 2 tt (one_alone refl)
+product_sign_makes l shift_right = by 3 tt (one_alone refl)
 
 pub unary_word_makes : (l : ℕ) (x : ℕ × UnaryWordTree) → Makes (word_at l (Grammar.unary_word x.1) x.0) UnaryWord
 unfolding Grammar.term

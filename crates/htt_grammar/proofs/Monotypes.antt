@@ -12,7 +12,7 @@ use Rattle.raw_trees.specs.declared.mono.MonoName.{MonoName}
 use Rattle.raw_trees.specs.declared.mono.MonoName.TheVariants as mono_names
 use Rattle.raw_trees.specs.declared.tree.RawHeap.{RawHeap}
 use Rattle.raw_trees.specs.declared.tree.RawHeap.TheVariants as heaps
-use Rattle.raw_trees.specs.Trees.{FactorTree, MonoTree, m_name, m_brackets, m_factor, m_pair, TyTree, TermTree, CompTree, FormulaTree, DisjTree, ConjTree, StarTree, ProofTree}
+use Rattle.raw_trees.specs.Trees.{with_right, FactorTree, MonoTree, m_name, m_brackets, m_factor, m_pair, TyTree, TermTree, CompTree, FormulaTree, DisjTree, ConjTree, StarTree, ProofTree}
 use Rattle.htt_grammar.specs.Marks.{Mark, Limits, ◌⨟◌, sign, name, number, each_after}
 use Rattle.htt_grammar.specs.Grammar
 use Rattle.htt_grammar.specs.Readers.{Reader, measured, stop, either, same_kind, after_commas}
@@ -121,34 +121,36 @@ module _ {A : Type 0} {lim : Limits} (c : Kind → Bool) (l : ℕ) (r : Reader A
   more_get xs = measuring (λ k. commas_get k xs)
 
 module _ {lim : Limits} (d : Deeper) (l : ℕ) (know : Knows lim d (suc l)) where
-  right_nothing : {n : ℕ} (f : FactorTree) → Gets lim goes_on_mono n (mono_right d f) [] (m_factor f)
-  unfolding mono_right
-  right_nothing f = ended (λ k h. that_not k (Sign StarSign) _ h) giving
+  -- the marks of what stands at the right of a factor
+  right_marks : Option MonoTree → List Mark
+  right_marks None = []
+  right_marks (Some m) = sign l StarSign ⨟ Grammar.mono (suc l) m
 
-  right_pair : {n : ℕ} (f : FactorTree) (m : MonoTree) → Gets lim goes_on_mono n (mono_right d f) (sign l StarSign ⨟ Grammar.mono (suc l) m) (m_pair f m)
-  unfolding mono_right
-  right_pair f m = taken _ _ _ refl (λ s at span. last (m_pair f) (know.mono m))
+  right_gets : {n : ℕ} (r : Option MonoTree) → Gets lim goes_on_mono n (mono_right d) (right_marks r) r
+  unfolding mono_right right_marks
+  right_gets None = ended (λ k h. that_not k (Sign StarSign) _ h) giving
+  right_gets (Some m) = taken _ _ _ refl (λ s at span. last Some (know.mono m))
 
   empty_between : {c : Kind → Bool} {n : ℕ} {r : Reader MonoTree} {y : MonoTree} (a ns : List Mark) → Gets lim c n r (a ⨟ ([] ⨟ ns)) y → Gets lim c n r (a ⨟ ns) y
   unfolding ◌⨟◌
   empty_between a ns gets = gets
 
   mutual
-    unfolding Grammar.factor mono_opens mono_inside mono_closes
+    unfolding Grammar.factor mono_opens mono_inside mono_closes right_marks
 
     spine : {c : Kind → Bool} (n : ℕ) (opens : List ℕ) (m : MonoTree) (ns : List Mark) (y : MonoTree) → ((mid rest : List Token) → Spells lim ns mid rest → Stops c rest → Stops goes_on_mono mid) → ((k : ℕ) → Gets lim c k (mono_closes d opens m) ns y) → Gets lim c n (mono_opens d n opens) (Grammar.mono l m ⨟ ns) y
-    spine n opens (m_factor f) ns y before closes = empty_between (Grammar.factor l f) ns (spine_factor n opens f [] (m_factor f) (λ k. right_nothing f) ns y before closes)
-    spine n opens (m_pair f r) ns y before closes = regroup _ _ _ (spine_factor n opens f (sign l StarSign ⨟ Grammar.mono (suc l) r) (m_pair f r) (λ k. right_pair f r) ns y before closes)
+    spine n opens (m_factor f) ns y before closes = empty_between (Grammar.factor l f) ns (spine_factor n opens f None ns y before closes)
+    spine n opens (m_pair f r) ns y before closes = regroup _ _ _ (spine_factor n opens f (Some r) ns y before closes)
 
-    spine_factor : {c : Kind → Bool} (n : ℕ) (opens : List ℕ) (f : FactorTree) (rs : List Mark) (m : MonoTree) → ((k : ℕ) → Gets lim goes_on_mono k (mono_right d f) rs m) → (ns : List Mark) (y : MonoTree) → ((mid rest : List Token) → Spells lim ns mid rest → Stops c rest → Stops goes_on_mono mid) → ((k : ℕ) → Gets lim c k (mono_closes d opens m) ns y) → Gets lim c n (mono_opens d n opens) (Grammar.factor l f ⨟ (rs ⨟ ns)) y
-    spine_factor zero opens f rs m right ns y before closes = no_room begins_mono (leads_then begins_mono (Grammar.factor l f) _ (leads_of begins_mono l (Grammar.factor l f) (opens_factor l f)))
-    spine_factor (suc n) opens (m_name x) rs m right ns y before closes =
+    spine_factor : {c : Kind → Bool} (n : ℕ) (opens : List ℕ) (f : FactorTree) (r : Option MonoTree) (ns : List Mark) (y : MonoTree) → ((mid rest : List Token) → Spells lim ns mid rest → Stops c rest → Stops goes_on_mono mid) → ((k : ℕ) → Gets lim c k (mono_closes d opens (with_right f r)) ns y) → Gets lim c n (mono_opens d n opens) (Grammar.factor l f ⨟ (right_marks r ⨟ ns)) y
+    spine_factor zero opens f r ns y before closes = no_room begins_mono (leads_then begins_mono (Grammar.factor l f) _ (leads_of begins_mono l (Grammar.factor l f) (opens_factor l f)))
+    spine_factor (suc n) opens (m_name x) r ns y before closes =
         passed begins_mono_name (leads_then begins_mono_name (Grammar.mono_name l x) _ (leads_mono_name l x)) (no_bracket (mono_opens d n) opens)
-        (then_any _ (mono_name_gets l x) (then _ (right (suc n)) before (closes (suc n))))
-    spine_factor {c = c} (suc n) opens (m_brackets at m') rs m right ns y before closes =
-        regroup _ _ _ (taken_less _ _ _ refl (λ s e span. regroup _ _ _ (spine n (s.from ∷ opens) m' (sign l CloseParenSign ⨟ (rs ⨟ ns)) y
+        (then_any _ (mono_name_gets l x) (then _ (right_gets r) before (closes (suc n))))
+    spine_factor {c = c} (suc n) opens (m_brackets at m') r ns y before closes =
+        regroup _ _ _ (taken_less _ _ _ refl (λ s e span. regroup _ _ _ (spine n (s.from ∷ opens) m' (sign l CloseParenSign ⨟ (right_marks r ⨟ ns)) y
         (λ mid rest told stops. stops_at goes_on_mono lim _ _ mid rest refl told)
-        (λ k. skip _ _ _ refl (then _ (subst (λ a. Gets lim goes_on_mono k (mono_right d (m_brackets a m')) rs m) (sym e) (right k)) before (closes k))))))
+        (λ k. skip _ _ _ refl (then _ (right_gets r) before (subst (λ a. Gets lim c k (mono_closes d opens (with_right (m_brackets a m') r)) ns y) (sym e) (closes k)))))))
 
   closed : {j : ℕ} (m : MonoTree) → Gets lim goes_on_mono j (mono_closes d [] m) [] m
   unfolding mono_closes

@@ -6,12 +6,8 @@ use Rattle.htt_tokens.specs.declared.tokens.Kind.TheVariants.{Keyword, Sign}
 use Rattle.htt_tokens.specs.declared.tokens.Token.{Token}
 use Rattle.htt_tokens.specs.declared.tokens.Keyword.TheVariants.{FunWord, DoWord, FixWord, RetWord, FstWord, SndWord, NotWord, AllocWord, GetWord, SetWord, FreeWord, IfWord, ClaimWord}
 use Rattle.htt_tokens.specs.declared.tokens.Sign.TheVariants.{OpenParenSign, CloseParenSign, OpenBracketSign, OpenBraceSign, CommaSign, LessSign}
-use Rattle.raw_trees.specs.declared.tree.SumSign.{SumSign}
-use Rattle.raw_trees.specs.declared.tree.SumSign.TheVariants as sum_signs
-use Rattle.raw_trees.specs.declared.tree.ProdSign.{ProdSign}
-use Rattle.raw_trees.specs.declared.tree.ProdSign.TheVariants as prod_signs
 use Rattle.raw_trees.specs.declared.tree.UnaryWord.TheVariants as unary_words
-use Rattle.raw_trees.specs.Trees.{TripleTree, TermTree, ParamTrees, RelTree, SumTree, SumRestTree, ProdTree, ProdRestTree, ApplTree, PartTrees, AtomTree, CompTree, StepTree, TermTrees, triple_of, t_fun, t_fun_mono, t_do, t_fix, t_rel, no_params, more_params, r_sum, r_less, s_sum, s_end, s_more, x_prod, x_end, x_more, l_unary, l_apply, no_parts, atom_part, mono_part, a_name, a_number, a_true, a_false, a_null, a_place, a_eq, a_sel, a_unit, a_brackets, a_pair, a_annotated, c_ret, c_step, s_alloc, s_get, s_set, s_free, s_if, s_claim, s_run, no_terms, more_terms}
+use Rattle.raw_trees.specs.Trees.{ProdSign, SumSign, ampersand, bar, caret, minus, plus, shift_left, shift_right, times, TripleTree, TermTree, ParamTrees, RelTree, SumTree, SumRestTree, ProdTree, ProdRestTree, ApplTree, PartTrees, AtomTree, CompTree, StepTree, TermTrees, triple_of, t_fun, t_fun_mono, t_do, t_fix, t_rel, no_params, more_params, r_sum, r_less, s_sum, s_end, s_more, x_prod, x_end, x_more, l_unary, l_apply, no_parts, atom_part, mono_part, a_name, a_number, a_true, a_false, a_null, a_place, a_eq, a_sel, a_unit, a_brackets, a_pair, a_annotated, c_ret, c_step, s_alloc, s_get, s_set, s_free, s_if, s_claim, s_run, no_terms, more_terms}
 use Rattle.htt_grammar.specs.Marks.{Mark, Limits, ◌⨟◌, sign, numbered}
 use Rattle.htt_grammar.specs.Grammar
 use Rattle.htt_grammar.specs.Readers.{Reader, measured, give, ◌>>=◌, either, that, same_kind, token}
@@ -25,28 +21,28 @@ use Rattle.htt_grammar.proofs.Monotypes.{Knows, binder_gets, name_gets, number_g
 -- ---- operators
 
 sum_sign_back : (s : SumSign) → sum_sign_of (Sign (Grammar.sum_sign s)) ≡ Some s
-sum_sign_back sum_signs.Plus = refl
-sum_sign_back sum_signs.Minus = refl
-sum_sign_back sum_signs.Bar = refl
-sum_sign_back sum_signs.Caret = refl
+sum_sign_back plus = refl
+sum_sign_back minus = refl
+sum_sign_back bar = refl
+sum_sign_back caret = refl
 
 prod_sign_back : (s : ProdSign) → prod_sign_of (Sign (Grammar.prod_sign s)) ≡ Some s
-prod_sign_back prod_signs.Times = refl
-prod_sign_back prod_signs.And = refl
-prod_sign_back prod_signs.ShiftLeft = refl
-prod_sign_back prod_signs.ShiftRight = refl
+prod_sign_back times = refl
+prod_sign_back ampersand = refl
+prod_sign_back shift_left = refl
+prod_sign_back shift_right = refl
 
 sum_sign_ends : (s : SumSign) → goes_on_prod (Sign (Grammar.sum_sign s)) ≡ false
-sum_sign_ends sum_signs.Plus = refl
-sum_sign_ends sum_signs.Minus = refl
-sum_sign_ends sum_signs.Bar = refl
-sum_sign_ends sum_signs.Caret = refl
+sum_sign_ends plus = refl
+sum_sign_ends minus = refl
+sum_sign_ends bar = refl
+sum_sign_ends caret = refl
 
 prod_sign_ends : (s : ProdSign) → goes_on_appl (Sign (Grammar.prod_sign s)) ≡ false
-prod_sign_ends prod_signs.Times = refl
-prod_sign_ends prod_signs.And = refl
-prod_sign_ends prod_signs.ShiftLeft = refl
-prod_sign_ends prod_signs.ShiftRight = refl
+prod_sign_ends times = refl
+prod_sign_ends ampersand = refl
+prod_sign_ends shift_left = refl
+prod_sign_ends shift_right = refl
 
 no_sum_sign : (next : SumSign → Reader SumRestTree) (o : _) → is_some o ≡ false → on_sum_sign next o ≡ None
 no_sum_sign next None h = refl

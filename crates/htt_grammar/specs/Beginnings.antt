@@ -1,13 +1,10 @@
 -- With which tokens phrases begin, and which tokens go on with one that could also end.
+use Rattle.raw_trees.specs.Trees.{ProdSign, SumSign, ampersand, bar, caret, minus, plus, shift_left, shift_right, times}
 use Rattle.std.specs.Prelude.{Bool, true, false, ◌||◌, Option, Some, None}
 use Rattle.htt_tokens.specs.declared.tokens.Kind.{Kind}
 use Rattle.htt_tokens.specs.declared.tokens.Kind.TheVariants.{Name, Number, Keyword, Sign}
 use Rattle.htt_tokens.specs.declared.tokens.Keyword.TheVariants.{TypeWord, PredWord, DefWord, ValWord, ProofWord, WordWord, BoolWord, LocWord, UnitWord, FunWord, DoWord, FixWord, RetWord, TrueWord, FalseWord, NullWord, PlaceWord, FstWord, SndWord, NotWord, EqWord, SelWord, EmpWord, TtWord, FfWord, AllWord, ExWord, CapitalEmpWord, CellWord, BlockWord, JoinWord, SameWord, IntroWord, GenWord, HaveWord, OpenWord, BothWord, LeftWord, RightWord, GiveWord, TrivialWord, ReflWord, AbsurdWord, CaseWord, RewriteWord, InductWord, SplitWord, FirstWord, SecondWord, AppWord, InstWord, AxiomWord, LemWord, TheWord}
 use Rattle.htt_tokens.specs.declared.tokens.Sign.TheVariants.{OpenParenSign, OpenBracketSign, OpenBraceSign, CommaSign, ImpliesSign, UnderscoreSign, PlusSign, MinusSign, StarSign, AmpersandSign, BarSign, CaretSign, ShiftLeftSign, ShiftRightSign, LessSign, DoubleStarSign, AndSign, OrSign, AtSign, BangSign}
-use Rattle.raw_trees.specs.declared.tree.SumSign.{SumSign}
-use Rattle.raw_trees.specs.declared.tree.SumSign.TheVariants as sum_signs
-use Rattle.raw_trees.specs.declared.tree.ProdSign.{ProdSign}
-use Rattle.raw_trees.specs.declared.tree.ProdSign.TheVariants as prod_signs
 use Rattle.htt_grammar.specs.Readers.{same_kind}
 
 -- ---- beginnings
@@ -133,17 +130,17 @@ begins_decl _ = false
 -- ---- the operator that a token is, if it is one
 
 abbrev pub sum_sign_of : Kind → Option SumSign
-sum_sign_of (Sign PlusSign) = Some sum_signs.Plus
-sum_sign_of (Sign MinusSign) = Some sum_signs.Minus
-sum_sign_of (Sign BarSign) = Some sum_signs.Bar
-sum_sign_of (Sign CaretSign) = Some sum_signs.Caret
+sum_sign_of (Sign PlusSign) = Some plus
+sum_sign_of (Sign MinusSign) = Some minus
+sum_sign_of (Sign BarSign) = Some bar
+sum_sign_of (Sign CaretSign) = Some caret
 sum_sign_of _ = None
 
 abbrev pub prod_sign_of : Kind → Option ProdSign
-prod_sign_of (Sign StarSign) = Some prod_signs.Times
-prod_sign_of (Sign AmpersandSign) = Some prod_signs.And
-prod_sign_of (Sign ShiftLeftSign) = Some prod_signs.ShiftLeft
-prod_sign_of (Sign ShiftRightSign) = Some prod_signs.ShiftRight
+prod_sign_of (Sign StarSign) = Some times
+prod_sign_of (Sign AmpersandSign) = Some ampersand
+prod_sign_of (Sign ShiftLeftSign) = Some shift_left
+prod_sign_of (Sign ShiftRightSign) = Some shift_right
 prod_sign_of _ = None
 
 abbrev pub is_some : {A : Type 0} → Option A → Bool

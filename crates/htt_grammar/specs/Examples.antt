@@ -8,9 +8,7 @@ use Rattle.htt_tokens.specs.declared.tokens.Keyword.TheVariants.{DefWord, WordWo
 use Rattle.htt_tokens.specs.declared.tokens.Sign.TheVariants.{OpenParenSign, CloseParenSign, OpenBracketSign, CloseBracketSign, SemicolonSign, ColonSign, EqualSign, PlusSign, StarSign, BangSign}
 use Rattle.raw_trees.specs.declared.place.Span.{Span}
 use Rattle.raw_trees.specs.declared.mono.MonoName.TheVariants as mono_names
-use Rattle.raw_trees.specs.declared.tree.SumSign.TheVariants as sum_signs
-use Rattle.raw_trees.specs.declared.tree.ProdSign.TheVariants as prod_signs
-use Rattle.raw_trees.specs.Trees.{MonoTree, m_name, m_brackets, m_factor, m_pair, TermTree, t_rel, r_sum, s_sum, s_end, s_more, x_prod, x_end, x_more, l_apply, no_parts, atom_part, mono_part, AtomTree, a_name, a_number, a_brackets, FormulaTree, f_disj, f_implies, d_conj, j_star, j_and, k_fatom, g_tt, g_use_at, no_terms, ProofTree, p_end, e_name, e_app, no_proofs, more_proofs, DeclTree, decl_def, y_mono}
+use Rattle.raw_trees.specs.Trees.{plus, times, MonoTree, m_name, m_brackets, m_factor, m_pair, TermTree, t_rel, r_sum, s_sum, s_end, s_more, x_prod, x_end, x_more, l_apply, no_parts, atom_part, mono_part, AtomTree, a_name, a_number, a_brackets, FormulaTree, f_disj, f_implies, d_conj, j_star, j_and, k_fatom, g_tt, g_use_at, no_terms, ProofTree, p_end, e_name, e_app, no_proofs, more_proofs, DeclTree, decl_def, y_mono}
 use Rattle.htt_grammar.specs.Marks.{Mark}
 use Rattle.htt_grammar.specs.Grammar.{mono, term, formula, proof, file}
 use Rattle.htt_grammar.specs.Derivations.{IsFile}
@@ -47,7 +45,7 @@ abbrev pub chains : TermTree
 chains =
     t_rel (r_sum (s_sum
     (x_prod (l_apply (a_name (at_byte 0)) (atom_part (a_name (at_byte 2)) (mono_part (m_factor (m_name (mono_names.Word 5))) no_parts))) x_end)
-    (s_more sum_signs.Plus (x_prod (l_apply (a_number 13 1) no_parts) (x_more prod_signs.Times (l_apply (a_number 17 2) no_parts) x_end)) s_end)))
+    (s_more plus (x_prod (l_apply (a_number 13 1) no_parts) (x_more times (l_apply (a_number 17 2) no_parts) x_end)) s_end)))
 
 abbrev pub of_tt : ℕ → FormulaTree
 of_tt at = f_disj (d_conj (j_star (k_fatom (g_tt at))))

@@ -11,12 +11,10 @@ use Rattle.raw_trees.specs.declared.place.Binder.{Binder}
 use Rattle.raw_trees.specs.declared.place.Binder.TheVariants as binders
 use Rattle.raw_trees.specs.declared.mono.MonoName.{MonoName}
 use Rattle.raw_trees.specs.declared.mono.MonoName.TheVariants as mono_names
-use Rattle.raw_trees.specs.declared.tree.SumSign.{SumSign}
-use Rattle.raw_trees.specs.declared.tree.ProdSign.{ProdSign}
 use Rattle.raw_trees.specs.declared.tree.UnaryWord.TheVariants as unary_words
 use Rattle.raw_trees.specs.declared.tree.RawHeap.{RawHeap}
 use Rattle.raw_trees.specs.declared.tree.RawHeap.TheVariants as heaps
-use Rattle.raw_trees.specs.Trees.{FactorTree, MonoTree, m_name, m_brackets, m_factor, m_pair, TyTree, TripleTree, TermTree, ParamTrees, RelTree, SumTree, SumRestTree, ProdTree, ProdRestTree, ApplTree, PartTrees, AtomTree, CompTree, StepTree, FormulaTree, SortTree, DisjTree, ConjTree, StarTree, FatomTree, TermTrees, ProofTree, y_fun, y_all, y_hoare, y_mono, triple_of, t_fun, t_fun_mono, t_do, t_fix, t_rel, no_params, more_params, r_sum, r_less, s_sum, s_end, s_more, x_prod, x_end, x_more, l_unary, l_apply, no_parts, atom_part, mono_part, a_name, a_number, a_true, a_false, a_null, a_place, a_eq, a_sel, a_unit, a_brackets, a_pair, a_annotated, c_ret, c_step, s_alloc, s_get, s_set, s_free, s_if, s_claim, s_run, f_all, f_ex, f_disj, f_implies, over_mono, over_heap, d_conj, d_or, j_star, j_and, k_fatom, k_times, g_tt, g_ff, g_emp, g_brackets, g_at_heap, g_emp_of, g_same, g_join, g_cell, g_block, g_use, g_use_at, g_use_at_heap, g_eq, g_points, g_points_any, no_terms, more_terms}
+use Rattle.raw_trees.specs.Trees.{with_right, ProdSign, SumSign, MonoTree, m_name, m_brackets, TyTree, TripleTree, TermTree, ParamTrees, RelTree, SumTree, SumRestTree, ProdTree, ProdRestTree, ApplTree, PartTrees, AtomTree, CompTree, StepTree, FormulaTree, SortTree, DisjTree, ConjTree, StarTree, FatomTree, TermTrees, ProofTree, y_fun, y_all, y_hoare, y_mono, triple_of, t_fun, t_fun_mono, t_do, t_fix, t_rel, no_params, more_params, r_sum, r_less, s_sum, s_end, s_more, x_prod, x_end, x_more, l_unary, l_apply, no_parts, atom_part, mono_part, a_name, a_number, a_true, a_false, a_null, a_place, a_eq, a_sel, a_unit, a_brackets, a_pair, a_annotated, c_ret, c_step, s_alloc, s_get, s_set, s_free, s_if, s_claim, s_run, f_all, f_ex, f_disj, f_implies, over_mono, over_heap, d_conj, d_or, j_star, j_and, k_fatom, k_times, g_tt, g_ff, g_emp, g_brackets, g_at_heap, g_emp_of, g_same, g_join, g_cell, g_block, g_use, g_use_at, g_use_at_heap, g_eq, g_points, g_points_any, no_terms, more_terms}
 use Rattle.htt_grammar.specs.Readers.{Reader, too_long, give, ◌>>=◌, refuse, stop, either, first_is, if_first, measured, same_kind, that, token, after_commas}
 use Rattle.htt_grammar.specs.Beginnings.{begins_binder, begins_mono, begins_atom, begins_appl, sum_sign_of, prod_sign_of}
 
@@ -71,14 +69,14 @@ a_heap = either heap_case stop
 
 -- ---- monotypes
 
--- what stands at the right of an operand
-unfoldable pub mono_right : Deeper → FactorTree → Reader MonoTree
-mono_right d f = either (that (Sign StarSign) (d.mono >>= (λ m. give (m_pair f m)))) (give (m_factor f))
+-- what stands at the right of a factor
+unfoldable pub mono_right : Deeper → Reader (Option MonoTree)
+mono_right d = either (that (Sign StarSign) (d.mono >>= (λ m. give (Some m)))) (give None)
 
 -- the brackets that are open, from the innermost, are closed one after the other
 unfoldable pub mono_closes : Deeper → List ℕ → MonoTree → Reader MonoTree
 mono_closes d [] m = give m
-mono_closes d (at ∷ opens) m = token (Sign CloseParenSign) >>= (λ _. mono_right d (m_brackets at m) >>= mono_closes d opens)
+mono_closes d (at ∷ opens) m = token (Sign CloseParenSign) >>= (λ _. mono_right d >>= (λ r. mono_closes d opens (with_right (m_brackets at m) r)))
 
 abbrev pub mono_name_case : Kind → Option (Span → Reader MonoName)
 mono_name_case Name = Some (λ s. give (mono_names.Name s))
@@ -89,7 +87,7 @@ mono_name_case (Keyword UnitWord) = Some (λ s. give (mono_names.Unit s.from))
 mono_name_case _ = None
 
 unfoldable pub mono_inside : Deeper → List ℕ → Reader MonoTree
-mono_inside d opens = either mono_name_case stop >>= (λ n. mono_right d (m_name n) >>= mono_closes d opens)
+mono_inside d opens = either mono_name_case stop >>= (λ n. mono_right d >>= (λ r. mono_closes d opens (with_right (m_name n) r)))
 
 -- opens brackets, at most as many as there are tokens
 abbrev pub mono_case : (List ℕ → Reader MonoTree) → List ℕ → Kind → Option (Span → Reader MonoTree)

@@ -12,7 +12,7 @@ use Rattle.formed_trees.specs.Laws.{bare, bare_context, bare_heads}
 use Rattle.formed_trees.proofs.Bare.{formed_is_canonical, mono_bare}
 use Rattle.typing_canonical.specs.Environments.{standings, heads_of, IsCanonicalEnvironment, IsCanonicalContext, no_entry, mono_entry, heap_entry, term_entry}
 use Rattle.typing_canonical.proofs.Typed.{fitted}
-use Rattle.htt_items.specs.Environments.{IsFormedContext, formed_none, formed_mono, formed_heap, formed_term, before_def, IsFormedEnvironment}
+use Rattle.formed_trees.specs.Environments.{IsFormedContext, formed_none, formed_mono, formed_heap, formed_term, before_def, IsFormedEnvironment}
 use Rattle.htt_items.specs.Laws.{FormedIsCanonical}
 
 bare_types : (types : List TyTree) → map bare (map shape types) ≡ map skeleton types
@@ -49,7 +49,7 @@ below_taken (first ∷ xs) zero k x e = absurd (none_is_some e)
 below_taken (first ∷ xs) (suc n) zero x e = (omega arith, e)
 below_taken (first ∷ xs) (suc n) (suc k) x e = let r = below_taken xs n k x e in (omega (arith, r.0), r.1)
 
-module _ (env : Environment) (g : Context) (formed : IsFormedEnvironment env g) where
+module _ (env : Environment) (formed : IsFormedEnvironment env) where
   params_canonical : (number : ℕ) (r : RecTree) → slice_get env.recs number ≡ Some r → All (IsCanonicalMono []) r.params
   params_canonical number r e k t l = mono_bare ((formed.recs_formed number r e).params k t l)
 
@@ -79,6 +79,6 @@ module _ (env : Environment) (g : Context) (formed : IsFormedEnvironment env g) 
 
 pub formed_canonical : FormedIsCanonical
 formed_canonical = record {
-  environment = λ env g formed. environment_canonical env g formed;
-  context = λ env g formed. context_canonical env formed.entries;
+  environment = environment_canonical;
+  context = λ env g formed. context_canonical env formed;
 }

@@ -15,7 +15,7 @@ use Rattle.htt_typing.proofs.Once.{formula_formed_once}
 use Rattle.htt_typing.proofs.Worked as typed
 use Rattle.formed_trees.specs.Shapes.{shape, rename_shape, heap_at_zero, shape_at_zero, shape_further}
 use Rattle.formed_trees.specs.Formed.{file_shapes, IsFormedMono, z_m_word, z_word, z_bin, z_neutral, w_var, z_no_terms, z_more_terms, IsFormedTy, z_mono, z_hoare, z_triple, z_tt, z_equal, z_rec}
-use Rattle.htt_items.specs.Environments.{formed_none, formed_term, next_context, before_def, IsDefined, IsFormedRec, IsFormedEnvironment}
+use Rattle.formed_trees.specs.Environments.{formed_none, formed_term, next_context, before_def, IsDefined, IsFormedRec, IsFormedEnvironment, IsFormedIn}
 use Rattle.htt_items.specs.Items.{i_pred, i_val, i_rec, with_rec, params_none, params_more, OwnAtIndex, Derives, derives_pred, derives_def, derives_val, derives_rec}
 use Rattle.htt_items.specs.Examples.{gives_five, doubles, not_less, small, WorkedExamples}
 use Rattle.htt_items.proofs.Environments.{none_is_some}
@@ -64,17 +64,18 @@ unfolding AtomsMeet
 doubles_is_founded zero r e = subst (IsFounded zero) (same_Some doubles r e) (record { zero_founded = tt; next_founded = inr (refl, refl) })
 doubles_is_founded (suc p) r e = absurd (none_is_some e)
 
-small_is_formed : IsFormedEnvironment small (en_term (y_mono m_word) ∷ [])
-small_is_formed = record {
+small_environment : IsFormedEnvironment small
+small_environment = record {
   val_types = λ number ty e. subst (IsFormedTy (file_shapes small) []) (only_one number e) five_is_formed;
   def_types = λ number definition e. subst (λ (d : TyTree × TermTree). IsFormedTy (file_shapes small) [] (d.0)) (only_one number e) (z_mono z_m_word);
   vals_end = λ number ty e. subst EndsInHoare (only_one number e) tt;
-  entries = formed_term formed_none (z_mono z_m_word);
   def_terms = one_is_defined;
   recs_formed = λ number r e. subst (IsFormedRec (file_shapes small)) (only_one number e) doubles_is_formed;
   recs_founded = doubles_is_founded;
-  few = omega arith;
 }
+
+small_is_formed : IsFormedIn small (en_term (y_mono m_word) ∷ [])
+small_is_formed = record { environment = small_environment; entries = formed_term formed_none (z_mono z_m_word); few = omega arith }
 
 bad_is_not_founded : IsFounded 0 not_less → ⊥
 unfolding AtomsMeet

@@ -5,7 +5,7 @@ use Rattle.htt_syntax.specs.Trees.{TyTree, m_word, m_var, y_mono, y_fun, y_hoare
 use Rattle.htt_truth.specs.Predicates.{RecTree}
 use Rattle.htt_typing.specs.Contexts.{en_term, Environment, Obligation}
 use Rattle.htt_typing.specs.Laws.{none, sum_goal}
-use Rattle.htt_items.specs.Environments.{IsFormedEnvironment}
+use Rattle.formed_trees.specs.Environments.{IsFormedEnvironment, IsFormedIn}
 use Rattle.htt_items.specs.Items.{i_pred, i_def, i_val, i_rec, with_def, with_val, with_rec, Derives}
 
 -- {tt} x : word {x =[word] 5}
@@ -42,7 +42,7 @@ pub record WorkedExamples : Type 0 where
   pub recursive : Derives none (i_rec doubles) (with_rec none doubles) []
   pub index : (next : Environment) (o : List Obligation) → Derives none (i_rec not_less) next o → ⊥
   -- the environment of the three, with a word in the context
-  pub formed : IsFormedEnvironment small (en_term (y_mono m_word) ∷ [])
+  pub formed : IsFormedIn small (en_term (y_mono m_word) ∷ [])
   -- a value of a word, and a predicate that isn't founded
-  pub value_of_word : IsFormedEnvironment (record { vals = y_mono m_word ∷ []; defs = []; recs = [] }) [] → ⊥
-  pub not_founded : IsFormedEnvironment (record { vals = []; defs = []; recs = not_less ∷ [] }) [] → ⊥
+  pub value_of_word : IsFormedEnvironment (record { vals = y_mono m_word ∷ []; defs = []; recs = [] }) → ⊥
+  pub not_founded : IsFormedEnvironment (record { vals = []; defs = []; recs = not_less ∷ [] }) → ⊥

@@ -6,7 +6,7 @@ use Rattle.htt_truth.specs.Predicates.{RecTree}
 use Rattle.htt_truth.specs.Atoms.{AtomsMeet}
 use Rattle.htt_typing.specs.Contexts.{en_mono, en_heap, en_term, Context, Environment, FormsMono, Obligation, EndsInHoare}
 use Rattle.htt_typing.specs.Typing.{in_program, FormsTy, FormsFormula, Fits}
-use Rattle.htt_items.specs.Environments.{zero_context, next_context}
+use Rattle.formed_trees.specs.Environments.{zero_context, next_context}
 
 -- An abbreviation of a monotype; a predicate with so many monotypes, its parameters, each under the
 -- monotypes and the parameters before it, and its body under all and the heap; a definition; a value; a

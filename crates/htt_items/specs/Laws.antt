@@ -3,13 +3,14 @@ use Rattle.std.specs.Prelude.{◌≡◌, List}
 use Rattle.htt_typing.specs.Contexts.{Context, Environment, Obligation}
 use Rattle.typing_canonical.specs.Environments.{heads_of, IsCanonicalEnvironment, IsCanonicalContext}
 use Rattle.typing_canonical.specs.Laws.{AreCanonical}
-use Rattle.htt_items.specs.Environments.{IsFormedEnvironment}
+use Rattle.formed_trees.specs.Formed.{file_shapes}
+use Rattle.formed_trees.specs.Environments.{IsFormedContext, IsFormedEnvironment}
 use Rattle.htt_items.specs.Items.{ItemTree, Derives}
 
--- a formed environment and its context are canonical, so what the typing rules give in it is canonical
+-- a formed environment and a formed context are canonical, so what the typing rules give in it is canonical
 pub record FormedIsCanonical : Type 0 where
-  pub environment : (env : Environment) (g : Context) → IsFormedEnvironment env g → IsCanonicalEnvironment env
-  pub context : (env : Environment) (g : Context) → IsFormedEnvironment env g → IsCanonicalContext (heads_of env) g
+  pub environment : (env : Environment) → IsFormedEnvironment env → IsCanonicalEnvironment env
+  pub context : (env : Environment) (g : Context) → IsFormedContext (file_shapes env) g → IsCanonicalContext (heads_of env) g
 
 -- an item gives one environment and one list of obligations
 abbrev pub ItemsGiveOne : Type 0

@@ -1,4 +1,3 @@
-pub mod Environments
 pub mod Items
 pub mod Laws
 pub mod Examples

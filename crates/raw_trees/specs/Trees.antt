@@ -1,14 +1,19 @@
 -- The trees of a text as the grammar speaks of them: a constructor for each form of a production,
 -- with its parts in the order of the text. A number is the first byte of the phrase.
-use Rattle.std.specs.Prelude.{ℕ, List}
+use Rattle.std.specs.Prelude.{ℕ, List, Option, Some, None}
 use Rattle.raw_trees.specs.declared.place.Span.{Span}
 use Rattle.raw_trees.specs.declared.place.Binder.{Binder}
 use Rattle.raw_trees.specs.declared.mono.MonoName.{MonoName}
-use Rattle.raw_trees.specs.declared.tree.SumSign.{SumSign}
-use Rattle.raw_trees.specs.declared.tree.ProdSign.{ProdSign}
 use Rattle.raw_trees.specs.declared.tree.UnaryWord.{UnaryWord}
 use Rattle.raw_trees.specs.declared.tree.RawHeap.{RawHeap}
 use Rattle.raw_trees.specs.declared.proof.UnaryRule.{UnaryRule}
+
+-- the sign before an operand of a sum, and of a product
+pub data SumSign : Type 0 where
+  plus minus bar caret : SumSign
+
+pub data ProdSign : Type 0 where
+  times ampersand shift_left shift_right : ProdSign
 
 mutual
   pub data FactorTree : Type 0 where
@@ -18,6 +23,11 @@ mutual
   pub data MonoTree : Type 0 where
     m_factor : FactorTree → MonoTree
     m_pair : FactorTree → MonoTree → MonoTree
+
+-- a factor with what stands at the right of it
+abbrev pub with_right : FactorTree → Option MonoTree → MonoTree
+with_right f None = m_factor f
+with_right f (Some m) = m_pair f m
 
 mutual
   pub data TyTree : Type 0 where

@@ -15,7 +15,7 @@ pub use mono::{MonoName, RawBracket, RawMono, RawRight};
 pub use place::{Binder, Span};
 pub use proof::{RawArg, RawEnd, RawMotive, RawProof, RawStmt, UnaryRule};
 pub use tree::{
-    ProdOperand, ProdSign, RawAppl, RawAtom, RawBind, RawComp, RawConj, RawDisj, RawFatom, RawFix,
-    RawFormula, RawHeap, RawParam, RawPart, RawProd, RawRel, RawSort, RawStar, RawStep, RawSum,
-    RawTerm, RawTriple, RawTy, SumOperand, SumSign, UnaryWord,
+    ProdOperand, RawAppl, RawAtom, RawComp, RawConj, RawDisj, RawFatom, RawFix, RawFormula,
+    RawHeap, RawParam, RawPart, RawProd, RawRel, RawSort, RawStar, RawStep, RawSum, RawTerm,
+    RawTriple, RawTy, SumOperand, UnaryWord,
 };

@@ -28,12 +28,13 @@ pub struct RawMono {
     pub brackets: Seq<RawBracket>,
 }
 
-/// A pair of brackets, with the byte of the first one, and what stands at the right of it.
+/// A pair of brackets, with the byte of the first one, and what stands at the right of it: nothing,
+/// or `*` and a monotype.
 #[cycle(raw_mono)]
 #[derive(Drop)]
-pub struct RawBracket {
-    pub at: u64,
-    pub right: RawRight,
+pub enum RawBracket {
+    Alone { at: u64 },
+    Times { at: u64, mono: Boxed<RawMono> },
 }
 
 /// What stands at the right of an operand: nothing, or `*` and a monotype.

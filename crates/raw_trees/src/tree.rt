@@ -79,12 +79,12 @@ pub struct RawFix {
     pub body: RawComp,
 }
 
-/// `( b : type )`
+/// `( id : type )` or `( _ : type )`
 #[cycle(raw)]
 #[derive(Drop)]
-pub struct RawParam {
-    pub name: Binder,
-    pub ty: RawTy,
+pub enum RawParam {
+    Named { name: Span, ty: RawTy },
+    Blank { ty: RawTy },
 }
 
 /// `sum [ < sum ]`
@@ -106,18 +106,15 @@ pub struct RawSum {
 /// A further operand of a sum with the sign before it.
 #[cycle(raw)]
 #[derive(Drop)]
-pub struct SumOperand {
-    pub sign: SumSign,
-    pub operand: RawProd,
-}
-
-/// The sign before an operand of a sum.
-#[derive(Clone, Copy, Debug, PartialEq, Eq)]
-pub enum SumSign {
-    Plus,
-    Minus,
-    Bar,
-    Caret,
+pub enum SumOperand {
+    /// `+ prod`
+    Plus(RawProd),
+    /// `- prod`
+    Minus(RawProd),
+    /// `| prod`
+    Bar(RawProd),
+    /// `^ prod`
+    Caret(RawProd),
 }
 
 /// A chain of `*`, `&`, `<<` and `>>`, which group to the left.
@@ -131,18 +128,15 @@ pub struct RawProd {
 /// A further operand of a product with the sign before it.
 #[cycle(raw)]
 #[derive(Drop)]
-pub struct ProdOperand {
-    pub sign: ProdSign,
-    pub operand: RawAppl,
-}
-
-/// The sign before an operand of a product.
-#[derive(Clone, Copy, Debug, PartialEq, Eq)]
-pub enum ProdSign {
-    Times,
-    And,
-    ShiftLeft,
-    ShiftRight,
+pub enum ProdOperand {
+    /// `* appl`
+    Times(RawAppl),
+    /// `& appl`
+    And(RawAppl),
+    /// `<< appl`
+    ShiftLeft(RawAppl),
+    /// `>> appl`
+    ShiftRight(RawAppl),
 }
 
 /// An application: a word before an atom, or an atom with what it is applied to.
@@ -242,41 +236,42 @@ pub enum RawAtom {
 #[cycle(raw)]
 #[derive(Drop)]
 pub struct RawComp {
-    pub steps: Seq<RawBind>,
+    pub steps: Seq<RawStep>,
     pub result: RawTerm,
 }
 
-/// `b <- step ;`
-#[cycle(raw)]
-#[derive(Drop)]
-pub struct RawBind {
-    pub name: Binder,
-    pub step: RawStep,
-}
-
-/// A step of a computation.
+/// `b <- step ;`, where `name` is what the step binds.
 #[cycle(raw)]
 #[derive(Drop)]
 pub enum RawStep {
+    /// `alloc [ mono ] atom`
     Alloc {
+        name: Binder,
         mono: RawMono,
         value: RawAtom,
     },
+    /// `get [ mono ] atom`
     Get {
+        name: Binder,
         mono: RawMono,
         place: RawAtom,
     },
+    /// `set [ mono ] atom atom`
     Set {
+        name: Binder,
         mono: RawMono,
         place: RawAtom,
         value: RawAtom,
     },
+    /// `free [ mono ] atom`
     Free {
+        name: Binder,
         mono: RawMono,
         place: RawAtom,
     },
     /// `if [ mono ] atom { comp } { comp }`
     If {
+        name: Binder,
         mono: RawMono,
         test: RawAtom,
         yes: RawComp,
@@ -284,9 +279,13 @@ pub enum RawStep {
     },
     /// `claim { formula }`
     Claim {
+        name: Binder,
         formula: RawFormula,
     },
-    Run(RawAppl),
+    Run {
+        name: Binder,
+        routine: RawAppl,
+    },
 }
 
 /// A formula.

@@ -34,7 +34,7 @@ closes_args (argument ∷ others) x s g h c =
     let e : suc x + length others ≡ x + suc (length others) = omega arith in
     subst (λ n. ClosesSort n s (under_args others (t ∷ g)) (under_args others (t ∷ h))) e (closes_args others (suc x) s (t ∷ g) (t ∷ h) (closes_next t c))
 
-closes_first : (s : Sort) (g : Sorts) → ClosesSort zero s (s ∷ g) g
+pub closes_first : (s : Sort) (g : Sorts) → ClosesSort zero s (s ∷ g) g
 unfolding closing
 closes_first s g = record { here = refl; others = go }
   where

@@ -12,7 +12,7 @@ use Rattle.sorted_trees.specs.Sorts.{Sort, Sorts, for_mono, for_value, for_heap,
 use Rattle.substitution_truth.specs.Reindexing.{AgreesOn}
 use Rattle.substitution_truth.specs.Laws.{EntriesDecide}
 
-agrees_next : {g : Sorts} {w v : World} (s : Sort) (x : Thing) → AgreesOn g w v → AgreesOn (s ∷ g) (x ∷ w) (x ∷ v)
+pub agrees_next : {g : Sorts} {w v : World} (s : Sort) (x : Thing) → AgreesOn g w v → AgreesOn (s ∷ g) (x ∷ w) (x ∷ v)
 agrees_next {g = g} {w = w} {v = v} s x a = record { at = go }
   where
     go : (n : ℕ) (t : Sort) → HasSort (s ∷ g) n t → thing_at (x ∷ w) n ≡ thing_at (x ∷ v) n

@@ -4,6 +4,7 @@ pub mod ShapesOf
 pub mod Expanded
 pub mod Wider
 pub mod TypedForms
+pub mod FormedTrees
 pub mod Environments
 pub mod Values
 pub mod Sorted

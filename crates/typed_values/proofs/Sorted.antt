@@ -11,7 +11,7 @@ use Rattle.sorted_trees.specs.Sorts.{Sort, Sorts, for_mono, for_value, for_heap,
 use Rattle.shape_typing.specs.Shapes.{Shape, sh_mono, shape_of}
 use Rattle.shape_typing.specs.Typed.{ShapeEntry, in_mono, in_heap, in_term, Shapes, HasShape, shape_here, shape_there, Typed, TypedHead, typed_word, typed_bool, typed_loc, typed_unit, typed_pair, typed_fst, typed_snd, typed_not, typed_bin, typed_eq, typed_sel, typed_lam, typed_lam_t, typed_do, typed_head, head_var, head_val, head_fix, head_app, head_inst}
 use Rattle.typed_values.specs.FirstOrder.{IsFirstOrder, fo_none, fo_mono, fo_heap, fo_value, sort_of_entry, sorts_of}
-use Rattle.typed_values.specs.Environments.{IsFormedEnvironment}
+use Rattle.formed_trees.specs.Environments.{IsFormedEnvironment}
 use Rattle.typed_values.specs.Laws.{TypedValues, FormedIsSorted}
 use Rattle.typed_values.proofs.Formed.{SortedTy, SortedContext, mono_formed}
 use Rattle.typed_values.proofs.ShapesOf.{shape_of_entry, shapes_of}
@@ -137,7 +137,7 @@ formula_sorted (forms_block m h p) s c = (mono_formed m, heap_sort h, term_sorte
 formula_sorted (forms_join h k l) s c = (heap_sort h, heap_sort k, heap_sort l)
 formula_sorted (forms_same h k) s c = (heap_sort h, heap_sort k)
 formula_sorted (forms_eq m p q) s c = (mono_formed m, term_sorted s c p, term_sorted s c q)
-formula_sorted (forms_rec l h p ps) s c = (heap_sort h, term_sorted s c p, terms_sorted ps s c)
+formula_sorted (forms_rec l h p many ps) s c = (heap_sort h, term_sorted s c p, terms_sorted ps s c)
 formula_sorted (forms_formula_at p) s c = formula_sorted p s c
 
 fitting_value : {env : Environment} {g : Context} {c : List FirstOrder} {w : World} {m : Mode} {M N : TermTree} (t : MonoTree) {o : List Obligation} → IsFormedEnvironment env → IsFirstOrder g c → IsWorld c w → Fits env m g M (y_mono t) N o → HasType (term_value w N) (mono_under w t)

@@ -8,7 +8,7 @@ use Rattle.htt_typing.specs.Contexts.{Context, Environment, IsMono, IsHeap, HasE
 use Rattle.htt_typing.specs.Typing.{Mode, FormsFormula, Gives, Fits}
 use Rattle.sorted_trees.specs.Sorts.{SortedTerm, SortedFormula}
 use Rattle.typed_values.specs.FirstOrder.{IsFirstOrder, sorts_of}
-use Rattle.typed_values.specs.Environments.{IsFormedEnvironment}
+use Rattle.formed_trees.specs.Environments.{IsFormedEnvironment}
 
 pub record FirstOrderContexts : Type 0 where
   pub one : (g : Context) (c d : List FirstOrder) → IsFirstOrder g c → IsFirstOrder g d → c ≡ d

@@ -1,3 +1,2 @@
 pub mod FirstOrder
-pub mod Environments
 pub mod Laws

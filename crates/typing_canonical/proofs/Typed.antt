@@ -131,11 +131,11 @@ module _ (env : Environment) (known : IsCanonicalEnvironment env) where
     fitted {g = g} c k (fits_given {ty' = ty'} {term' = term'} {ty = ty} i a e) = let x = given c a in record { term = subst (λ (q : Skeleton). IsCanonical (heads_of env) (standings g) term' q) (same_skeleton ty' ty e) x.term; all = x.all }
     fitted c k (fits_at a) = fitted c k a
 
-    header : {g : Context} {t : FixTree} {r : TyTree} → IsCanonicalContext (heads_of env) g → FormsHeader env g t r → IsCanonicalTy (heads_of env) (standings g) r
+    pub header : {g : Context} {t : FixTree} {r : TyTree} → IsCanonicalContext (heads_of env) g → FormsHeader env g t r → IsCanonicalTy (heads_of env) (standings g) r
     header c (header_param a b) = let x = formed_ty c a in n_fun x refl (header (term_entry c x) b)
     header c (header_body a) = n_hoare (formed_triple c a)
 
-    fixed : {g : Context} {w a : TyTree} {t r : FixTree} {o : List Obligation} → IsCanonicalContext (heads_of env) g → IsCanonicalTy (heads_of env) (standings g) w → IsCanonicalTy (heads_of env) (standings g) a → FitsFix env g w t a r o → IsCanonicalFix (heads_of env) (standings g) (skeleton w) r (skeleton a) × AreCanonical (heads_of env) o
+    pub fixed : {g : Context} {w a : TyTree} {t r : FixTree} {o : List Obligation} → IsCanonicalContext (heads_of env) g → IsCanonicalTy (heads_of env) (standings g) w → IsCanonicalTy (heads_of env) (standings g) a → FitsFix env g w t a r o → IsCanonicalFix (heads_of env) (standings g) (skeleton w) r (skeleton a) × AreCanonical (heads_of env) o
     fixed {g = g} c w k (fix_param {argument' = argument'} {whole = whole} {answer = answer} {rest' = rest'} a) =
         let inner = as_term (skeleton argument') in
         let x = fixed (term_entry c (argument_part k)) (ty_renamed w (keeps_suc inner (standings g))) (answer_part k) a in
@@ -149,7 +149,7 @@ module _ (env : Environment) (known : IsCanonicalEnvironment env) where
         let x = ran c m (start_kept (standings g) p) a in
         (x.whole, owed_joined o _ x.all (one_owed _ (last_kept _ (finish_kept (standings g) zs x.state x.row m x.value) q)))
 
-    ran : {g : Context} {m : MonoTree} {s x : FormulaTree} {t r : CompTree} {zs : List MonoTree} {v : TermTree} {o : List Obligation} → IsCanonicalContext (heads_of env) g → IsCanonicalMono (standings g) m → IsCanonicalFormula (heads_of env) (at_state (standings g)) s → Runs env g m s t x zs v r o → AtEnd (heads_of env) (standings g) x zs v r o
+    pub ran : {g : Context} {m : MonoTree} {s x : FormulaTree} {t r : CompTree} {zs : List MonoTree} {v : TermTree} {o : List Obligation} → IsCanonicalContext (heads_of env) g → IsCanonicalMono (standings g) m → IsCanonicalFormula (heads_of env) (at_state (standings g)) s → Runs env g m s t x zs v r o → AtEnd (heads_of env) (standings g) x zs v r o
     ran c m s (runs_ret a) = let x = fitted c (n_mono m) a in record { state = s; row = tt; value = x.term; whole = n_ret x.term; all = x.all }
     ran {g = g} c m s (runs_step {o = o} {end = end} {zs = zs} {last_value = last_value} {p = p} a b j) =
         let x = moved c s a in
@@ -163,7 +163,7 @@ module _ (env : Environment) (known : IsCanonicalEnvironment env) where
           all = owed_joined o p x.all y.all;
         }
 
-    moved : {g : Context} {s : FormulaTree} {t : StepTree} {m : MonoTree} {x : FormulaTree} {r : Part} {o : List Obligation} → IsCanonicalContext (heads_of env) g → IsCanonicalFormula (heads_of env) (at_state (standings g)) s → Moves env g s t m x r o → AfterStep (heads_of env) (standings g) m x r o
+    pub moved : {g : Context} {s : FormulaTree} {t : StepTree} {m : MonoTree} {x : FormulaTree} {r : Part} {o : List Obligation} → IsCanonicalContext (heads_of env) g → IsCanonicalFormula (heads_of env) (at_state (standings g)) s → Moves env g s t m x r o → AfterStep (heads_of env) (standings g) m x r o
     moved {g = g} c s (moves_alloc {mono = mono} {value' = value'} {o = o} m a) =
         let x = fitted c (n_mono (mono_canonical m)) a in
         let step = move_alloc mono value' in

@@ -1,9 +1,13 @@
 -- The laws of words, over the value that an operation gives for two words.
-use Rattle.std.specs.Prelude.{◌≡◌, ℕ, true, false, ◌⊎◌}
+use Rattle.std.specs.Prelude.{◌≡◌, ℕ, List, ◌∷◌, true, false, ◌⊎◌}
 use Rattle.htt_syntax.specs.declared.mono.Op.{Op}
 use Rattle.htt_syntax.specs.declared.mono.Op.TheVariants.{Add, Sub, Mul, And, Or, Xor, Shl, Shr, Lt}
 use Rattle.htt_values.specs.Values.{v_word, v_bool, IsWord, op_value}
+use Rattle.htt_syntax.specs.Trees.{FormulaTree}
+use Rattle.htt_truth.specs.Worlds.{World, th_value}
 use Rattle.htt_truth.specs.TermValue.{word_of}
+use Rattle.htt_truth.specs.Truth.{Holds}
+use Rattle.htt_truth.specs.Predicates.{RecTree, recs_of}
 
 -- The word that an operation gives.
 abbrev pub word_op : Op → ℕ → ℕ → ℕ
@@ -45,3 +49,8 @@ pub record BitsAndShifts : Type 0 where
   pub left_by_zero : (x : ℕ) → IsWord x → op_value Shl x 0 ≡ v_word x
   pub right_by_zero : (x : ℕ) → op_value Shr x 0 ≡ v_word x
   pub left_by_one : (x : ℕ) → op_value Shl x 1 ≡ op_value Add x x
+
+-- A formula that is true of 0, and of the next word of each word below the greatest of which it is true,
+-- is true of each word.
+abbrev pub InductionOnWords : Type 0
+InductionOnWords = (table : List RecTree) (w : World) (F : FormulaTree) → Holds (recs_of table) (th_value (v_word 0) ∷ w) F → ((y : ℕ) → IsBelow y 18446744073709551615 → Holds (recs_of table) (th_value (v_word y) ∷ w) F → Holds (recs_of table) (th_value (v_word (word_op Add y 1)) ∷ w) F) → (n : ℕ) → IsWord n → Holds (recs_of table) (th_value (v_word n) ∷ w) F

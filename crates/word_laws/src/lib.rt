@@ -1,9 +1,9 @@
 //! The arithmetic of 64-bit words: sums, differences and products modulo 2^64, the unsigned order, and
-//! bits and shifts, each over the value that an operation gives for two words. A function without a
-//! body states a law by its contract.
+//! bits and shifts, each over the value that an operation gives for two words, and induction on words. A
+//! function without a body states a law by its contract.
 #![tactic(auto)]
 
-ghost use Rattle.word_laws.specs.Laws.{BitsAndShifts, SumsAndProducts, UnsignedOrder};
+ghost use Rattle.word_laws.specs.Laws.{BitsAndShifts, InductionOnWords, SumsAndProducts, UnsignedOrder};
 
 /// Sums and products are those of a commutative ring, and a difference undoes a sum.
 pub fn words_add_and_multiply()
@@ -19,4 +19,9 @@ pub fn words_are_ordered()
 /// one to the left by 1.
 pub fn words_have_bits()
     ensures law { BitsAndShifts }
+{}
+
+/// What is true of 0 and goes on from each word to the next is true of each word.
+pub fn words_have_induction()
+    ensures law { InductionOnWords }
 {}

@@ -1,0 +1,113 @@
+//! Monotypes. Brackets are opened and closed by loops, so that a monotype recurses only into right
+//! operands, of which each is one level deeper.
+
+ghost use Rattle.std.specs.Prelude.{◌≡◌, ◌<◌, IfOk, drop, reverse, [], ℕ};
+ghost use Rattle.htt_grammar.specs.Phrases.{mono_right, mono_closes, mono_at};
+ghost use Rattle.htt_grammar.specs.Reading.{deeper};
+ghost use Rattle.raw_trees.specs.Trees.{MonoTree, m_brackets, with_right};
+ghost use Rattle.raw_trees.specs.Views.{right_tree, bracket_tree};
+ghost use Rattle.raw_trees.specs.Levels.{mono_tree, brackets_tree};
+ghost use Rattle.htt_parser.specs.Results.{Gives};
+ghost use Rattle.htt_parser.specs.Brackets.{opened};
+
+use crate::cursor::{Cursor, Halted};
+use htt_seq::Seq;
+use htt_tokens::{Kind, Sign};
+use raw_trees::{RawBracket, RawMono, RawRight};
+use sqlite_items::Boxed;
+use std::alloc::AllocError;
+
+/// A pair of brackets with what stands at the right of it.
+fn bracket(at: u64, right: RawRight) -> RawBracket
+    ensures { (m : MonoTree) → bracket_tree result m ≡ with_right (m_brackets at m) (right_tree right) }
+{
+    match right {
+        RawRight::Nothing => RawBracket::Alone { at },
+        RawRight::Times(mono) => RawBracket::Times { at, mono },
+    }
+}
+
+impl Cursor<'_> {
+    /// The bytes of the brackets that open at a place, and the place behind them.
+    fn opens(&self, at: usize) -> Result<(Vec<u64>, usize), AllocError>
+        ensures { IfOk result (λ read. (reverse read.0.items, drop read.1 self.now.tokens.now) ≡ opened [] (drop at self.now.tokens.now)) }
+    {
+        let mut opens = Vec::new(self.alloc);
+        let mut next = at;
+        while let Some(token) = self.token(next) {
+            if token.kind != Kind::Sign(Sign::OpenParenSign) {
+                break;
+            }
+            opens.push(token.from)?;
+            next += 1;
+        }
+        Ok((opens, next))
+    }
+
+    /// A monotype where `left` further levels may be entered.
+    #[cycle(mono)]
+    pub(crate) fn mono(&self, left: u32, at: usize) -> Result<(RawMono, usize), Halted>
+        ensures { Gives self.now.tokens.now mono_tree result (mono_at (deeper 63 left) (drop at self.now.tokens.now)) }
+    {
+        let (opens, at) = self.opens(at)?;
+        let (name, at) = self.mono_name(at)?;
+        let (right, at) = self.mono_right(left, at)?;
+        let (brackets, at) = self.closes(left, opens, at)?;
+        Ok((
+            RawMono {
+                name,
+                right,
+                brackets: Seq::of(brackets),
+            },
+            at,
+        ))
+    }
+
+    /// What stands at the right of an operand.
+    #[cycle(mono)]
+    fn mono_right(&self, left: u32, at: usize) -> Result<(RawRight, usize), Halted>
+        ensures { Gives self.now.tokens.now right_tree result (mono_right (deeper 63 left) (drop at self.now.tokens.now)) }
+    {
+        match self.token(at) {
+            Some(token) if token.kind == Kind::Sign(Sign::StarSign) => {
+                let (mono, at) = self.deeper_mono(left, at + 1)?;
+                Ok((RawRight::Times(Boxed::new(self.alloc, mono)?), at))
+            }
+            _ => Ok((RawRight::Nothing, at)),
+        }
+    }
+
+    /// A monotype one level deeper.
+    #[cycle(mono)]
+    pub(crate) fn deeper_mono(&self, left: u32, at: usize) -> Result<(RawMono, usize), Halted>
+        ensures { Gives self.now.tokens.now mono_tree result ((deeper 63 left).mono (drop at self.now.tokens.now)) }
+    {
+        if left == 0 {
+            self.nested_mono(at)
+        } else {
+            self.mono(left - 1, at)
+        }
+    }
+
+    /// Closes brackets, from the innermost to the outermost.
+    #[cycle(mono)]
+    fn closes(
+        &self,
+        left: u32,
+        opens: Vec<u64>,
+        at: usize,
+    ) -> Result<(Vec<RawBracket>, usize), Halted>
+        ensures { (m : MonoTree) → Gives self.now.tokens.now (λ brackets. brackets_tree brackets.items m) result (mono_closes (deeper 63 left) (reverse opens.items) m (drop at self.now.tokens.now)) }
+    {
+        let mut opens = opens;
+        let mut at = at;
+        let mut brackets = Vec::new(self.alloc);
+        while let Some(open) = opens.pop() {
+            let next = self.sign(at, Sign::CloseParenSign)?;
+            let (right, next) = self.mono_right(left, next)?;
+            brackets.push(bracket(open, right))?;
+            at = next;
+        }
+        Ok((brackets, at))
+    }
+}

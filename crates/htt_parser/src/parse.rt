@@ -1,0 +1,74 @@
+//! The public calls: a phrase that is the whole list of tokens, and why it is refused.
+
+ghost use Rattle.std.specs.Prelude.{◌≡◌, IfOk, IfErr, length};
+ghost use Rattle.htt_grammar.specs.Derivations.{IsMono};
+ghost use Rattle.htt_reading.specs.Laws.{IsMonoWithin};
+ghost use Rattle.raw_trees.specs.Levels.{mono_tree};
+ghost use Rattle.htt_parser.specs.Refusals.{RefusesMono, stop_of};
+
+use crate::cursor::{Cursor, Halted, Reason};
+use htt_tokens::Token;
+use raw_trees::RawMono;
+use std::alloc::Global;
+use thiserror::Error;
+
+/// Why tokens were refused. Places are counted in bytes, from 0: that of the refused token, or the
+/// length of the text at its end.
+#[derive(Debug, PartialEq, Eq, Drop, Error)]
+pub enum ParseStop {
+    /// Another token is wanted there.
+    #[error("another token is wanted at {at}")]
+    Expected { at: u64 },
+    /// A phrase would have level 257.
+    #[error("the phrase at {at} is nested too deeply")]
+    TooNested { at: u64 },
+    /// A chain would have 65 operands.
+    #[error("the chain is too long at {at}")]
+    TooLongChain { at: u64 },
+    /// A file would have 10,001 declarations.
+    #[error("there are too many declarations at {at}")]
+    TooMany { at: u64 },
+    #[error("out of memory")]
+    NoMemory,
+}
+
+impl Cursor<'_> {
+    /// The place of a stop in a text of this length.
+    fn stop(&self, length: u64, halted: Halted) -> ParseStop
+        ensures { result ≡ stop_of length self.now.tokens.now halted }
+    {
+        match halted {
+            Halted::NoMemory => ParseStop::NoMemory,
+            Halted::At(reason, place) => {
+                let at = match self.token(place) {
+                    Some(token) => token.from,
+                    None => length,
+                };
+                match reason {
+                    Reason::Expected => ParseStop::Expected { at },
+                    Reason::TooNested => ParseStop::TooNested { at },
+                    Reason::TooLong => ParseStop::TooLongChain { at },
+                    Reason::TooMany => ParseStop::TooMany { at },
+                }
+            }
+        }
+    }
+}
+
+/// Reads a monotype that is the whole list of tokens; `text` is the text whose tokens they are. It is
+/// refused exactly where the tokens are no monotype, or one with more than 256 levels, or for want of
+/// memory. It takes linear time, and its stack grows with the levels alone.
+pub fn parse_mono(alloc: Global, text: &[u8], tokens: &[Token]) -> Result<RawMono, ParseStop>
+    ensures derived { IfOk result (λ mono. IsMono tokens.now (mono_tree mono)) }
+    ensures within { IfOk result (λ mono. IsMonoWithin (mono_tree mono)) }
+    ensures refused { IfErr result (λ stop. RefusesMono tokens.now stop) }
+{
+    let cursor = Cursor { alloc, tokens };
+    match cursor.mono(255, 0) {
+        Ok((mono, at)) => match cursor.token(at) {
+            None => Ok(mono),
+            Some(token) => Err(ParseStop::Expected { at: token.from }),
+        },
+        Err(halted) => Err(cursor.stop(text.len() as u64, halted)),
+    }
+}

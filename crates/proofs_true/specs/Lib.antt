@@ -1,0 +1,4 @@
+pub mod Sequents
+pub mod Laws
+pub mod WrongCase
+pub mod Examples
