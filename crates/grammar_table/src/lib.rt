@@ -2,8 +2,10 @@
 //! symbols, and what the table derives. The table of the code and that of `specs/` are one.
 #![tactic(auto)]
 
+mod order;
 mod symbols;
 mod table;
 
+pub use order::nonterminals;
 pub use symbols::{Nonterminal, Symbol};
-pub use table::{alternatives, nonterminals};
+pub use table::alternatives;

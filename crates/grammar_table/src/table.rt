@@ -2,7 +2,7 @@
 //! monotypes, types and terms, computations, formulas, proofs and declarations.
 
 ghost use Rattle.std.specs.Prelude.{◌≡◌, map};
-ghost use Rattle.grammar_table.specs.Table.{alternatives_of, every_nonterminal};
+ghost use Rattle.grammar_table.specs.Table.{alternatives_of};
 
 use crate::Nonterminal::*;
 use crate::Symbol::*;
@@ -741,65 +741,4 @@ pub fn alternatives(nonterminal: Nonterminal) -> &'static [&'static [Symbol]]
         Nonterminal::Declaration => &DECLARATION,
         Nonterminal::File => &FILE,
     }
-}
-
-static NONTERMINALS: [Nonterminal; 51] = [
-    Binder,
-    MonoName,
-    SumSign,
-    ProductSign,
-    UnaryWord,
-    UnaryRule,
-    HeapNumber,
-    Heap,
-    Factor,
-    Mono,
-    MonoInBrackets,
-    MonosAfter,
-    Monos,
-    TypePhrase,
-    Triple,
-    Atom,
-    Application,
-    Product,
-    Sum,
-    Relation,
-    Term,
-    Parameters,
-    SumRest,
-    ProductRest,
-    Parts,
-    Comp,
-    Step,
-    FormulaAtom,
-    Separation,
-    Conjunction,
-    Disjunction,
-    Formula,
-    Sort,
-    Terms,
-    TermsAfter,
-    Argument,
-    Arguments,
-    ArgumentsAfter,
-    Motive,
-    End,
-    Proof,
-    Statement,
-    ProofsAfter,
-    NamesAfter,
-    Names,
-    MonoParameter,
-    MonoParametersAfter,
-    MonoParameters,
-    Body,
-    Declaration,
-    File,
-];
-
-/// Each nonterminal once, after those of which one alone may make up a phrase of it.
-pub fn nonterminals() -> &'static [Nonterminal]
-    ensures { result.now ≡ every_nonterminal }
-{
-    &NONTERMINALS
 }

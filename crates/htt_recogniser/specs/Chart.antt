@@ -14,6 +14,7 @@ use Rattle.grammar_table.specs.declared.symbols.Nonterminal.{Nonterminal}
 use Rattle.grammar_table.specs.Table.{alternatives_of}
 use Rattle.htt_recogniser.specs.declared.rows.Edge.{Edge}
 
+-- a token of this kind is what the symbol asks for
 abbrev pub asks_for : Symbol → Kind → Bool
 asks_for (Word w) (kinds.Keyword v) = sameb keyword_enum.the_type v w
 asks_for (Mark s) (kinds.Sign r) = sameb sign_enum.the_type r s
@@ -26,9 +27,11 @@ abbrev pub first_is : (Kind → Bool) → List Token → Bool
 first_is p [] = false
 first_is p (t ∷ ts) = p t.kind
 
+-- the edge is such a phrase from this place on
 abbrev pub starts : Nonterminal → ℕ → Edge → Bool
 starts n i edge = sameb nonterminal_enum.the_type edge.nonterminal n && (edge.from == i)
 
+-- the row spans the tokens from one place to another
 unfoldable pub row_spans_of : List Symbol → List Token → List Edge → ℕ → ℕ → Bool
 row_spans_of [] tokens chart i j = i == j
 row_spans_of (Phrase n ∷ row) tokens chart i j = list_any (λ edge. starts n i edge && row_spans_of row tokens chart edge.to j) chart
@@ -38,5 +41,6 @@ row_spans_of (s ∷ row) tokens chart i j = first_is (asks_for s) (drop i tokens
 abbrev pub row_follows : Nonterminal → List Symbol → List Token → List Edge → ℕ → ℕ → Edge → Bool
 row_follows n row tokens chart i j edge = starts n i edge && row_spans_of row tokens chart edge.to j
 
+-- some alternative of its nonterminal spans the tokens of the edge
 abbrev pub phrase_spans_of : List Token → List Edge → Edge → Bool
 phrase_spans_of tokens chart edge = list_any (λ row. row_spans_of row tokens chart edge.from edge.to) (alternatives_of edge.nonterminal)

@@ -9,6 +9,7 @@ use Rattle.htt_recogniser.specs.Chart.{phrase_spans_of}
 abbrev pub edge_of : ℕ → ℕ → Nonterminal → Edge
 edge_of i j n = record { nonterminal = n; from = i; to = j }
 
+-- it is an element
 abbrev pub Has : {A : Type 0} → List A → A → Type 0
 Has [] x = ⊥
 Has (y ∷ ys) x = (y ≡ x) ⊎ Has ys x
@@ -33,7 +34,7 @@ pub record Round : Type 0 where
   pub chart : List Edge
   pub left : List Edge
 
--- what the open edges add to the chart, one by one, and which are left
+-- what the pending edges add to the chart, one by one, and which are left
 unfoldable pub round_of : List Edge → List Token → List Edge → List Edge → Round
 round_of [] tokens chart left = record { chart = chart; left = left }
 round_of (edge ∷ pending) tokens chart left = if phrase_spans_of tokens chart edge then round_of pending tokens (chart ++ edge ∷ []) left else round_of pending tokens chart (left ++ edge ∷ [])

@@ -1,5 +1,6 @@
-//! The phrases that the tokens have. All edges are pending at first. In each round the pending edges that
-//! follow from the chart are added to it; when a round adds none, the chart has all.
+//! The phrases that the tokens have. All edges are pending at first, the shorter before the longer. In
+//! each round the pending edges that follow from the chart are added to it, and when a round adds none,
+//! the chart has all. As each round but the last leaves fewer pending, this ends.
 
 ghost use Rattle.std.specs.Prelude.{◌≡◌, ◌++◌, ◌↔◌, IfOk, IsTrue, OnOk, [], map};
 ghost use Rattle.grammar_table.specs.Derives.{IsPhrase};
