@@ -1,0 +1,11 @@
+use Rattle.flat_heap.specs.Blocks.{blocks_of}
+use Rattle.flat_heap.specs.Spans.{span_words}
+use Rattle.flat_heap.proofs.TableLemmas.{greatest_of, not_less}
+use Rattle.flat_heap.proofs.heap.Heap.greatest.Goals as goal
+
+pub returns-in-Some : goal.returns-in-Some
+unfolding blocks_of
+returns-in-Some c =
+    let h = c.args.self.now in
+    let r = c.in-Some.ensures in
+    record { greatest = greatest_of (span_words h.words.items) h.table.entries c.in-Some.location.now c.in-Some.field-0-1.now r.value (λ q s. not_less _ _ (r.greatest q s)) }

@@ -1,0 +1,9 @@
+pub mod CutLemmas
+pub mod DecimalLemmas
+pub mod LineLemmas
+pub mod FileLemmas
+pub mod PushLemmas
+pub mod ReadLemmas
+pub mod WordLemmas
+pub mod WriteLemmas
+pub mod Examples
