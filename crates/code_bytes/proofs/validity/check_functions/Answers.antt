@@ -1,0 +1,14 @@
+use Rattle.std.proofs.Common.{true, ◌∙◌, sym}
+use Rattle.std.proofs.lemmas.Result.{err_from_is_err_and}
+use Rattle.code_format.proofs.Tests.{checked_after, checked_before}
+use Rattle.code_bytes.specs.Validity.{headers_tests, bodies_tests}
+use Rattle.code_bytes.proofs.validity.check_functions.Goals as goal
+
+pub returns-in_err-check_headers : goal.returns-in_err-check_headers
+returns-in_err-check_headers c =
+    let p = err_from_is_err_and c.from_residual.result c.from_residual.ensures.1 in
+    rw (p.1, p.2) (sym (checked_before (headers_tests true 0 c.args.functions.now) (bodies_tests c.args.code.now c.args.functions.now) c.in_err-check_headers.field-0.0 (sym c.in_err-check_headers.ensures)))
+
+pub returns : goal.returns
+returns c =
+    c.check_bodies.ensures ∙ sym (checked_after (headers_tests true 0 c.args.functions.now) (bodies_tests c.args.code.now c.args.functions.now) (sym c.in_ok-check_headers.ensures))

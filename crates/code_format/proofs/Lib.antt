@@ -1,0 +1,9 @@
+pub mod Numbers
+pub mod Fields
+pub mod Tests
+pub mod Instrs
+pub mod Written
+pub mod WrittenFile
+pub mod Read
+pub mod ReadFile
+pub mod LawProofs
