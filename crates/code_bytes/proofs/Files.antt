@@ -1,10 +1,10 @@
 -- The tests of a file, one part after the other, and what loading answers.
-use Rattle.std.proofs.Common.{◌≡◌, ℕ, ◌+◌, ◌*◌, ◌<◌, ◌≤◌, true, List, [], ◌∷◌, ◌++◌, length, Result, Ok, Err, refl, sym, ap, ◌∙◌, subst, append_assoc, append-nil, IfOk, MatchResult}
+use Rattle.std.proofs.Common.{◌≡◌, ℕ, ◌+◌, ◌*◌, true, List, [], ◌++◌, Result, Ok, Err, refl, sym, ap, ◌∙◌, subst, append_assoc, IfOk, MatchResult}
 use Rattle.word_loader.specs.declared.code.Code.{Code}
 use Rattle.code_format.specs.declared.rows.Header.{Header}
 use Rattle.code_format.specs.Numbers.{number_at}
 use Rattle.code_format.specs.Layout.{Bytes}
-use Rattle.code_format.specs.Rows.{Test, checked, opening_tests, headers_tests, headers_at, bodies_tests, after_bodies, end_tests, file_tests, version_of, headers_of, first_body}
+use Rattle.code_format.specs.Rows.{Test, opening_tests, headers_tests, headers_at, bodies_tests, after_bodies, end_tests, file_tests, version_of, headers_of, first_body}
 use Rattle.code_format.specs.Reading.{functions_at, code_of}
 use Rattle.code_format.specs.Laws.{AreBytes}
 use Rattle.code_format.proofs.Tests.{met_from_ok}

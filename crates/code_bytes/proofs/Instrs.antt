@@ -1,5 +1,5 @@
 -- An instruction that is read: what its operands are tested against, and what it is.
-use Rattle.std.proofs.Common.{◌≡◌, ℕ, zero, suc, ◌+◌, ◌-◌, ◌<◌, ◌≤◌, Bool, List, [], ◌∷◌, ◌++◌, length, get_or, take, replicate, Option, Some, None, Result, Ok, Err, refl, sym, ap, ◌∙◌, arith}
+use Rattle.std.proofs.Common.{◌≡◌, ℕ, ◌+◌, ◌-◌, ◌≤◌, Bool, List, [], ◌∷◌, ◌++◌, length, get_or, take, replicate, Option, Some, Result, Ok, Err, refl, sym, ap, ◌∙◌}
 use Rattle.std.specs.Prelude.{slice_get, slice_index}
 use Rattle.std.proofs.lemmas.List.{take_at}
 use Rattle.word_loader.specs.declared.code.Instr.{Instr}
@@ -9,7 +9,7 @@ use Rattle.code_format.specs.declared.table.Opcode.{Opcode}
 use Rattle.code_format.specs.declared.table.Opcode.TheVariants.{Const, Mov, Op, Sel, Alloc, Get, Set, Free, Jump, Jz, Call, Ret, Tail}
 use Rattle.code_format.specs.declared.table.Operand.{Operand}
 use Rattle.code_format.specs.Table.{operands_of}
-use Rattle.code_format.specs.Rows.{Site, Test, checked, is_there, opcode_tests, opcode_in, operands_tests, numbers_at, site_at, whole_test, tests_by, instr_tests, after_instr, width_all, width_by}
+use Rattle.code_format.specs.Rows.{Site, Test, checked, is_there, opcode_tests, opcode_in, operands_tests, numbers_at, site_at, tests_by, instr_tests, after_instr, width_all, width_by}
 use Rattle.code_format.specs.Reading.{instr_of, instr_by, instr_at}
 use Rattle.code_bytes.specs.Parts.{padded}
 use Rattle.code_bytes.specs.Answers.{Answers}

@@ -1,11 +1,9 @@
 -- The tests of a part and of what is left: the first that isn't met, and one more step of a loop.
-use Rattle.std.proofs.Common.{◌≡◌, ℕ, zero, suc, ◌+◌, ◌-◌, ◌*◌, ◌<◌, ◌≤◌, Bool, true, false, List, [], ◌∷◌, ◌++◌, length, get_or, drop, Result, Ok, Err, refl, sym, ap, ◌∙◌, arith, append-nil, append_assoc}
+use Rattle.std.proofs.Common.{◌≡◌, ℕ, suc, ◌+◌, ◌-◌, ◌<◌, ◌≤◌, Bool, false, List, [], ◌∷◌, ◌++◌, length, get_or, drop, Ok, Err, sym, ap, ◌∙◌, arith, append-nil, append_assoc}
 use Rattle.std.specs.Prelude.{nat_eq, ◌==◌}
 use Rattle.std.proofs.lemmas.Bool.{ne_eqb}
 use Rattle.std.proofs.lemmas.Bool.Decides.{nat_tests}
 use Rattle.std.proofs.lemmas.List.{drop_more, drop_all}
-use Rattle.word_loader.specs.declared.code.Function.{Function}
-use Rattle.word_loader.specs.declared.code.Instr.{Instr}
 use Rattle.code_format.specs.declared.rows.Fault.{Fault}
 use Rattle.code_format.specs.declared.rows.Header.{Header}
 use Rattle.code_format.specs.declared.table.Operand.{Operand}

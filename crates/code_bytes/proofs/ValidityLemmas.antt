@@ -1,6 +1,6 @@
 -- Code meets its tests exactly where it is valid.
-use Rattle.std.proofs.Common.{◌≡◌, ℕ, zero, suc, ◌+◌, ◌-◌, ◌<◌, ◌≤◌, Bool, true, false, cond, List, [], ◌∷◌, ◌++◌, length, Option, Some, None, Result, Ok, Err, refl, sym, ap, ◌∙◌, subst, arith, inl, inr, ⊎_elim}
-use Rattle.std.specs.Prelude.{sum_by, is_some, is_ok, IsTrue, ◌==◌, ◌||◌, not, ◌⊎◌, ◌↔◌}
+use Rattle.std.proofs.Common.{◌≡◌, ℕ, ◌+◌, ◌≤◌, Bool, true, false, cond, List, [], ◌∷◌, ◌++◌, length, Option, Some, None, Result, Ok, Err, refl, sym, ◌∙◌, subst, arith, inl, inr, ⊎_elim}
+use Rattle.std.specs.Prelude.{sum_by, nat_le, is_some, is_ok, IsTrue, ◌==◌, ◌||◌, not, ◌⊎◌, ◌↔◌}
 use Rattle.std.specs.List.{AllByRecursion}
 use Rattle.std.proofs.lemmas.Bool.{le-leb, leb-true, eq-eqb, eqb-true, and_parts, and_from, or_left, or_right, or_cases}
 use Rattle.std.proofs.lemmas.List.Sums.{sum_by-cons}
@@ -10,7 +10,6 @@ use Rattle.word_loader.specs.declared.code.Function.{Function}
 use Rattle.word_loader.specs.declared.code.Instr.{Instr}
 use Rattle.word_loader.specs.Valid.{IsValidInstr, IsValidFunction, IsValid, IsEntered, Leaves, LastLeaves}
 use Rattle.code_format.specs.declared.rows.Fault.{Fault}
-use Rattle.code_format.specs.declared.rows.Header.{Header}
 use Rattle.code_format.specs.declared.table.Opcode.{Opcode}
 use Rattle.code_format.specs.declared.table.Opcode.TheVariants.{Tail}
 use Rattle.code_format.specs.declared.table.Operand.{Operand}
@@ -163,13 +162,16 @@ headers_from code (f ∷ fs) is_first before few m b =
     let body = body_from code f f.body (met_left (body_tests code f f.body) (bodies_tests code fs) b) in
     let sum = sum_by-cons (λ (g : Function). length g.body) f fs in
     record {
-      valid = (record {
-        locals = leb-true _ _ here.0;
-        params = leb-true _ _ here.1.0;
-        result = leb-true _ _ here.1.1.1.0;
-        instrs = All-from_recursion (IsValidInstr code f) f.body body.valid;
-        last = body.last some;
-      }, others.valid);
+      valid = (
+        record {
+          locals = leb-true _ _ here.0;
+          params = leb-true _ _ here.1.0;
+          result = leb-true _ _ here.1.1.1.0;
+          instrs = All-from_recursion (IsValidInstr code f) f.body body.valid;
+          last = body.last some;
+        },
+        others.valid,
+      );
       few = omega (arith, others.few, sum);
       entered = λ e _. first_from is_first f.params here.1.1.0 e;
     }
@@ -201,7 +203,7 @@ pub valid_from_ok : (code : Code) → checked (code_tests code) ≡ Ok tt → Is
 valid_from_ok code e =
     let fs : List Function = code.functions in
     let m = met_from_ok (code_tests code) e in
-    let count = and_parts _ _ m.1.0 in
+    let count = and_parts (nat_le 1 (length fs)) (nat_le (length fs) 4096) m.1.0 in
     let heads = headers_from code fs true 0 (omega arith) (met_left (headers_tests true 0 fs) (bodies_tests code fs) m.1.1) (met_right (headers_tests true 0 fs) (bodies_tests code fs) m.1.1) in
     record {
       version = version_from code.version m.0;

@@ -1,5 +1,5 @@
 -- One more step of the loops that test code.
-use Rattle.std.proofs.Common.{◌≡◌, ℕ, zero, suc, ◌+◌, ◌-◌, ◌<◌, ◌≤◌, Bool, true, false, List, [], ◌∷◌, ◌++◌, length, get_or, drop, Result, Ok, Err, refl, sym, ap, ◌∙◌, arith}
+use Rattle.std.proofs.Common.{◌≡◌, ℕ, ◌+◌, ◌-◌, ◌<◌, ◌≤◌, Bool, false, List, ◌∷◌, ◌++◌, length, get_or, drop, Ok, sym, ap, ◌∙◌, arith}
 use Rattle.std.specs.Prelude.{nat_eq, ◌==◌}
 use Rattle.std.proofs.lemmas.Bool.{ne_eqb, leb-true, and_parts}
 use Rattle.std.proofs.lemmas.Bool.Decides.{nat_tests}
@@ -9,7 +9,7 @@ use Rattle.word_loader.specs.declared.code.Function.{Function}
 use Rattle.word_loader.specs.declared.code.Instr.{Instr}
 use Rattle.code_format.specs.declared.rows.Header.{Header}
 use Rattle.code_format.specs.declared.table.Operand.{Operand}
-use Rattle.code_format.specs.Rows.{Site, Test, checked, header_tests, operand_tests}
+use Rattle.code_format.specs.Rows.{Site, checked, header_tests, operand_tests}
 use Rattle.code_format.specs.Reading.{header_of}
 use Rattle.code_format.proofs.Tests.{met_from_ok}
 use Rattle.code_bytes.specs.Validity.{headers_tests, parts_tests, instr_tests, body_tests, bodies_tests}

@@ -1,5 +1,5 @@
 -- The fields of an instruction that is written from an array of its operands.
-use Rattle.std.proofs.Common.{◌≡◌, ℕ, zero, suc, ◌+◌, ◌<◌, ◌≤◌, List, [], ◌∷◌, ◌++◌, length, get_or, take, refl, sym, ap, ◌∙◌, arith, append_assoc, append-nil}
+use Rattle.std.proofs.Common.{◌≡◌, ℕ, zero, suc, ◌+◌, ◌<◌, List, [], ◌∷◌, ◌++◌, length, get_or, take, refl, sym, ap, ◌∙◌, arith, append_assoc, append-nil}
 use Rattle.std.specs.List.{flat_map}
 use Rattle.word_loader.specs.declared.code.Instr.{Instr}
 use Rattle.word_loader.specs.declared.code.Instr.TheVariants as instrs

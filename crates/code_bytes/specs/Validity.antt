@@ -1,5 +1,5 @@
 -- The tests of code without its bytes, at place 0.
-use Rattle.std.specs.Prelude.{ℕ, ◌+◌, List, [], ◌∷◌, ◌++◌, length, Bool, true, false, ◌&&◌, ◌||◌, ◌==◌, nat_le, Option, Some, slice_get, slice_index}
+use Rattle.std.specs.Prelude.{ℕ, ◌+◌, List, [], ◌∷◌, ◌++◌, length, Bool, true, false, ◌&&◌, ◌||◌, ◌==◌, nat_le, Some, slice_get, slice_index}
 use Rattle.std.specs.Option.{option_map}
 use Rattle.word_loader.specs.declared.code.Code.{Code}
 use Rattle.word_loader.specs.declared.code.Function.{Function}

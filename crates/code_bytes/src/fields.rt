@@ -7,6 +7,12 @@ ghost use Rattle.code_format.specs.Rows.{checked, is_there, rule};
 use code_format::Fault;
 use std::alloc::AllocError;
 
+/// The bytes `HTTW` as a number, with which a file begins.
+pub const MAGIC: u64 = 0x5754_5448;
+
+/// The most functions of a code.
+pub const MAX_FUNCTIONS: usize = 4096;
+
 /// The number that these bytes write.
 fn number_of(bytes: &[u8]) -> u64
     requires { length bytes.now ≤ 8 }

@@ -14,7 +14,7 @@ ghost use Rattle.code_bytes.specs.Answers.{Answers, seen};
 ghost use Rattle.code_bytes.specs.Loads.{Loads, Refuses, IsInstrAt};
 ghost use Rattle.code_bytes.specs.declared.loader.LoadStop.TheVariants.{Bad, NoMemory};
 
-use crate::fields::{is_there, number_at, rule};
+use crate::fields::{MAGIC, MAX_FUNCTIONS, is_there, number_at, rule};
 use crate::parts::{in_version, instr_of, is_read_whole, numbers_at, width_all};
 use crate::rules::{Site, check_header, check_opcode, check_operand};
 use code_format::{Fault, Header, Opcode, Operand};
@@ -22,9 +22,6 @@ use htt_seq::Seq;
 use std::alloc::{AllocError, AllocFailed, Global};
 use thiserror::Error;
 use word_loader::{Code, Function, Instr};
-
-/// The bytes `HTTW` as a number.
-const MAGIC: u64 = 0x5754_5448;
 
 /// Why no code was loaded.
 #[derive(Debug, Drop, Error)]
@@ -66,7 +63,7 @@ impl<T: Drop> From<AllocFailed<T>> for LoadStop {
     }
 }
 
-/// What a file begins with.
+/// What a file says before its headers.
 #[derive(Clone, Copy)]
 struct Opening {
     version: u8,
@@ -82,11 +79,11 @@ fn read_opening(file: &[u8]) -> Result<Opening, Fault>
     let version = number_at(file, 4, 1);
     rule(2, 4, version == 1 || version == 2)?;
     is_there(file, 5, 4)?;
-    let count = number_at(file, 5, 4);
-    rule(3, 5, count >= 1 && count <= 4096)?;
+    let count = number_at(file, 5, 4) as usize;
+    rule(3, 5, count >= 1 && count <= MAX_FUNCTIONS)?;
     Ok(Opening {
         version: version as u8,
-        count: count as usize,
+        count,
     })
 }
 
@@ -278,8 +275,7 @@ fn read_code(alloc: Global, file: &[u8]) -> Result<Code, LoadStop>
     let opening = read_opening(file)?;
     let headers = read_headers(alloc, file, opening.count)?;
     let first = 9 + 10 * opening.count;
-    let (functions, end) =
-        read_functions(alloc, file, opening.version, headers.as_slice(), first)?;
+    let (functions, end) = read_functions(alloc, file, opening.version, headers.as_slice(), first)?;
     rule(12, end, end == file.len())?;
     Ok(Code {
         version: opening.version,

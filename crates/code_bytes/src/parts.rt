@@ -126,10 +126,7 @@ pub fn leaves(opcode: Opcode) -> bool
 pub fn is_read_whole(opcode: Opcode) -> bool
     ensures { result ≡ is_read_whole opcode }
 {
-    opcode
-        .operands()
-        .iter()
-        .any(|operand| matches!(operand, Operand::Place(Words::Counted)))
+    opcode.operands().iter().any(|operand| matches!(operand, Operand::Place(Words::Counted)))
 }
 
 /// The number of bytes of operands.

@@ -9,7 +9,13 @@ use crate::fields::{is_there, number_at, rule};
 use crate::parts::leaves;
 use code_format::{Fault, Header, Opcode, Operand, Words};
 
-/// The number of the operation that takes one place, written twice, and the last operation's number.
+/// The most locals of a function, and the most words that it returns.
+const MAX_WORDS: u16 = 4096;
+
+/// The most instructions of all functions together.
+const MAX_INSTRS: u64 = 1_000_000;
+
+/// The operation that takes one place, written twice. It is the one with the greatest number.
 const NOT: u64 = 10;
 
 /// What the operands of an instruction are tested against: its function, the function that it calls
@@ -36,12 +42,12 @@ pub fn check_header(at: usize, is_first: bool, before: u64, header: &Header) -> 
     requires few { before ≤ 1000000 }
     ensures { result ≡ checked (header_tests at is_first before header.now) }
 {
-    rule(4, at + 2, header.locals <= 4096)?;
+    rule(4, at + 2, header.locals <= MAX_WORDS)?;
     rule(4, at, header.params <= header.locals)?;
     rule(6, at, !is_first || header.params == 0)?;
-    rule(4, at + 4, header.result <= 4096)?;
+    rule(4, at + 4, header.result <= MAX_WORDS)?;
     let count = header.count;
-    rule(5, at + 6, count >= 1 && count <= 1_000_000 && before + count <= 1_000_000)
+    rule(5, at + 6, count >= 1 && count <= MAX_INSTRS - before)
 }
 
 /// Rows 7 and 11: the instruction of a byte, if there is one.
@@ -79,12 +85,7 @@ fn fits(place: u64, words: u64, locals: u16) -> bool
 }
 
 /// Rows 7 to 10 and 13: an operand at a place.
-pub fn check_operand(
-    site: &Site<'_>,
-    at: usize,
-    operand: Operand,
-    number: u64,
-) -> Result<(), Fault>
+pub fn check_operand(site: &Site<'_>, at: usize, operand: Operand, number: u64) -> Result<(), Fault>
     ensures { result ≡ checked (operand_tests (seen site.now) at operand number) }
 {
     let locals = site.own.locals;

@@ -9,7 +9,7 @@ ghost use Rattle.code_format.specs.Reading.{header_of};
 ghost use Rattle.code_bytes.specs.Answers.{seen};
 ghost use Rattle.code_bytes.specs.Validity.{parts_tests, headers_tests, instr_tests, body_tests, bodies_tests, code_tests};
 
-use crate::fields::rule;
+use crate::fields::{MAX_FUNCTIONS, rule};
 use crate::parts::{in_version, numbers_of, opcode_of};
 use crate::rules::{Site, check_header, check_opcode, check_operand};
 use code_format::{Fault, Header, Operand};
@@ -27,7 +27,11 @@ fn check_code(code: &Code) -> Result<(), Fault>
 {
     let functions = code.functions.as_slice();
     rule(2, 0, code.version == 1 || code.version == 2)?;
-    rule(3, 0, !functions.is_empty() && functions.len() <= 4096)?;
+    rule(
+        3,
+        0,
+        !functions.is_empty() && functions.len() <= MAX_FUNCTIONS,
+    )?;
     check_functions(code, functions)
 }
 
@@ -80,12 +84,7 @@ fn check_body(code: &Code, function: &Function) -> Result<(), Fault>
     Ok(())
 }
 
-fn check_instr(
-    code: &Code,
-    function: &Function,
-    is_last: bool,
-    instr: &Instr,
-) -> Result<(), Fault>
+fn check_instr(code: &Code, function: &Function, is_last: bool, instr: &Instr) -> Result<(), Fault>
     ensures { result ≡ checked (instr_tests code.now function.now is_last instr.now) }
 {
     let opcode = check_opcode(0, is_last, in_version(code.version, Some(opcode_of(instr))))?;
@@ -103,7 +102,9 @@ fn callee_of(code: &Code, number: u64) -> Option<Header>
     ensures { result ≡ option_map header_of (slice_get code.now.functions number) }
 {
     let functions = code.functions.as_slice();
-    functions.get(number as usize).map(|function| header_of(function))
+    functions
+        .get(number as usize)
+        .map(|function| header_of(function))
 }
 
 fn check_parts(site: &Site<'_>, operands: &[Operand]) -> Result<(), Fault>

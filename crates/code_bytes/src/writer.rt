@@ -6,14 +6,11 @@ ghost use Rattle.std.specs.List.{flat_map};
 ghost use Rattle.word_loader.specs.Valid.{IsValid};
 ghost use Rattle.code_format.specs.Layout.{field_bytes, operand_fields, instr_fields, header_fields, body_fields, opening_fields, code_bytes};
 
-use crate::fields::put_number;
+use crate::fields::{MAGIC, put_number};
 use crate::parts::{numbers_of, opcode_of};
 use code_format::Operand;
 use std::alloc::{AllocError, Global};
 use word_loader::{Code, Function, Instr};
-
-/// The bytes `HTTW` as a number.
-const MAGIC: u64 = 0x5754_5448;
 
 /// The bytes of valid code. The only error is want of memory.
 pub fn write_code(alloc: Global, code: &Code) -> Result<Vec<u8>, AllocError>

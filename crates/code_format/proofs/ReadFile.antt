@@ -1,6 +1,6 @@
 -- A file that meets all its tests is the layout of the code that its fields say, and that code is valid.
 use Rattle.std.proofs.Common.{◌≡◌, ℕ, zero, suc, ◌+◌, ◌*◌, ◌^◌, ◌<◌, ◌≤◌, Bool, true, false, List, [], ◌∷◌, ◌++◌, length, map, refl, sym, ap, ◌∙◌, subst, arith, inl, inr}
-use Rattle.std.specs.Prelude.{sum_by, ◌==◌, ◌||◌, not, ◌⊎◌}
+use Rattle.std.specs.Prelude.{sum_by, nat_le, ◌==◌, ◌||◌, not, ◌⊎◌}
 use Rattle.std.specs.List.{AllByRecursion, flat_map}
 use Rattle.std.proofs.lemmas.Bool.{leb-true, eqb-true, and_parts, or_cases}
 use Rattle.std.proofs.lemmas.List.{take_all}
@@ -141,7 +141,7 @@ read file bytes m =
     let there : first ≡ 9 + width_sum hf = omega (arith, width) in
     let rest : Stand file 9 (hf ++ bf) = stand_both file 9 hf bf heads_stand (subst (λ (a : ℕ). Stand file a bf) there body.stands) in
     let size : count ≡ length fs = sym head.size ∙ sym (length-functions_at file version first hs) in
-    let counted = and_parts _ _ o.1.1.1.1.1.0 in
+    let counted = and_parts (nat_le 1 count) (nat_le count 4096) o.1.1.1.1.1.0 in
     let stand : Stand file 0 (code_fields code) =
     (leb-true _ _ o.0, (eqb-true _ _ o.1.0, (leb-true _ _ o.1.1.0, (refl, (leb-true _ _ o.1.1.1.1.0, (size, rest)))))) in
     let end : first + width_sum bf ≡ length file = sym body.after ∙ eqb-true _ _ ended.0 in

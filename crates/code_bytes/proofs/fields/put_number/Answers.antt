@@ -1,5 +1,4 @@
-use Rattle.std.proofs.Common.{◌≡◌, ◌+◌, ◌-◌, ◌/◌, ◌++◌, ap, sym, ◌∙◌, refl, arith, append_assoc, append-nil}
-use Rattle.code_format.specs.Numbers.{little_endian}
+use Rattle.std.proofs.Common.{◌-◌, ◌++◌, ap, sym, ◌∙◌, arith, append-nil}
 use Rattle.code_bytes.proofs.FieldLemmas.{put_next, little_endian-none}
 use Rattle.code_bytes.proofs.fields.put_number.Goals as goal
 

@@ -2,7 +2,6 @@ use Rattle.std.proofs.Common.{◌∙◌, arith}
 use Rattle.std.proofs.lemmas.Result.{err_from_is_err_and}
 use Rattle.code_format.specs.declared.table.Operand.TheVariants.{Place}
 use Rattle.code_format.specs.declared.table.Words.TheVariants.{One}
-use Rattle.code_format.specs.Rows.{operands_tests}
 use Rattle.code_bytes.specs.Answers.{seen}
 use Rattle.code_bytes.proofs.Steps.{passed, failed, next_operand, width_more, no_operands, width_none}
 use Rattle.code_bytes.proofs.loader.check_operands.Goals as goal

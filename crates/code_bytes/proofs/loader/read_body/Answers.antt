@@ -1,6 +1,5 @@
-use Rattle.std.proofs.Common.{◌+◌, ◌-◌, ◌≡◌, List, [], ◌∷◌, ◌++◌, ◌∙◌, sym, ap, arith}
+use Rattle.std.proofs.Common.{◌-◌, ◌≡◌, [], ◌∷◌, ◌++◌, ◌∙◌, sym, ap, arith}
 use Rattle.std.proofs.lemmas.Result.{err_from_is_err_and}
-use Rattle.code_format.specs.Rows.{after_instr, after_body}
 use Rattle.code_format.specs.Reading.{instr_at, body_at}
 use Rattle.code_bytes.proofs.Steps.{passed, failed, next_instr, instr_more, after_more, no_instrs, instr_none, after_none, one_more, none_left}
 use Rattle.code_bytes.proofs.loader.read_body.Goals as goal

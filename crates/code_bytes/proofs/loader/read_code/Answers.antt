@@ -1,8 +1,8 @@
-use Rattle.std.proofs.Common.{◌≡◌, ◌+◌, ◌*◌, List, refl, sym, ap, ◌∙◌}
+use Rattle.std.proofs.Common.{◌+◌, ◌*◌, List, refl, sym, ap, ◌∙◌}
 use Rattle.std.proofs.lemmas.Result.{err_from_is_err_and}
 use Rattle.word_loader.specs.declared.code.Function.{Function}
-use Rattle.code_format.specs.Rows.{file_tests, after_bodies}
-use Rattle.code_bytes.proofs.Steps.{IsDecidedBy, passed, failed, stopped}
+use Rattle.code_format.specs.Rows.{file_tests}
+use Rattle.code_bytes.proofs.Steps.{passed, failed, stopped}
 use Rattle.code_bytes.proofs.Instrs.{itself}
 use Rattle.code_bytes.proofs.Files.{IsOpened, opening_cut, headers_cut, bodies_cut, end_cut, code_is}
 use Rattle.code_bytes.proofs.loader.read_code.Goals as goal

@@ -1,12 +1,10 @@
-use Rattle.std.proofs.Common.{◌+◌, ◌-◌, ◌≡◌, List, [], ◌∷◌, ◌++◌, get_or, ◌∙◌, sym, ap, arith}
+use Rattle.std.proofs.Common.{List, [], ◌∷◌, ◌++◌, get_or, ◌∙◌, sym, ap}
 use Rattle.std.proofs.lemmas.Result.{err_from_is_err_and}
 use Rattle.word_loader.specs.declared.code.Instr.{Instr}
 use Rattle.code_format.specs.declared.rows.Header.{Header}
-use Rattle.code_format.specs.Rows.{after_body}
-use Rattle.code_format.specs.Reading.{body_at, function_at, functions_at}
+use Rattle.code_format.specs.Reading.{function_at, functions_at}
 use Rattle.code_bytes.proofs.Steps.{passed, stopped, next_body, function_more, after_function, no_bodies, function_none, after_last, one_more, none_left}
 use Rattle.code_bytes.proofs.loader.read_functions.Goals as goal
-
 
 pub returns-in_err-body : goal.returns-in_err-body
 returns-in_err-body c =

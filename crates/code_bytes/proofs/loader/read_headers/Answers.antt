@@ -1,7 +1,7 @@
-use Rattle.std.proofs.Common.{◌+◌, ◌-◌, List, [], ◌∷◌, ◌++◌, ◌∙◌, sym, ap, true, arith}
+use Rattle.std.proofs.Common.{◌-◌, [], ◌∷◌, ◌++◌, ◌∙◌, ap, arith}
 use Rattle.std.specs.Prelude.{nat_eq}
 use Rattle.std.proofs.lemmas.Result.{err_from_is_err_and}
-use Rattle.code_format.specs.Rows.{headers_tests, headers_at, header_at}
+use Rattle.code_format.specs.Rows.{headers_at, header_at}
 use Rattle.code_bytes.proofs.Steps.{passed, failed, next_header, header_more, no_headers, header_none, one_more, none_left}
 use Rattle.code_bytes.proofs.loader.read_headers.Goals as goal
 

@@ -1,4 +1,3 @@
-use Rattle.std.proofs.Common.{◌∙◌}
 use Rattle.std.proofs.lemmas.Result.{err_from_is_err_and}
 use Rattle.code_format.specs.Rows.{instr_tests}
 use Rattle.code_bytes.proofs.Steps.{failed}

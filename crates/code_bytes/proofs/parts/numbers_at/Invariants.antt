@@ -1,4 +1,4 @@
-use Rattle.std.proofs.Common.{◌≡◌, ◌++◌, ◌+◌, ◌*◌, ◌-◌, ◌≤◌, take, replicate, length}
+use Rattle.std.proofs.Common.{◌≡◌, ◌++◌, ◌+◌, ◌*◌, ◌-◌, ◌≤◌, take, replicate}
 use Rattle.code_format.specs.Rows.{numbers_at, width_all}
 use Rattle.code_bytes.proofs.parts.numbers_at.Given as goal
 

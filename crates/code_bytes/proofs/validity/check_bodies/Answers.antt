@@ -1,4 +1,4 @@
-use Rattle.std.proofs.Common.{◌∙◌, sym, ap, arith}
+use Rattle.std.proofs.Common.{◌∙◌, sym}
 use Rattle.std.proofs.lemmas.Result.{err_from_is_err_and}
 use Rattle.code_bytes.proofs.Steps.{passed, failed}
 use Rattle.code_bytes.proofs.ValiditySteps.{next_body, no_bodies}

@@ -1,4 +1,4 @@
-use Rattle.std.proofs.Common.{◌∙◌, sym, ap, arith}
+use Rattle.std.proofs.Common.{◌∙◌, sym, arith}
 use Rattle.std.proofs.lemmas.Result.{err_from_is_err_and}
 use Rattle.code_format.specs.declared.table.Operand.TheVariants.{Place}
 use Rattle.code_format.specs.declared.table.Words.TheVariants.{One}
