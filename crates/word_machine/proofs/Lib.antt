@@ -1,3 +1,5 @@
-pub mod CodeLemmas
-pub mod Examples
-pub mod MachineLemmas
+pub mod Room
+pub mod Stepping
+pub mod HeapLimit
+pub mod Running
+pub mod Ending

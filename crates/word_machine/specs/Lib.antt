@@ -1,4 +1,5 @@
-pub mod Code
-pub mod Frame
-pub mod Laws
-pub mod Machine
+pub mod States
+pub mod Steps
+pub mod Limits
+pub mod Runs
+pub mod Ends

@@ -1,11 +1,17 @@
-//! A machine of 64-bit words: the code that it runs, and a run up to a number of steps.
+//! The word machine: it runs valid code over local words and a heap. `Machine` is one step at a time,
+//! with a location to choose for each new block; `run` is a whole run with the shipped choices, up to
+//! the limits on steps, frames and the heap. Contracts see both as the written machine.
 #![tactic(auto)]
 
-mod code;
-mod laws;
+mod blocks;
+mod instrs;
+mod limits;
 mod machine;
+mod operations;
+mod runs;
+mod stepped;
 
-pub use code::{Code, Function, Instr};
 pub use htt_words::{Bound, Kind};
-pub use laws::halt_is_final;
-pub use machine::{End, run};
+pub use machine::{Machine, StartStop, start};
+pub use runs::{End, run};
+pub use stepped::Stepped;

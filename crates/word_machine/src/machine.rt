@@ -1,96 +1,130 @@
-//! A run: the locals begin as 0, and one instruction after the other is done until a return halts
-//! the machine or all steps are used. The limit is tested before each instruction, so a return is a
-//! step like the others.
+//! The machine, its start and its step. A machine that is over keeps how it ended beside its heap and
+//! frames; after a halt the only frame has the returned words as its locals.
 
-ghost use Rattle.std.specs.Prelude.{◌≡◌, ◌+◌, ◌≤◌, None, IfOk, IfNone, length, replicate, slice_range};
-ghost use Rattle.word_machine.specs.Code.{IsValid, IsValidFunction};
-ghost use Rattle.word_machine.specs.Frame.{frame_state, StandsIn};
-ghost use Rattle.word_machine.specs.Machine.{next_state, function_after, machine_after, end_of};
+ghost use Rattle.std.specs.Prelude.{ℕ, ◌≡◌, List, [], IfOk, OnErr, IfErr, slice_get};
+ghost use Rattle.word_loader.specs.Valid.{IsValid};
+ghost use Rattle.word_loader.specs.Machine.{started};
+ghost use Rattle.machine_laws.specs.Fits.{FitsCode};
+ghost use Rattle.flat_heap.specs.Blocks.{blocks_of};
+ghost use Rattle.word_machine.specs.States.{state_of, over_after, answer_of};
+ghost use Rattle.word_machine.specs.Steps.{StepsTo, next_of, IsGoing, IsHalted};
+ghost use Rattle.word_machine.specs.Ends.{HaltsAs};
 
-use crate::code::{Code, Function, Instr};
+use crate::runs::End;
+use crate::stepped::Stepped;
+use flat_frames::Frames;
+use flat_heap::Heap;
 use htt_seq::Seq;
-use htt_words::Bound;
+use htt_words::Kind;
 use std::alloc::{AllocError, Global};
+use word_loader::{Code, Instr};
 
-/// How a run ended.
-#[derive(Debug, Drop)]
-pub enum End {
-    /// The machine halted with these words.
-    Halted(Seq<u64>),
-    /// The machine was still going when this limit was met, at this count.
-    Stopped(Bound, u64),
+/// How a machine ended.
+#[derive(Clone, Copy, Debug, PartialEq, Eq)]
+pub(crate) enum Over {
+    Halted,
+    Fault(Kind, u64),
 }
 
-/// The place of the next instruction, and the locals.
+/// A machine with its heap and its frames. Contracts see it as a state of the written machine,
+/// `state_of`.
 #[derive(Drop)]
-struct Frame {
-    at: usize,
-    locals: Vec<u64>,
+pub struct Machine {
+    pub(crate) alloc: Global,
+    pub(crate) heap: Heap,
+    pub(crate) frames: Frames,
+    pub(crate) over: Option<Over>,
 }
 
-/// Runs the first function for at most this many steps. The only error is want of memory.
-pub fn run(alloc: Global, code: &Code, steps: u64) -> Result<End, AllocError>
+/// Memory was wanting at the start. The heap is handed back.
+#[derive(Drop)]
+pub struct StartStop {
+    pub heap: Heap,
+}
+
+/// A machine that enters function 0 of the code, with this heap and locals 0.
+pub fn start(alloc: Global, code: &Code, heap: Heap) -> Result<Machine, StartStop>
     requires { IsValid code.now }
-    ensures { IfOk result (λ end. end ≡ end_of steps (machine_after code.now steps)) }
+    ensures starts { IfOk result (λ machine. state_of machine ≡ started (slice_get code.now.functions 0) (blocks_of heap) []) }
+    ensures fits { IfOk result (λ machine. FitsCode code.now (state_of machine)) }
+    ensures handed_back { IfErr result (λ stop. stop.heap ≡ heap) }
 {
     let main = &code.functions.as_slice()[0];
-    let mut frame = entered(alloc, main)?;
-    for _ in 0..steps {
-        if let Some(words) = step(alloc, main, &mut frame)? {
-            return Ok(End::Halted(words));
-        }
-    }
-    Ok(End::Stopped(Bound::Step, steps))
-}
-
-fn entered(alloc: Global, main: &Function) -> Result<Frame, AllocError>
-    requires { IsValidFunction main.now }
-    ensures start { IfOk result (λ frame. frame_state frame None ≡ function_after main.now 0) }
-    ensures stands { IfOk result (StandsIn main.now) }
-{
-    Ok(Frame {
-        at: 0,
-        locals: zeros(alloc, main.locals as usize)?,
-    })
-}
-
-fn zeros(alloc: Global, count: usize) -> Result<Vec<u64>, AllocError>
-    ensures { IfOk result (λ v. v.items ≡ replicate count 0) }
-{
-    vec![in alloc; 0; count]
-}
-
-/// Does the instruction at the frame's place. Answers the words with which it halts, if it does.
-fn step(alloc: Global, main: &Function, frame: &mut Frame) -> Result<Option<Seq<u64>>, AllocError>
-    requires valid { IsValidFunction main.now }
-    requires stands { StandsIn main.now frame.old }
-    ensures next { IfOk result (λ words. frame_state frame.new words ≡ next_state main.now (frame_state frame.old None)) }
-    ensures going { IfOk result (λ words. IfNone words (StandsIn main.now frame.new)) }
-{
-    match main.body.as_slice()[frame.at] {
-        Instr::Const(place, word) => {
-            frame.locals[place as usize] = word;
-            frame.at += 1;
-            Ok(None)
-        }
-        Instr::Ret(place) => {
-            let words = words_at(alloc, &frame.locals, place as usize, main.result as usize)?;
-            Ok(Some(words))
-        }
+    match Frames::enter(alloc, main.locals) {
+        Ok(frames) => Ok(Machine {
+            alloc,
+            heap,
+            frames,
+            over: None,
+        }),
+        Err(_) => Err(StartStop { heap }),
     }
 }
 
-fn words_at(
-    alloc: Global,
-    locals: &[u64],
-    place: usize,
-    count: usize,
-) -> Result<Seq<u64>, AllocError>
-    requires { place + count ≤ length locals.now }
-    ensures { IfOk result (λ words. words ≡ slice_range locals.now place (place + count)) }
-{
-    Ok(Seq::of(locals[place..place + count].to_vec(alloc)?))
+impl Machine {
+    /// The next instruction of a machine that goes on.
+    pub(crate) fn next_instr(&self, code: &Code) -> Instr
+        requires fits { FitsCode code.now (state_of self.now) }
+        requires going { IsGoing (state_of self.now) }
+        ensures { next_of code.now (state_of self.now) ≡ Some result }
+    {
+        let function = &code.functions.as_slice()[self.frames.function() as usize];
+        function.body.as_slice()[self.frames.next() as usize]
+    }
+
+    /// The returned words and the heap of a machine that has halted. It takes no memory.
+    pub(crate) fn into_halt(self) -> End
+        requires { IsHalted (state_of self) }
+        ensures { HaltsAs (state_of self) result }
+    {
+        let Machine {
+            alloc: _,
+            heap,
+            frames,
+            over: _,
+        } = self;
+        End::Halted(Seq::of(frames.into_words()), heap)
+    }
+
+    /// One step of the written machine, with `fresh` as its first choice of a location, whatever
+    /// choices stand behind it. A machine that is over answers the same again and doesn't read
+    /// `fresh`. It takes memory at `alloc`, `call` and `tail` alone; after an error nothing has
+    /// changed.
+    pub fn step(&mut self, code: &Code, fresh: u64) -> Result<Stepped, AllocError>
+        requires valid { IsValid code.now }
+        requires fits { FitsCode code.now (state_of self.old) }
+        ensures steps { IfOk result (λ stepped. (rest : List ℕ) → StepsTo code.now (state_of self.old) fresh rest stepped (state_of self.new)) }
+        ensures unchanged { OnErr result (state_of self.new ≡ state_of self.old) }
+        ensures fits { FitsCode code.now (state_of self.new) }
+    {
+        if let Some(over) = self.over {
+            return Ok(answer_of(over));
+        }
+        let function = &code.functions.as_slice()[self.frames.function() as usize];
+        let instr = function.body.as_slice()[self.frames.next() as usize];
+        let stepped = self.perform(code, function, instr, fresh)?;
+        self.over = over_after(stepped);
+        Ok(stepped)
+    }
 }
 
-#[cfg(test)]
-mod tests;
+/// How the machine is over after a step, if it is.
+fn over_after(stepped: Stepped) -> Option<Over>
+    ensures { result ≡ over_after stepped }
+{
+    match stepped {
+        Stepped::Halted => Some(Over::Halted),
+        Stepped::Fault(kind, at) => Some(Over::Fault(kind, at)),
+        Stepped::Going | Stepped::Asks => None,
+    }
+}
+
+/// What a machine that is over answers.
+fn answer_of(over: Over) -> Stepped
+    ensures { result ≡ answer_of over }
+{
+    match over {
+        Over::Halted => Stepped::Halted,
+        Over::Fault(kind, at) => Stepped::Fault(kind, at),
+    }
+}

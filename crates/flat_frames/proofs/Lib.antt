@@ -1,0 +1,4 @@
+pub mod Copies
+pub mod Parts
+pub mod Stacks
+pub mod Calls

@@ -1,0 +1,5 @@
+pub mod Words
+pub mod Standing
+pub mod Fitting
+pub mod Asking
+pub mod Supplied
