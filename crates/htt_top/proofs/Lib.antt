@@ -1,3 +1,5 @@
-pub mod AnswerLemmas
+pub mod EndLemmas
 pub mod ExactLemmas
-pub mod RunLemmas
+pub mod PrintedLemmas
+pub mod ReadLemmas
+pub mod ValueLemmas
