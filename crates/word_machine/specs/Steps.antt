@@ -1,6 +1,6 @@
 -- What a step answers, and what it leaves.
-use Rattle.std.specs.Prelude.{ℕ, ◌≡◌, ◌+◌, List, ◌∷◌, Option, Some, None}
-use Rattle.htt_values.specs.Heaps.{Heap}
+use Rattle.std.specs.Prelude.{ℕ, ◌≡◌, ◌+◌, List, ◌∷◌, length, nat_eq, if◌then◌else◌, Option, Some, None}
+use Rattle.htt_values.specs.Heaps.{Heap, Block}
 use Rattle.flat_frames.specs.Stacks.{locals_of}
 use Rattle.word_loader.specs.declared.code.Code.{Code}
 use Rattle.word_loader.specs.declared.code.Instr.{Instr}
@@ -57,3 +57,8 @@ Performs Going h stack h' stack' left written = written ≡ going h' stack' left
 Performs Halted h stack h' stack' left written = written ≡ halted (locals_of stack') h'
 Performs (Fault kind l) h stack h' stack' left written = written ≡ faulted kind l
 Performs Asks h stack h' stack' left written = (written ≡ asking) × (h' ≡ h) × (stack' ≡ stack)
+
+-- a block of this length
+abbrev pub fitting : Option Block → ℕ → Option Block
+fitting None n = None
+fitting (Some block) n = if nat_eq (length block) n then Some block else None

@@ -1,13 +1,13 @@
 //! The instructions that work on blocks of the heap. A place is the number of a local word, and the
 //! word at it is a location.
 
-ghost use Rattle.std.specs.Prelude.{ℕ, ◌≡◌, ◌+◌, ◌<◌, ◌≤◌, ◌^◌, List, [], ◌∷◌, length, IfOk, OnErr};
+ghost use Rattle.std.specs.Prelude.{ℕ, ◌≡◌, ◌+◌, ◌<◌, ◌≤◌, ◌^◌, List, [], ◌∷◌, length, option_copied, IfOk, OnErr};
 ghost use Rattle.htt_words.specs.declared.words.Kind.TheVariants as kinds;
 ghost use Rattle.htt_values.specs.Heaps.{with_block, without_block};
 ghost use Rattle.word_loader.specs.Machine.{top, going, word_at, words_at, goes_on, with_choice, at_block, is_fresh};
 ghost use Rattle.flat_heap.specs.Blocks.{blocks_of};
 ghost use Rattle.flat_frames.specs.Stacks.{locals_of, written};
-ghost use Rattle.word_machine.specs.Steps.{Performs};
+ghost use Rattle.word_machine.specs.Steps.{Performs, fitting};
 
 use crate::stepped::Stepped;
 use flat_frames::Frames;
@@ -55,12 +55,9 @@ pub(crate) fn get_block(heap: &Heap, frames: &mut Frames, d: u16, p: u16, n: u16
     ensures { (left : List ℕ) → Performs result (blocks_of heap.now) frames.old (blocks_of heap.now) frames.new left (at_block kinds.Get (word_at (locals_of frames.old) p) (blocks_of heap.now (word_at (locals_of frames.old) p)) n (λ block. going (blocks_of heap.now) (written frames.old d block) left)) }
 {
     let at = frames.word(p);
-    let Some(block) = heap.get(at) else {
+    let Some(block) = fitting_block(heap, at, n) else {
         return Stepped::Fault(Kind::Get, at);
     };
-    if block.len() != n as usize {
-        return Stepped::Fault(Kind::Get, at);
-    }
     frames.put_words(d, block);
     Stepped::Going
 }
@@ -87,13 +84,22 @@ pub(crate) fn free_block(heap: &mut Heap, frames: &mut Frames, p: u16, n: u16) -
     ensures { (left : List ℕ) → Performs result (blocks_of heap.old) frames.old (blocks_of heap.new) frames.new left (at_block kinds.Free (word_at (locals_of frames.old) p) (blocks_of heap.old (word_at (locals_of frames.old) p)) n (λ block. going (without_block (blocks_of heap.old) (word_at (locals_of frames.old) p)) (goes_on frames.old ((top frames.old).next + 1) (locals_of frames.old)) left)) }
 {
     let at = frames.word(p);
-    let Some(block) = heap.get(at) else {
-        return Stepped::Fault(Kind::Free, at);
-    };
-    if block.len() != n as usize {
+    if fitting_block(heap, at, n).is_none() {
         return Stepped::Fault(Kind::Free, at);
     }
     heap.remove(at);
     frames.go_on();
     Stepped::Going
+}
+
+/// The block at the location, if there is one of this length.
+fn fitting_block(heap: &Heap, at: u64, length: u16) -> Option<&[u64]>
+    ensures { option_copied result ≡ fitting (blocks_of heap.now at) length }
+{
+    let block = heap.get(at)?;
+    if block.len() == length as usize {
+        Some(block)
+    } else {
+        None
+    }
 }
