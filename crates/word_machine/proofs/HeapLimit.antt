@@ -6,7 +6,7 @@ use Rattle.htt_words.specs.declared.words.Bound.{Bound}
 use Rattle.htt_words.specs.declared.words.Bound.TheVariants as bounds
 use Rattle.htt_values.specs.Heaps.{Heap}
 use Rattle.flat_heap.specs.Listing.{IsSize}
-use Rattle.flat_heap.proofs.ListingLemmas.{listing_laws}
+use Rattle.flat_heap.proofs.ChangedListing.{listing_laws}
 use Rattle.word_loader.specs.declared.code.Code.{Code}
 use Rattle.word_loader.specs.declared.code.Instr.TheVariants.{Alloc}
 use Rattle.word_loader.specs.Machine.{Stack}
