@@ -1,5 +1,5 @@
 -- A run has one end.
-use Rattle.std.proofs.Common.{ℕ, ◌≡◌, ◌+◌, ◌-◌, ◌<◌, ◌≤◌, ◌⊎◌, List, Option, Some, None, Result, Ok, Err, refl, sym, ap, subst, ◌∙◌, arith, ⊎_elim, inl, inr, slice_get}
+use Rattle.std.proofs.Common.{ℕ, suc, ◌≡◌, ◌+◌, ◌-◌, ◌<◌, ◌≤◌, ◌⊎◌, List, Option, Some, None, Result, Ok, Err, refl, sym, ap, subst, ◌∙◌, arith, ⊎_elim, inl, inr, slice_get}
 use Rattle.std.proofs.lemmas.Bool.{cases_lt}
 use Rattle.htt_words.specs.declared.words.Bound.{Bound}
 use Rattle.htt_words.specs.declared.words.Bound.TheVariants.{Step, Frame, Heap as HeapBound, Fuel, Turns}
@@ -24,6 +24,16 @@ use Rattle.word_machine.specs.declared.runs.End.TheVariants as ends
 use Rattle.command_answers.specs.declared.answer.Refusal.TheVariants.{Fault, Stopped, NoMemory}
 use Rattle.command_answers.specs.Answers.{Answer, halt}
 use Rattle.htt_top.specs.Stages.{answer_of_end}
+
+-- numbers alone, so that no tactic reads a run
+sum_back : (n m : ℕ) → n ≤ m → n + (m - n) ≡ m
+sum_back n m d = omega arith
+
+at_most : (n m : ℕ) → n < m → n ≤ m
+at_most n m d = omega arith
+
+between : (n m : ℕ) → n ≤ m → m ≤ n → n ≡ m
+between n m d f = omega arith
 
 -- ---- an instruction passes one limit, with one total
 
@@ -109,7 +119,7 @@ IsFact code h cs steps (stopped_by b t) = IsStopped code h cs steps b t ⊎ ((b 
 
 module _ (code : Code) (h : Heap) (cs : List ℕ) (steps : ℕ) where
   stays : (n m : ℕ) → n ≤ m → IsOver (machine_after code h cs n) → machine_after code h cs m ≡ machine_after code h cs n
-  stays n m d o = let e : n + (m - n) ≡ m = omega arith in subst (λ k. machine_after code h cs k ≡ machine_after code h cs n) e (over_is_final_lem code h cs n (m - n) o)
+  stays n m d o = subst (λ k. machine_after code h cs k ≡ machine_after code h cs n) (sum_back n m d) (over_is_final_lem code h cs n (m - n) o)
 
   over_there : (s : State) (n m : ℕ) → n ≤ m → machine_after code h cs n ≡ s → IsOver s → machine_after code h cs m ≡ s
   over_there s n m d e o = stays n m d (subst IsOver (sym e) o) ∙ e
@@ -117,7 +127,7 @@ module _ (code : Code) (h : Heap) (cs : List ℕ) (steps : ℕ) where
   one_state : (s t : State) → Reaches code h cs steps s → Reaches code h cs steps t → IsOver s → IsOver t → s ≡ t
   one_state s t r q o p =
       ⊎_elim
-      (λ (d : r.count < q.count). sym (over_there s r.count q.count (omega arith) r.there o) ∙ q.there)
+      (λ (d : r.count < q.count). sym (over_there s r.count q.count (at_most r.count q.count d) r.there o) ∙ q.there)
       (λ (d : q.count ≤ r.count). sym r.there ∙ over_there t q.count r.count d q.there p)
       (cases_lt r.count q.count)
 
@@ -139,8 +149,7 @@ module _ (code : Code) (h : Heap) (cs : List ℕ) (steps : ℕ) where
           ⊎_elim
           (λ (f : q.count < p.count). absurd (p.unstopped q.count f c u q.stops))
           (λ (f : p.count ≤ q.count).
-              let e : q.count ≡ p.count = omega arith in
-              stops_agree code (machine_after code h cs p.count) b c t u p.stops (subst (λ k. StopsAt code (machine_after code h cs k) c u) e q.stops))
+              stops_agree code (machine_after code h cs p.count) b c t u p.stops (subst (λ k. StopsAt code (machine_after code h cs k) c u) (between q.count p.count d f) q.stops))
           (cases_lt q.count p.count))
       (cases_lt p.count q.count)
 
@@ -175,7 +184,7 @@ module _ (code : Code) (h : Heap) (cs : List ℕ) (steps : ℕ) where
   fact_holds (ends.Stopped Turns t) p = inl p
 
 one_choice : (h : Heap) (n : ℕ) (cs ds : List ℕ) → AreShipped h n cs → AreShipped h n ds → cs ≡ ds
-one_choice h n cs ds p q = p.in_order ∙ ap (λ (g : ℕ). numbers_from (g + 1) n) (suffices.greatest_is_one h p.greatest q.greatest p.is_greatest q.is_greatest) ∙ sym q.in_order
+one_choice h n cs ds p q = p.in_order ∙ ap (λ (g : ℕ). numbers_from (suc g) n) (suffices.greatest_is_one h p.greatest q.greatest p.is_greatest q.is_greatest) ∙ sym q.in_order
 
 -- the end is that of each fact of the run
 pub fact_of_end : (code : Code) (h : Heap) (steps : ℕ) (e : End) (f : Fact) → EndsShipped code h steps e → ((cs : List ℕ) → AreShipped h steps cs → IsFact code h cs steps f) → fact_of e ≡ f

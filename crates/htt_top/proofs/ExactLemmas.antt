@@ -38,14 +38,26 @@ AgreeBy {A = A} Related stage = (x y : Result A Refusal) → stage x → stage y
 abbrev pub Agree : {A : Type 0} → (Result A Refusal → Type 0) → Type 0
 Agree {A = A} stage = (x y : Result A Refusal) → stage x → stage y → x ≢ Err NoMemory → y ≢ Err NoMemory → x ≡ y
 
-values_agree : {A : Type 0} {a b : A} → Ok {E = Refusal} a ≡ Ok b → a ≡ b
+abbrev value_result : {A : Type 0} → A → Result A Refusal
+value_result a = Ok a
+
+abbrev refusal_result : {A : Type 0} → Refusal → Result A Refusal
+refusal_result r = Err r
+
+values_agree : {A : Type 0} {a b : A} → value_result a ≡ value_result b → a ≡ b
 values_agree e = cc
 
 some_agree : {A : Type 0} {a b : A} → Some a ≡ Some b → a ≡ b
 some_agree e = cc
 
-ok_is_some : {A : Type 0} {a : A} {r : Refusal} → Ok a ≡ Err r → ⊥
-ok_is_some e = cc
+refusals_agree : {A : Type 0} {r q : Refusal} → refusal_result {A = A} r ≡ refusal_result q → r ≡ q
+refusals_agree e = cc
+
+ok_is_no_err : {A : Type 0} {a : A} {r : Refusal} → value_result a ≡ refusal_result r → ⊥
+ok_is_no_err e = cc
+
+too_long : (a b n : ℕ) → a ≡ b → a ≤ n → n < b → ⊥
+too_long a b n e d f = omega arith
 
 then_agree : {A B : Type 0} (Related : Result B Refusal → Result B Refusal → Type 0) (related : (x : Result B Refusal) → Related x x)
     (first : Result A Refusal → Type 0) (next : A → Result B Refusal → Type 0)
@@ -53,20 +65,19 @@ then_agree : {A B : Type 0} (Related : Result B Refusal → Result B Refusal →
 then_agree {A = A} {B = B} Related related first next f n x y p q m k =
     ⊎_elim
     (λ (i : (refusal : Refusal) × first (Err refusal) × (x ≡ Err refusal)).
-        let at_x : Err {T = A} i.0 ≢ Err NoMemory = λ e. m (let z : x ≡ Err NoMemory = cc in z) in
         ⊎_elim
         (λ (j : (refusal : Refusal) × first (Err refusal) × (y ≡ Err refusal)).
-            let e = f (Err i.0) (Err j.0) i.1 j.1 at_x (λ d. k (let z : y ≡ Err NoMemory = cc in z)) in
-            let same : x ≡ y = cc in
-            subst (Related x) same (related x))
-        (λ (j : (a : A) × first (Ok a) × next a y). absurd (ok_is_some (sym (f (Err i.0) (Ok j.0) i.1 j.1 at_x (λ d. cc)))))
+            let e = refusals_agree (f (Err i.0) (Err j.0) i.1 j.1 (λ d. m (i.2 ∙ ap Err (refusals_agree d))) (λ d. k (j.2 ∙ ap Err (refusals_agree d)))) in
+            subst (Related x) (i.2 ∙ ap Err e ∙ sym j.2) (related x))
+        (λ (j : (a : A) × first (Ok a) × next a y).
+            absurd (ok_is_no_err (sym (f (Err i.0) (Ok j.0) i.1 j.1 (λ d. m (i.2 ∙ ap Err (refusals_agree d))) ok_is_no_err))))
         q)
     (λ (i : (a : A) × first (Ok a) × next a x).
         ⊎_elim
         (λ (j : (refusal : Refusal) × first (Err refusal) × (y ≡ Err refusal)).
-            absurd (ok_is_some (f (Ok i.0) (Err j.0) i.1 j.1 (λ d. cc) (λ d. k (let z : y ≡ Err NoMemory = cc in z)))))
+            absurd (ok_is_no_err (f (Ok i.0) (Err j.0) i.1 j.1 ok_is_no_err (λ d. k (j.2 ∙ ap Err (refusals_agree d))))))
         (λ (j : (a : A) × first (Ok a) × next a y).
-            let e : i.0 ≡ j.0 = values_agree (f (Ok i.0) (Ok j.0) i.1 j.1 (λ d. cc) (λ d. cc)) in
+            let e = values_agree (f (Ok i.0) (Ok j.0) i.1 j.1 ok_is_no_err ok_is_no_err) in
             n i.0 x y i.2 (subst (λ a. next a y) (sym e) j.2) m k)
         q)
     p
@@ -278,7 +289,7 @@ module _ (s : Seen) (held : Held) (is_told : s.held ≡ Some held) (quiet : Rose
   one_content name b c p q = some_agree (sym p ∙ q)
 
   not_both : (name b c : List ℕ) (n : ℕ) → held name ≡ Some b → held name ≡ Some c → length b ≤ n → n < length c → ⊥
-  not_both name b c n p q d f = let e = ap length (one_content name b c p q) in omega arith
+  not_both name b c n p q d f = too_long (length b) (length c) n (ap length (one_content name b c p q)) d f
 
   file_agrees : (name : List ℕ) (which : Which) → Agree (FileGives s name which)
   file_agrees name which x y p q m k =

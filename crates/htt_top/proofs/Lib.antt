@@ -3,3 +3,5 @@ pub mod ExactLemmas
 pub mod PrintedLemmas
 pub mod ReadLemmas
 pub mod ValueLemmas
+pub mod SizeLemmas
+pub mod TextLemmas

@@ -42,11 +42,14 @@ reads_both a b (Some r) mid now h g =
 
 -- ---- a stage in a longer call
 
+rose_wider : (a b c d : ℕ) → c ≤ a → b ≤ d → Rose a b → Rose c d
+rose_wider a b c d earlier later h = omega arith
+
 module _ (held : Option Held) (a b c d : ℕ) (earlier : c ≤ a) (later : b ≤ d) where
   pub file_wider : (name : List ℕ) (which : Which) (x : Result (List ℕ) Refusal) → FileGives (seen held a b) name which x → FileGives (seen held c d) name which x
   file_wider name which (Ok bytes) h = h
   file_wider name which (Err (Limit passed)) h = h
-  file_wider name which (Err ReadFault) h = omega arith
+  file_wider name which (Err ReadFault) h = rose_wider a b c d earlier later h
   file_wider name which (Err NoMemory) h = h
   file_wider name which (Err Usage) h = h
   file_wider name which (Err (Syntax at kind)) h = h

@@ -13,13 +13,13 @@ use Rattle.htt_top.specs.Due.{Due}
 
 -- a command prints what is due, and its status is that of the answer, unless printing it fails
 abbrev pub Answers : List (List ℕ) → Seen → Printed → Status → Type 0
-Answers words s p status = (due : Answer) × Due words s due × Prints p due status
+Answers words s p answer = (due : Answer) × Due words s due × Prints p due answer
 
 -- nothing of the outside came between: no count of faults rose, and memory didn't run out
-pub record IsUndisturbed (s : Seen) (p : Printed) (status : Status) : Type 0 where
+pub record IsUndisturbed (s : Seen) (p : Printed) (answer : Status) : Type 0 where
   pub no_read_fault : Rose s.before s.now → ⊥
   pub no_print_fault : Rose p.faults_before p.faults_after → ⊥
-  pub memory : status ≢ status.NoMemory
+  pub memory : answer ≢ status.NoMemory
 
 -- one answer; the place and the kind of a text that isn't a file are free
 abbrev pub IsSameAnswer : Answer → Answer → Type 0
@@ -29,6 +29,6 @@ IsSameAnswer due given = given ≡ due
 -- where the files tell what they hold and nothing of the outside came between, a command answers
 -- whatever is due to it and prints all its lines: each answer comes exactly where its cause stands
 abbrev pub AnswersExactly : List (List ℕ) → Seen → Printed → Status → Type 0
-AnswersExactly words s p status =
-    (held : Held) → s.held ≡ Some held → IsUndisturbed s p status → (due : Answer) → Due words s due → due ≢ Err NoMemory →
-    (given : Answer) × IsSameAnswer due given × (status ≡ status_of given) × ((lines : List ℕ) × AreLines given lines × Appended p lines)
+AnswersExactly words s p answer =
+    (held : Held) → s.held ≡ Some held → IsUndisturbed s p answer → (due : Answer) → Due words s due → due ≢ Err NoMemory →
+    (given : Answer) × IsSameAnswer due given × (answer ≡ status_of given) × ((lines : List ℕ) × AreLines given lines × Appended p lines)

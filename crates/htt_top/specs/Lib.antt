@@ -4,3 +4,4 @@ pub mod Stages
 pub mod Due
 pub mod Answers
 pub mod Views
+pub mod Laws

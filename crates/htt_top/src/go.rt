@@ -51,7 +51,8 @@ fn code_of(alloc: Global, number: u64) -> Result<Code, AllocError>
 
 /// The same code, loaded from its written bytes.
 fn loaded_code_of(alloc: Global, number: u64) -> Result<Code, AllocError>
-    ensures { IfOk result (λ code. code ≡ code_of number) }
+    ensures code { IfOk result (λ code. code ≡ code_of number) }
+    ensures valid { IfOk result IsValid }
 {
     let code = code_of(alloc, number)?;
     let bytes = write_code(alloc, &code)?;

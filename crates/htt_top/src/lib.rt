@@ -4,10 +4,12 @@
 
 mod command;
 mod go;
+mod laws;
 mod read;
 mod run;
 
 pub use command::htt_command;
+pub use laws::heap_files_fit;
 
 #[cfg(test)]
 mod tests;

@@ -59,8 +59,8 @@ fn start_heap<F: Files>(
     files: &mut F,
     name: Option<&str>,
 ) -> Result<Heap, Refusal>
-    ensures gives { StartGives (seen (F.held files.old) (F.read_faults files.old) (F.read_faults files.new)) (option_map (λ n. n.now) name) (blocks_result result) }
-    ensures reads { ReadsOf (names_of (option_map (λ n. n.now) name)) (F.reads files.old) (F.reads files.new) }
+    ensures gives { StartGives (seen (F.held files.old) (F.read_faults files.old) (F.read_faults files.new)) (option_map (λ n. n.now) name.entry) (blocks_result result) }
+    ensures reads { ReadsOf (names_of (option_map (λ n. n.now) name.entry)) (F.reads files.old) (F.reads files.new) }
     ensures counts { F.read_faults files.old ≤ F.read_faults files.new }
     ensures held { F.held files.new ≡ F.held files.old }
     ensures write_faults { F.write_faults files.new ≡ F.write_faults files.old }
@@ -96,8 +96,8 @@ pub(crate) fn load_and_run<F: Files>(
     steps: u64,
 ) -> Result<Success, Refusal>
     requires { steps ≤ 1000000000 }
-    ensures due { let s = seen (F.held files.old) (F.read_faults files.old) (F.read_faults files.new) in Then (CodeGives s code.now) (λ c. Then (StartGives s (option_map (λ n. n.now) heap)) (λ h. RunGives c h steps)) (answer_of result) }
-    ensures reads { ReadsOf (code.now ∷ names_of (option_map (λ n. n.now) heap)) (F.reads files.old) (F.reads files.new) }
+    ensures due { let s = seen (F.held files.old) (F.read_faults files.old) (F.read_faults files.new) in Then (CodeGives s code.now) (λ c. Then (StartGives s (option_map (λ n. n.now) heap.entry)) (λ h. RunGives c h steps)) (answer_of result) }
+    ensures reads { ReadsOf (code.now ∷ names_of (option_map (λ n. n.now) heap.entry)) (F.reads files.old) (F.reads files.new) }
     ensures held { F.held files.new ≡ F.held files.old }
     ensures write_faults { F.write_faults files.new ≡ F.write_faults files.old }
 {
