@@ -5,3 +5,4 @@ pub mod ReadLemmas
 pub mod ValueLemmas
 pub mod SizeLemmas
 pub mod TextLemmas
+pub mod DueLemmas
