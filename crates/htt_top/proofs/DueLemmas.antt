@@ -1,5 +1,9 @@
 -- How the answer of a run becomes due, stage by stage.
-use Rattle.std.proofs.Common.{ℕ, ◌≡◌, ◌≤◌, ◌<◌, ◌^◌, List, Option, Some, None, Result, Ok, Err, refl, sym, ap, subst, arith, inl, inr, ⊎_elim}
+use Rattle.std.proofs.Common.{ℕ, ◌≡◌, ◌≤◌, ◌<◌, ◌^◌, List, Option, Some, None, Result, Ok, Err, refl, sym, ap, subst, ◌∙◌, arith, inl, inr, ⊎_elim}
+use Rattle.std.specs.Option.{unwrap_or}
+use Rattle.command_words.specs.Forms.{Form, run, HasForm}
+use Rattle.htt_top.specs.Words.{step_limit}
+use Rattle.htt_top.specs.Due.{Due}
 use Rattle.htt_base.specs.Outside.{Held}
 use Rattle.htt_values.specs.Heaps.{Heap, InUse, empty_heap}
 use Rattle.word_loader.specs.declared.code.Code.{Code}
@@ -32,7 +36,7 @@ module _ (held mid : Option Held) (a b c : ℕ) (name : List ℕ) (heap : Option
   due_no_heap r x p e = inr (code, code_seen, inl (r, start_seen (Err r) p, e))
 
   pub due_run : (h : Heap) (x : Answer) → StartGives (seen mid b c) heap (Ok h) → RunGives code h steps x → RunDue (seen held a c) name heap steps x
-  due_run h x p run = inr (code, code_seen, inr (h, start_seen (Ok h) p, run))
+  due_run h x p ran = inr (code, code_seen, inr (h, start_seen (Ok h) p, ran))
 
 -- ---- what a run may start from
 
@@ -56,3 +60,12 @@ started_is_low s (Some name) h p =
     (λ (i : (refusal : Refusal) × FileGives s name HeapFile (Err refusal) × (Ok h ≡ Err refusal)). absurd (ok_is_no_err h i.0 (Ok h) refl i.2))
     (λ (i : (bytes : List ℕ) × FileGives s name HeapFile (Ok bytes) × HeapGives bytes (Ok h)). i.2.below)
     p
+
+-- ---- the words
+
+limit_is : (steps : Option ℕ) → unwrap_or steps 10000000 ≡ step_limit steps
+limit_is None = refl
+limit_is (Some n) = refl
+
+pub due_of_run : (words : List (List ℕ)) (s : Seen) (code : List ℕ) (heap : Option (List ℕ)) (steps : Option ℕ) (n : ℕ) (x : Answer) → HasForm words (run code heap steps) → n ≡ unwrap_or steps 10000000 → RunDue s code heap n x → Due words s x
+due_of_run words s code heap steps n x form e due = inr (run code heap steps, form, subst (λ k. RunDue s code heap k x) (e ∙ limit_is steps) due)

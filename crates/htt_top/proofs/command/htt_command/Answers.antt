@@ -1,11 +1,13 @@
-use Rattle.std.proofs.Common.{Err, ⊎_elim}
-use Rattle.command_answers.specs.declared.answer.Refusal.TheVariants.{NoMemory}
-use Rattle.command_answers.specs.Answers.{answer_of}
+use Rattle.command_answers.specs.Printing.{printed}
 use Rattle.htt_top.proofs.PrintedLemmas.{answers_exactly, answers_of}
 use Rattle.htt_top.proofs.command.htt_command.Goals as goal
 
-pub returns-clause-exactly : goal.returns-clause-exactly
-returns-clause-exactly g c = answers_exactly _ _ _ _ (answers_of _ _ _ _ _ c.answer-answer.ensures.due c.print.ensures)
-
 pub returns-clause-answers : goal.returns-clause-answers
-returns-clause-answers g c = answers_of _ _ _ _ _ c.answer-answer.ensures.due c.print.ensures
+returns-clause-answers g c =
+    let p = printed (g.O.Sink.written c.args.out.now) (g.O.Sink.written c.print.new.out) (g.O.Sink.faults c.args.out.now) (g.O.Sink.faults c.print.new.out) in
+    answers_of _ _ p _ c.print.result c.answer-answer.ensures.due c.print.ensures
+
+pub returns-clause-exactly : goal.returns-clause-exactly
+returns-clause-exactly g c =
+    let p = printed (g.O.Sink.written c.args.out.now) (g.O.Sink.written c.print.new.out) (g.O.Sink.faults c.args.out.now) (g.O.Sink.faults c.print.new.out) in
+    answers_exactly _ _ p c.print.result (answers_of _ _ p _ c.print.result c.answer-answer.ensures.due c.print.ensures)
