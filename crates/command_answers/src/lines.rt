@@ -114,13 +114,28 @@ fn refusal_line(alloc: Global, refusal: &Refusal) -> Result<String, AllocError>
     match refusal {
         Refusal::Usage => String::from_str(alloc, "usage\n"),
         Refusal::ReadFault => String::from_str(alloc, "read fault\n"),
-        Refusal::Limit(which) => counted_line(alloc, "limit ", limit_word(*which), limit_of(*which) + 1),
+        Refusal::Limit(which) => counted_line(
+            alloc,
+            "limit ",
+            limit_word(*which),
+            limit_of(*which) + 1,
+        ),
         Refusal::Syntax { at, kind } => syntax_line(alloc, *at, kind_word(*kind)),
         Refusal::NotInferred { at } => number_line(alloc, "no main.1 ", *at, " infer\n"),
         Refusal::BadCode { at } => number_line(alloc, "bad code ", *at, "\n"),
         Refusal::BadHeap { line } => number_line(alloc, "bad heap ", *line, "\n"),
-        Refusal::Fault { kind, location } => counted_line(alloc, "fault ", fault_word(*kind), *location),
-        Refusal::Stopped { bound, count } => counted_line(alloc, "stopped ", bound_word(*bound), *count),
+        Refusal::Fault { kind, location } => counted_line(
+            alloc,
+            "fault ",
+            fault_word(*kind),
+            *location,
+        ),
+        Refusal::Stopped { bound, count } => counted_line(
+            alloc,
+            "stopped ",
+            bound_word(*bound),
+            *count,
+        ),
         Refusal::NoMemory => String::from_str(alloc, NO_MEMORY),
     }
 }
@@ -147,10 +162,7 @@ fn halt_lines(alloc: Global, words: &[u64], heap: &Heap) -> Result<Vec<u8>, Allo
 }
 
 /// The lines of an answer, each with its line feed.
-pub(crate) fn lines(
-    alloc: Global,
-    answer: &Result<Success, Refusal>,
-) -> Result<Vec<u8>, AllocError>
+pub(crate) fn lines(alloc: Global, answer: &Result<Success, Refusal>) -> Result<Vec<u8>, AllocError>
     ensures { IfOk result (λ lines. AreLines (answer_of answer.now) lines.items) }
 {
     match answer {

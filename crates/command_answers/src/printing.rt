@@ -37,11 +37,7 @@ fn put_lines<O: Sink>(
 
 /// Prints the lines of an answer, or, where memory for them is wanting, the line that says so. The
 /// status is that of the answer, unless printing fails.
-pub fn print<O: Sink>(
-    alloc: Global,
-    answer: &Result<Success, Refusal>,
-    out: &mut O,
-) -> Status
+pub fn print<O: Sink>(alloc: Global, answer: &Result<Success, Refusal>, out: &mut O) -> Status
     ensures { let p = printed (O.written out.old) (O.written out.new) (O.faults out.old) (O.faults out.new) in Prints p (answer_of answer.now) result ⊎ Prints p (Err NoMemory) result }
 {
     match lines(alloc, answer) {

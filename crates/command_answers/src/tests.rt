@@ -34,8 +34,20 @@ fn each_refusal_has_its_line(rt: HostRuntime) -> Result<(), Fail> {
         (Refusal::NotInferred { at: 78 }, "no main.1 78 infer\n"),
         (Refusal::BadCode { at: 20 }, "bad code 20\n"),
         (Refusal::BadHeap { line: 2 }, "bad heap 2\n"),
-        (Refusal::Fault { kind: free, location: 0 }, "fault free 0\n"),
-        (Refusal::Stopped { bound: step, count: 10 }, "stopped step 10\n"),
+        (
+            Refusal::Fault {
+                kind: free,
+                location: 0,
+            },
+            "fault free 0\n",
+        ),
+        (
+            Refusal::Stopped {
+                bound: step,
+                count: 10,
+            },
+            "stopped step 10\n",
+        ),
         (Refusal::NoMemory, "no memory\n"),
     ] {
         let (status, bytes) = printed(rt.alloc(), &Err(refusal))?;

@@ -146,11 +146,11 @@ module _ (code : Code) (h : Heap) (cs : List ℕ) (steps : ℕ) where
       ⊎_elim
       (λ (d : p.count < q.count). absurd (q.unstopped p.count d b t p.stops))
       (λ (d : q.count ≤ p.count).
-          ⊎_elim
-          (λ (f : q.count < p.count). absurd (p.unstopped q.count f c u q.stops))
-          (λ (f : p.count ≤ q.count).
-              stops_agree code (machine_after code h cs p.count) b c t u p.stops (subst (λ k. StopsAt code (machine_after code h cs k) c u) (between q.count p.count d f) q.stops))
-          (cases_lt q.count p.count))
+      ⊎_elim
+      (λ (f : q.count < p.count). absurd (p.unstopped q.count f c u q.stops))
+      (λ (f : p.count ≤ q.count).
+      stops_agree code (machine_after code h cs p.count) b c t u p.stops (subst (λ k. StopsAt code (machine_after code h cs k) c u) (between q.count p.count d f) q.stops))
+      (cases_lt q.count p.count))
       (cases_lt p.count q.count)
 
   stop_uses : (b : Bound) (t : ℕ) → IsStopped code h cs steps b t → UsesSteps code h cs steps → ⊥
@@ -163,15 +163,15 @@ module _ (code : Code) (h : Heap) (cs : List ℕ) (steps : ℕ) where
   facts_agree (stopped_by b t) (stopped_by c u) p q =
       ⊎_elim
       (λ (x : IsStopped code h cs steps b t).
-          ⊎_elim
-          (λ (y : IsStopped code h cs steps c u). let e = stop_stop b c t u x y in λ j. stopped_by (e.0 j) (e.1 j))
-          (λ (y : (c ≡ Step) × (u ≡ steps) × UsesSteps code h cs steps). absurd (stop_uses b t x y.2))
-          q)
+      ⊎_elim
+      (λ (y : IsStopped code h cs steps c u). let e = stop_stop b c t u x y in λ j. stopped_by (e.0 j) (e.1 j))
+      (λ (y : (c ≡ Step) × (u ≡ steps) × UsesSteps code h cs steps). absurd (stop_uses b t x y.2))
+      q)
       (λ (x : (b ≡ Step) × (t ≡ steps) × UsesSteps code h cs steps).
-          ⊎_elim
-          (λ (y : IsStopped code h cs steps c u). absurd (stop_uses c u y x.2))
-          (λ (y : (c ≡ Step) × (u ≡ steps) × UsesSteps code h cs steps). λ j. stopped_by ((x.0 ∙ sym y.0) j) ((x.1 ∙ sym y.1) j))
-          q)
+      ⊎_elim
+      (λ (y : IsStopped code h cs steps c u). absurd (stop_uses c u y x.2))
+      (λ (y : (c ≡ Step) × (u ≡ steps) × UsesSteps code h cs steps). λ j. stopped_by ((x.0 ∙ sym y.0) j) ((x.1 ∙ sym y.1) j))
+      q)
       p
 
   pub fact_holds : (e : End) → EndsAs code h cs steps e → IsFact code h cs steps (fact_of e)

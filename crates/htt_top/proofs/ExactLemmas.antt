@@ -65,21 +65,21 @@ then_agree : {A B : Type 0} (Related : Result B Refusal → Result B Refusal →
 then_agree {A = A} {B = B} Related related first next f n x y p q m k =
     ⊎_elim
     (λ (i : (refusal : Refusal) × first (Err refusal) × (x ≡ Err refusal)).
-        ⊎_elim
-        (λ (j : (refusal : Refusal) × first (Err refusal) × (y ≡ Err refusal)).
-            let e = refusals_agree (f (Err i.0) (Err j.0) i.1 j.1 (λ d. m (i.2 ∙ ap Err (refusals_agree d))) (λ d. k (j.2 ∙ ap Err (refusals_agree d)))) in
-            subst (Related x) (i.2 ∙ ap Err e ∙ sym j.2) (related x))
-        (λ (j : (a : A) × first (Ok a) × next a y).
-            absurd (ok_is_no_err (sym (f (Err i.0) (Ok j.0) i.1 j.1 (λ d. m (i.2 ∙ ap Err (refusals_agree d))) ok_is_no_err))))
-        q)
+    ⊎_elim
+    (λ (j : (refusal : Refusal) × first (Err refusal) × (y ≡ Err refusal)).
+    let e = refusals_agree (f (Err i.0) (Err j.0) i.1 j.1 (λ d. m (i.2 ∙ ap Err (refusals_agree d))) (λ d. k (j.2 ∙ ap Err (refusals_agree d)))) in
+    subst (Related x) (i.2 ∙ ap Err e ∙ sym j.2) (related x))
+    (λ (j : (a : A) × first (Ok a) × next a y).
+    absurd (ok_is_no_err (sym (f (Err i.0) (Ok j.0) i.1 j.1 (λ d. m (i.2 ∙ ap Err (refusals_agree d))) ok_is_no_err))))
+    q)
     (λ (i : (a : A) × first (Ok a) × next a x).
-        ⊎_elim
-        (λ (j : (refusal : Refusal) × first (Err refusal) × (y ≡ Err refusal)).
-            absurd (ok_is_no_err (f (Ok i.0) (Err j.0) i.1 j.1 ok_is_no_err (λ d. k (j.2 ∙ ap Err (refusals_agree d))))))
-        (λ (j : (a : A) × first (Ok a) × next a y).
-            let e = values_agree (f (Ok i.0) (Ok j.0) i.1 j.1 ok_is_no_err ok_is_no_err) in
-            n i.0 x y i.2 (subst (λ a. next a y) (sym e) j.2) m k)
-        q)
+    ⊎_elim
+    (λ (j : (refusal : Refusal) × first (Err refusal) × (y ≡ Err refusal)).
+    absurd (ok_is_no_err (f (Ok i.0) (Err j.0) i.1 j.1 ok_is_no_err (λ d. k (j.2 ∙ ap Err (refusals_agree d))))))
+    (λ (j : (a : A) × first (Ok a) × next a y).
+    let e = values_agree (f (Ok i.0) (Ok j.0) i.1 j.1 ok_is_no_err ok_is_no_err) in
+    n i.0 x y i.2 (subst (λ a. next a y) (sym e) j.2) m k)
+    q)
     p
 
 -- ---- bytes as code, as a heap, as a text
@@ -101,17 +101,17 @@ load_agrees : (bytes : List ℕ) → Agree (LoadGives bytes)
 load_agrees bytes x y p q m k =
     ⊎_elim
     (λ (i : (code : Code) × (x ≡ Ok code) × Bytes bytes code).
-        ⊎_elim
-        (λ (j : (code : Code) × (y ≡ Ok code) × Bytes bytes code). i.1 ∙ ap Ok (one_code_lem bytes i.0 j.0 i.2 j.2) ∙ sym j.1)
-        (λ (j : (at row : ℕ) × (y ≡ Err (BadCode at)) × IsRefused bytes at row). absurd (coded_isnt_refused_lem bytes i.0 j.0 j.1 i.2 j.3))
-        (load_cases bytes y q k))
+    ⊎_elim
+    (λ (j : (code : Code) × (y ≡ Ok code) × Bytes bytes code). i.1 ∙ ap Ok (one_code_lem bytes i.0 j.0 i.2 j.2) ∙ sym j.1)
+    (λ (j : (at row : ℕ) × (y ≡ Err (BadCode at)) × IsRefused bytes at row). absurd (coded_isnt_refused_lem bytes i.0 j.0 j.1 i.2 j.3))
+    (load_cases bytes y q k))
     (λ (i : (at row : ℕ) × (x ≡ Err (BadCode at)) × IsRefused bytes at row).
-        ⊎_elim
-        (λ (j : (code : Code) × (y ≡ Ok code) × Bytes bytes code). absurd (coded_isnt_refused_lem bytes j.0 i.0 i.1 j.2 i.3))
-        (λ (j : (at row : ℕ) × (y ≡ Err (BadCode at)) × IsRefused bytes at row).
-            let e = (one_refusal_lem bytes i.0 i.1 j.0 j.1 i.3 j.3).0 in
-            i.2 ∙ ap (λ (at : ℕ). Err (BadCode at)) e ∙ sym j.2)
-        (load_cases bytes y q k))
+    ⊎_elim
+    (λ (j : (code : Code) × (y ≡ Ok code) × Bytes bytes code). absurd (coded_isnt_refused_lem bytes j.0 i.0 i.1 j.2 i.3))
+    (λ (j : (at row : ℕ) × (y ≡ Err (BadCode at)) × IsRefused bytes at row).
+    let e = (one_refusal_lem bytes i.0 i.1 j.0 j.1 i.3 j.3).0 in
+    i.2 ∙ ap (λ (at : ℕ). Err (BadCode at)) e ∙ sym j.2)
+    (load_cases bytes y q k))
     (load_cases bytes x p m)
 
 heap_cases : (bytes : List ℕ) (x : Result Heap Refusal) → HeapGives bytes x → x ≢ Err NoMemory → ((h : Heap) × (x ≡ Ok h) × IsHeapFile bytes h) ⊎ ((line : ℕ) × (x ≡ Err (BadHeap line)) × IsBadLine bytes line)
@@ -134,16 +134,16 @@ heap_agrees : (bytes : List ℕ) → Agree (HeapGives bytes)
 heap_agrees bytes x y p q m k =
     ⊎_elim
     (λ (i : (h : Heap) × (x ≡ Ok h) × IsHeapFile bytes h).
-        ⊎_elim
-        (λ (j : (h : Heap) × (y ≡ Ok h) × IsHeapFile bytes h). i.1 ∙ ap Ok (one_heap bytes i.0 j.0 i.2 j.2) ∙ sym j.1)
-        (λ (j : (line : ℕ) × (y ≡ Err (BadHeap line)) × IsBadLine bytes line). absurd (heap_text_laws.bad_is_no_file bytes j.0 i.0 j.2 i.2))
-        (heap_cases bytes y q k))
+    ⊎_elim
+    (λ (j : (h : Heap) × (y ≡ Ok h) × IsHeapFile bytes h). i.1 ∙ ap Ok (one_heap bytes i.0 j.0 i.2 j.2) ∙ sym j.1)
+    (λ (j : (line : ℕ) × (y ≡ Err (BadHeap line)) × IsBadLine bytes line). absurd (heap_text_laws.bad_is_no_file bytes j.0 i.0 j.2 i.2))
+    (heap_cases bytes y q k))
     (λ (i : (line : ℕ) × (x ≡ Err (BadHeap line)) × IsBadLine bytes line).
-        ⊎_elim
-        (λ (j : (h : Heap) × (y ≡ Ok h) × IsHeapFile bytes h). absurd (heap_text_laws.bad_is_no_file bytes i.0 j.0 i.2 j.2))
-        (λ (j : (line : ℕ) × (y ≡ Err (BadHeap line)) × IsBadLine bytes line).
-            i.1 ∙ ap (λ (line : ℕ). Err (BadHeap line)) (heap_text_laws.bad_lines_agree bytes i.0 j.0 i.2 j.2) ∙ sym j.1)
-        (heap_cases bytes y q k))
+    ⊎_elim
+    (λ (j : (h : Heap) × (y ≡ Ok h) × IsHeapFile bytes h). absurd (heap_text_laws.bad_is_no_file bytes i.0 j.0 i.2 j.2))
+    (λ (j : (line : ℕ) × (y ≡ Err (BadHeap line)) × IsBadLine bytes line).
+    i.1 ∙ ap (λ (line : ℕ). Err (BadHeap line)) (heap_text_laws.bad_lines_agree bytes i.0 j.0 i.2 j.2) ∙ sym j.1)
+    (heap_cases bytes y q k))
     (heap_cases bytes x p m)
 
 -- ---- answers
@@ -169,11 +169,11 @@ runs_agree code h steps x y p q m k =
     ⊎_elim
     (λ (i : x ≡ Err NoMemory). absurd (m i))
     (λ (i : (end : End) × EndsShipped code h steps end × (x ≡ answer_of_end end)).
-        ⊎_elim
-        (λ (j : y ≡ Err NoMemory). absurd (k j))
-        (λ (j : (end : End) × EndsShipped code h steps end × (y ≡ answer_of_end end)).
-            same_of x y (i.2 ∙ one_end code h steps i.0 j.0 i.1 j.1 ∙ sym j.2))
-        q)
+    ⊎_elim
+    (λ (j : y ≡ Err NoMemory). absurd (k j))
+    (λ (j : (end : End) × EndsShipped code h steps end × (y ≡ answer_of_end end)).
+    same_of x y (i.2 ∙ one_end code h steps i.0 j.0 i.1 j.1 ∙ sym j.2))
+    q)
     p
 
 form_cases : (f : TextForm) (x : Answer) → FormGives f x → x ≢ Err NoMemory → ((f.claimed ≡ result_of f) × (x ≡ Ok (value (result_of f)))) ⊎ ((f.claimed ≢ result_of f) × (x ≡ Err (NotInferred f.place)))
@@ -194,15 +194,15 @@ form_agrees : (f : TextForm) → Agree (FormGives f)
 form_agrees f x y p q m k =
     ⊎_elim
     (λ (i : (f.claimed ≡ result_of f) × (x ≡ Ok (value (result_of f)))).
-        ⊎_elim
-        (λ (j : (f.claimed ≡ result_of f) × (y ≡ Ok (value (result_of f)))). i.1 ∙ sym j.1)
-        (λ (j : (f.claimed ≢ result_of f) × (y ≡ Err (NotInferred f.place))). absurd (j.0 i.0))
-        (form_cases f y q k))
+    ⊎_elim
+    (λ (j : (f.claimed ≡ result_of f) × (y ≡ Ok (value (result_of f)))). i.1 ∙ sym j.1)
+    (λ (j : (f.claimed ≢ result_of f) × (y ≡ Err (NotInferred f.place))). absurd (j.0 i.0))
+    (form_cases f y q k))
     (λ (i : (f.claimed ≢ result_of f) × (x ≡ Err (NotInferred f.place))).
-        ⊎_elim
-        (λ (j : (f.claimed ≡ result_of f) × (y ≡ Ok (value (result_of f)))). absurd (i.0 j.0))
-        (λ (j : (f.claimed ≢ result_of f) × (y ≡ Err (NotInferred f.place))). i.1 ∙ sym j.1)
-        (form_cases f y q k))
+    ⊎_elim
+    (λ (j : (f.claimed ≡ result_of f) × (y ≡ Ok (value (result_of f)))). absurd (i.0 j.0))
+    (λ (j : (f.claimed ≢ result_of f) × (y ≡ Err (NotInferred f.place))). i.1 ∙ sym j.1)
+    (form_cases f y q k))
     (form_cases f x p m)
 
 text_cases : (bytes : List ℕ) (x : Answer) → GoGives bytes x → x ≢ Err NoMemory → ((f : TextForm) × IsText bytes f × FormGives f x) ⊎ ((at : ℕ) × (kind : SyntaxKind) × (x ≡ Err (Syntax at kind)) × ((f : TextForm) → IsText bytes f → ⊥))
@@ -222,18 +222,18 @@ texts_agree : (bytes : List ℕ) → AgreeBy IsSameAnswer (GoGives bytes)
 texts_agree bytes x y p q m k =
     ⊎_elim
     (λ (i : (f : TextForm) × IsText bytes f × FormGives f x).
-        ⊎_elim
-        (λ (j : (f : TextForm) × IsText bytes f × FormGives f y).
-            let e : j.0 ≡ i.0 = one_form bytes j.0 i.0 j.1 i.1 in
-            same_of x y (form_agrees i.0 x y i.2 (subst (λ f. FormGives f y) e j.2) m k))
-        (λ (j : (at : ℕ) × (kind : SyntaxKind) × (y ≡ Err (Syntax at kind)) × ((f : TextForm) → IsText bytes f → ⊥)). absurd (j.3 i.0 i.1))
-        (text_cases bytes y q k))
+    ⊎_elim
+    (λ (j : (f : TextForm) × IsText bytes f × FormGives f y).
+    let e : j.0 ≡ i.0 = one_form bytes j.0 i.0 j.1 i.1 in
+    same_of x y (form_agrees i.0 x y i.2 (subst (λ f. FormGives f y) e j.2) m k))
+    (λ (j : (at : ℕ) × (kind : SyntaxKind) × (y ≡ Err (Syntax at kind)) × ((f : TextForm) → IsText bytes f → ⊥)). absurd (j.3 i.0 i.1))
+    (text_cases bytes y q k))
     (λ (i : (at : ℕ) × (kind : SyntaxKind) × (x ≡ Err (Syntax at kind)) × ((f : TextForm) → IsText bytes f → ⊥)).
-        ⊎_elim
-        (λ (j : (f : TextForm) × IsText bytes f × FormGives f y). absurd (i.3 j.0 j.1))
-        (λ (j : (at : ℕ) × (kind : SyntaxKind) × (y ≡ Err (Syntax at kind)) × ((f : TextForm) → IsText bytes f → ⊥)).
-            subst (λ (z : Answer). IsSameAnswer z y) (sym i.2) (j.0, j.1, j.2))
-        (text_cases bytes y q k))
+    ⊎_elim
+    (λ (j : (f : TextForm) × IsText bytes f × FormGives f y). absurd (i.3 j.0 j.1))
+    (λ (j : (at : ℕ) × (kind : SyntaxKind) × (y ≡ Err (Syntax at kind)) × ((f : TextForm) → IsText bytes f → ⊥)).
+    subst (λ (z : Answer). IsSameAnswer z y) (sym i.2) (j.0, j.1, j.2))
+    (text_cases bytes y q k))
     (text_cases bytes x p m)
 
 words_cases : (words : List (List ℕ)) (x : Result Form Refusal) → WordsGive words x → x ≢ Err NoMemory → ((form : Form) × (x ≡ Ok form) × HasForm words form) ⊎ ((x ≡ Err Usage) × HasNoForm words)
@@ -253,15 +253,15 @@ words_agree : (words : List (List ℕ)) → Agree (WordsGive words)
 words_agree words x y p q m k =
     ⊎_elim
     (λ (i : (form : Form) × (x ≡ Ok form) × HasForm words form).
-        ⊎_elim
-        (λ (j : (form : Form) × (y ≡ Ok form) × HasForm words form). i.1 ∙ ap Ok (one_form_lem words i.0 j.0 i.2 j.2) ∙ sym j.1)
-        (λ (j : (y ≡ Err Usage) × HasNoForm words). absurd (j.1 i.0 i.2))
-        (words_cases words y q k))
+    ⊎_elim
+    (λ (j : (form : Form) × (y ≡ Ok form) × HasForm words form). i.1 ∙ ap Ok (one_form_lem words i.0 j.0 i.2 j.2) ∙ sym j.1)
+    (λ (j : (y ≡ Err Usage) × HasNoForm words). absurd (j.1 i.0 i.2))
+    (words_cases words y q k))
     (λ (i : (x ≡ Err Usage) × HasNoForm words).
-        ⊎_elim
-        (λ (j : (form : Form) × (y ≡ Ok form) × HasForm words form). absurd (i.1 j.0 j.2))
-        (λ (j : (y ≡ Err Usage) × HasNoForm words). i.0 ∙ sym j.0)
-        (words_cases words y q k))
+    ⊎_elim
+    (λ (j : (form : Form) × (y ≡ Ok form) × HasForm words form). absurd (i.1 j.0 j.2))
+    (λ (j : (y ≡ Err Usage) × HasNoForm words). i.0 ∙ sym j.0)
+    (words_cases words y q k))
     (words_cases words x p m)
 
 -- ---- files that tell, and no failed read
@@ -295,15 +295,15 @@ module _ (s : Seen) (held : Held) (is_told : s.held ≡ Some held) (quiet : Rose
   file_agrees name which x y p q m k =
       ⊎_elim
       (λ (i : (b : List ℕ) × (x ≡ Ok b) × (held name ≡ Some b) × (length b ≤ limit_of which)).
-          ⊎_elim
-          (λ (j : (b : List ℕ) × (y ≡ Ok b) × (held name ≡ Some b) × (length b ≤ limit_of which)). i.1 ∙ ap Ok (one_content name i.0 j.0 i.2 j.2) ∙ sym j.1)
-          (λ (j : (b : List ℕ) × (y ≡ Err (Limit which)) × (held name ≡ Some b) × (limit_of which < length b)). absurd (not_both name i.0 j.0 (limit_of which) i.2 j.2 i.3 j.3))
-          (file_cases name which y q k))
+      ⊎_elim
+      (λ (j : (b : List ℕ) × (y ≡ Ok b) × (held name ≡ Some b) × (length b ≤ limit_of which)). i.1 ∙ ap Ok (one_content name i.0 j.0 i.2 j.2) ∙ sym j.1)
+      (λ (j : (b : List ℕ) × (y ≡ Err (Limit which)) × (held name ≡ Some b) × (limit_of which < length b)). absurd (not_both name i.0 j.0 (limit_of which) i.2 j.2 i.3 j.3))
+      (file_cases name which y q k))
       (λ (i : (b : List ℕ) × (x ≡ Err (Limit which)) × (held name ≡ Some b) × (limit_of which < length b)).
-          ⊎_elim
-          (λ (j : (b : List ℕ) × (y ≡ Ok b) × (held name ≡ Some b) × (length b ≤ limit_of which)). absurd (not_both name j.0 i.0 (limit_of which) j.2 i.2 j.3 i.3))
-          (λ (j : (b : List ℕ) × (y ≡ Err (Limit which)) × (held name ≡ Some b) × (limit_of which < length b)). i.1 ∙ sym j.1)
-          (file_cases name which y q k))
+      ⊎_elim
+      (λ (j : (b : List ℕ) × (y ≡ Ok b) × (held name ≡ Some b) × (length b ≤ limit_of which)). absurd (not_both name j.0 i.0 (limit_of which) j.2 i.2 j.3 i.3))
+      (λ (j : (b : List ℕ) × (y ≡ Err (Limit which)) × (held name ≡ Some b) × (limit_of which < length b)). i.1 ∙ sym j.1)
+      (file_cases name which y q k))
       (file_cases name which x p m)
 
   code_agrees : (name : List ℕ) → Agree (CodeGives s name)

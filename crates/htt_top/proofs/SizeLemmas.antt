@@ -19,9 +19,14 @@ listing_long : (ps : List (ℕ × Block)) → ArePlaced ps → 2 * listing_size 
 listing_long [] a = omega arith
 listing_long (p ∷ ps) a =
     let size : listing_size (p ∷ ps) ≡ (length p.1 + 1) + listing_size ps = sum_by-cons (λ (q : ℕ × Block). length q.1 + 1) p ps in
-    omega (arith, listing_long ps a.2, words_long p.1 a.1, decimal_nonempty p.0 a.0,
-        length-append (decimal p.0) (58 ∷ words_text p.1),
-        length-append (decimal p.0 ++ (58 ∷ words_text p.1)) (10 ∷ listing_text ps))
+    omega (
+      arith,
+      listing_long ps a.2,
+      words_long p.1 a.1,
+      decimal_nonempty p.0 a.0,
+      length-append (decimal p.0) (58 ∷ words_text p.1),
+      length-append (decimal p.0 ++ (58 ∷ words_text p.1)) (10 ∷ listing_text ps),
+    )
 
 half : (bytes text size n : ℕ) → bytes ≡ text → n ≡ size → 2 * size ≤ text → bytes ≤ 16777216 → n ≤ 16000000
 half bytes text size n e same long within = omega arith

@@ -20,11 +20,7 @@ use std::alloc::Global;
 pub(crate) const DEFAULT_STEPS: u64 = 10_000_000;
 
 /// The answer that is due to the words, by the files that they name.
-fn answer<F: Files>(
-    alloc: Global,
-    words: &[String],
-    files: &mut F,
-) -> Result<Success, Refusal>
+fn answer<F: Files>(alloc: Global, words: &[String], files: &mut F) -> Result<Success, Refusal>
     ensures due { Due (map string_bytes words.now) (seen (F.held files.old) (F.read_faults files.old) (F.read_faults files.new)) (answer_of result) }
     ensures reads { ReadsNamed (map string_bytes words.now) (F.reads files.old) (F.reads files.new) }
     ensures held { F.held files.new ≡ F.held files.old }

@@ -54,11 +54,7 @@ fn read_code<F: Files>(alloc: Global, files: &mut F, name: &str) -> Result<Code,
 }
 
 /// The heap that a run starts from: that of the heap file, or else the empty one.
-fn start_heap<F: Files>(
-    alloc: Global,
-    files: &mut F,
-    name: Option<&str>,
-) -> Result<Heap, Refusal>
+fn start_heap<F: Files>(alloc: Global, files: &mut F, name: Option<&str>) -> Result<Heap, Refusal>
     ensures gives { StartGives (seen (F.held files.old) (F.read_faults files.old) (F.read_faults files.new)) (option_map (λ n. n.now) name.entry) (blocks_result result) }
     ensures reads { ReadsOf (names_of (option_map (λ n. n.now) name.entry)) (F.reads files.old) (F.reads files.new) }
     ensures counts { F.read_faults files.old ≤ F.read_faults files.new }

@@ -23,6 +23,7 @@ const TOO_LARGE: &[u8] =
 
 /// `jump 0`, which never halts; and the same with a target that isn't there.
 const LOOP: &[u8] = b"HTTW\x01\x01\0\0\0\0\0\0\0\0\0\x01\0\0\0\x08\0\0\0\0";
+
 const FAR: &[u8] = b"HTTW\x01\x01\0\0\0\0\0\0\0\0\0\x01\0\0\0\x08\x01\0\0\0";
 
 /// `const 0 5`, `get 0 0 1`, `ret 0`: the word at location 5.
@@ -34,10 +35,9 @@ const FREED: &[u8] =
     b"HTTW\x01\x01\0\0\0\0\0\x02\0\x01\0\x05\0\0\0\0\x01\0\x07\0\0\0\0\0\0\0\x04\0\0\x01\0\x01\0\x07\0\0\x01\0\x05\x01\0\0\0\x01\0\x0b\x01\0";
 
 /// With 4,096 locals: `call 0 0 0`, `ret 0`; and `alloc 0 0 4096`, `jump 0`.
-const FRAMES: &[u8] =
-    b"HTTW\x01\x01\0\0\0\0\0\0\x10\0\0\x02\0\0\0\x0a\0\0\0\0\0\0\0\0\x0b\0\0";
-const BLOCKS: &[u8] =
-    b"HTTW\x01\x01\0\0\0\0\0\0\x10\0\0\x02\0\0\0\x04\0\0\0\0\0\x10\x08\0\0\0\0";
+const FRAMES: &[u8] = b"HTTW\x01\x01\0\0\0\0\0\0\x10\0\0\x02\0\0\0\x0a\0\0\0\0\0\0\0\0\x0b\0\0";
+
+const BLOCKS: &[u8] = b"HTTW\x01\x01\0\0\0\0\0\0\x10\0\0\x02\0\0\0\x04\0\0\0\0\0\x10\x08\0\0\0\0";
 
 const HEAP: &[u8] = b"5: 42\n9: 1\n";
 
@@ -90,7 +90,13 @@ fn texts_have_their_answers(rt: HostRuntime) -> Result<(), Fail> {
 
 #[test]
 fn other_texts_are_refused(rt: HostRuntime) -> Result<(), Fail> {
-    for text in [b"".as_slice(), b"\xff".as_slice(), b"val".as_slice(), NO_PROOF, TOO_LARGE] {
+    for text in [
+        b"".as_slice(),
+        b"\xff".as_slice(),
+        b"val".as_slice(),
+        NO_PROOF,
+        TOO_LARGE,
+    ] {
         let (answer, printed) = command(rt.alloc(), &["go", "F"], text, b"", &[], &[])?;
         assert!(rt; matches!(answer, Status::Syntax { .. }), "{answer:?}");
         assert!(rt; printed.as_slice().starts_with(b"syntax "));
@@ -124,8 +130,14 @@ fn code_runs_to_its_answer(rt: HostRuntime) -> Result<(), Fail> {
         (BLOCKS, blocks, b"stopped heap 16002882\n".as_slice()),
     ] {
         let steps = if code == LOOP { "10" } else { "20000" };
-        let (answer, printed) =
-            command(rt.alloc(), &["run", "F", "--steps", steps], code, b"", &[], &[])?;
+        let (answer, printed) = command(
+            rt.alloc(),
+            &["run", "F", "--steps", steps],
+            code,
+            b"",
+            &[],
+            &[],
+        )?;
         assert_eq!(rt; answer, status);
         assert_eq!(rt; printed.as_slice(), line);
     }
@@ -157,46 +169,90 @@ fn a_run_starts_from_the_heap_file(rt: HostRuntime) -> Result<(), Fail> {
         (HEAP, Status::Done, b"words 42\n5: 42\n9: 1\n".as_slice()),
         (b"5: 42 1\n", no_block, b"fault get 5\n".as_slice()),
         (b"", no_block, b"fault get 5\n".as_slice()),
-        (b"5: 42\n5: 1\n", Status::BadHeap { line: 2 }, b"bad heap 2\n".as_slice()),
-        (b"5: 42\n7: 01\n", Status::BadHeap { line: 2 }, b"bad heap 2\n".as_slice()),
-        (b"5: 1\n6: 2", Status::BadHeap { line: 2 }, b"bad heap 2\n".as_slice()),
-        (b"0: 1\n", Status::BadHeap { line: 1 }, b"bad heap 1\n".as_slice()),
+        (
+            b"5: 42\n5: 1\n",
+            Status::BadHeap { line: 2 },
+            b"bad heap 2\n".as_slice(),
+        ),
+        (
+            b"5: 42\n7: 01\n",
+            Status::BadHeap { line: 2 },
+            b"bad heap 2\n".as_slice(),
+        ),
+        (
+            b"5: 1\n6: 2",
+            Status::BadHeap { line: 2 },
+            b"bad heap 2\n".as_slice(),
+        ),
+        (
+            b"0: 1\n",
+            Status::BadHeap { line: 1 },
+            b"bad heap 1\n".as_slice(),
+        ),
     ] {
-        let (answer, printed) =
-            command(rt.alloc(), &["run", "F", "--heap", "H"], READ, heap, &[], &[])?;
+        let (answer, printed) = command(
+            rt.alloc(),
+            &["run", "F", "--heap", "H"],
+            READ,
+            heap,
+            &[],
+            &[],
+        )?;
         assert_eq!(rt; answer, status);
         assert_eq!(rt; printed.as_slice(), lines);
     }
     Ok(())
 }
 
+/// Whether the words are refused as having no form.
+fn is_usage(alloc: Global, words: &[&str]) -> Result<bool, AllocError> {
+    let (answer, printed) = command(alloc, words, READ, HEAP, &[], &[])?;
+    Ok(answer == Status::Usage && printed.as_slice() == b"usage\n".as_slice())
+}
+
 #[test]
 fn words_without_a_form_are_usage(rt: HostRuntime) -> Result<(), Fail> {
-    for words in [
-        [].as_slice(),
-        ["go"].as_slice(),
-        ["check", "F"].as_slice(),
-        ["go", "F", "--steps", "5"].as_slice(),
-        ["run", "F", "--steps", "5", "--heap", "H"].as_slice(),
-        ["run", "F", "--steps", "0"].as_slice(),
-        ["run", "F", "--steps", "010"].as_slice(),
-    ] {
-        let (answer, printed) = command(rt.alloc(), words, READ, HEAP, &[], &[])?;
-        assert_eq!(rt; answer, Status::Usage);
-        assert_eq!(rt; printed.as_slice(), b"usage\n".as_slice());
-    }
+    assert!(rt; is_usage(rt.alloc(), &[])?);
+    assert!(rt; is_usage(rt.alloc(), &["go"])?);
+    assert!(rt; is_usage(rt.alloc(), &["check", "F"])?);
+    assert!(rt; is_usage(rt.alloc(), &["go", "F", "--steps", "5"])?);
+    assert!(rt; is_usage(rt.alloc(), &["run", "F", "--steps", "5", "--heap", "H"])?);
+    assert!(rt; is_usage(rt.alloc(), &["run", "F", "--steps", "0"])?);
+    assert!(rt; is_usage(rt.alloc(), &["run", "F", "--steps", "010"])?);
     Ok(())
 }
 
 #[test]
 fn each_file_has_its_limit(rt: HostRuntime) -> Result<(), Fail> {
     for (words, code, size, which, line) in [
-        (["go", "H", "", ""].as_slice(), READ, 1_048_577, Which::File, "limit file 1048577\n"),
-        (["run", "H", "", ""].as_slice(), READ, 33_554_433, Which::CodeFile, "limit codefile 33554433\n"),
-        (["run", "F", "--heap", "H"].as_slice(), READ, 16_777_217, Which::HeapFile, "limit heapfile 16777217\n"),
+        (
+            ["go", "H", "", ""].as_slice(),
+            READ,
+            1_048_577,
+            Which::File,
+            "limit file 1048577\n",
+        ),
+        (
+            ["run", "H", "", ""].as_slice(),
+            READ,
+            33_554_433,
+            Which::CodeFile,
+            "limit codefile 33554433\n",
+        ),
+        (
+            ["run", "F", "--heap", "H"].as_slice(),
+            READ,
+            16_777_217,
+            Which::HeapFile,
+            "limit heapfile 16777217\n",
+        ),
     ] {
         let spaces = vec![in rt.alloc(); b' '; size]?;
-        let words = if words[2].is_empty() { &words[..2] } else { words };
+        let words = if words[2].is_empty() {
+            &words[..2]
+        } else {
+            words
+        };
         let (answer, printed) = command(rt.alloc(), words, code, &spaces, &[], &[])?;
         assert_eq!(rt; answer, Status::Limit { which });
         assert_eq!(rt; printed.as_slice(), line.as_bytes());
@@ -212,7 +268,14 @@ fn faults_of_the_outside_are_told(rt: HostRuntime) -> Result<(), Fail> {
         assert_eq!(rt; answer, Status::ReadFault);
         assert_eq!(rt; printed.as_slice(), b"read fault\n".as_slice());
     }
-    let (answer, _) = command(rt.alloc(), &["run", "F", "--heap", "other"], READ, HEAP, &[], &[])?;
+    let (answer, _) = command(
+        rt.alloc(),
+        &["run", "F", "--heap", "other"],
+        READ,
+        HEAP,
+        &[],
+        &[],
+    )?;
     assert_eq!(rt; answer, Status::ReadFault);
     let (answer, printed) = command(rt.alloc(), &run, READ, HEAP, &[], &[0])?;
     assert_eq!(rt; answer, Status::WriteFault);
