@@ -1,7 +1,6 @@
 -- How an answer is printed.
 use Rattle.std.proofs.Common.{ℕ, ◌≡◌, List, [], ◌++◌, Option, Some, None, Ok, Err, refl, sym, ap, append-nil}
 use Rattle.htt_base.specs.Outside.{Told, PutGives}
-use Rattle.command_answers.specs.declared.answer.Refusal.{Refusal}
 use Rattle.command_answers.specs.declared.answer.Refusal.TheVariants.{Usage, ReadFault, Limit, Syntax, NotInferred, BadCode, BadHeap, Fault, Stopped, NoMemory}
 use Rattle.command_answers.specs.Answers.{Answer, status_of}
 use Rattle.command_answers.specs.Printing.{Printed, Appended, Puts}

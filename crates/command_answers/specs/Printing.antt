@@ -1,5 +1,5 @@
 -- What comes of printing an answer.
-use Rattle.std.specs.Prelude.{ℕ, ◌≡◌, ◌++◌, List, Option, Some, None}
+use Rattle.std.specs.Prelude.{ℕ, ◌≡◌, ◌++◌, List, Option, Some}
 use Rattle.htt_base.specs.Outside.{Told, Rose}
 use Rattle.htt_base.specs.declared.status.Status.{Status}
 use Rattle.htt_base.specs.declared.status.Status.TheVariants as status

@@ -1,14 +1,13 @@
 -- How the answer of a run becomes due, stage by stage.
-use Rattle.std.proofs.Common.{ℕ, ◌≡◌, ◌≤◌, ◌<◌, ◌^◌, List, Option, Some, None, Result, Ok, Err, refl, sym, ap, subst, ◌∙◌, arith, inl, inr, ⊎_elim}
+use Rattle.std.proofs.Common.{ℕ, ◌≡◌, ◌≤◌, ◌<◌, ◌^◌, List, Option, Some, None, Result, Ok, Err, refl, subst, ◌∙◌, arith, inl, inr, ⊎_elim}
 use Rattle.std.specs.Option.{unwrap_or}
-use Rattle.command_words.specs.Forms.{Form, run, HasForm}
+use Rattle.command_words.specs.Forms.{run, HasForm}
 use Rattle.htt_top.specs.Words.{step_limit}
 use Rattle.htt_top.specs.Due.{Due}
 use Rattle.htt_base.specs.Outside.{Held}
 use Rattle.htt_values.specs.Heaps.{Heap, InUse, empty_heap}
 use Rattle.word_loader.specs.declared.code.Code.{Code}
 use Rattle.word_loader.specs.Valid.{IsValid}
-use Rattle.code_format.specs.Layout.{Bytes}
 use Rattle.command_answers.specs.declared.answer.Refusal.{Refusal}
 use Rattle.command_answers.specs.Answers.{Answer}
 use Rattle.htt_words.specs.declared.words.Which.TheVariants.{CodeFile, HeapFile}

@@ -1,12 +1,11 @@
 -- A run has one end.
-use Rattle.std.proofs.Common.{ℕ, suc, ◌≡◌, ◌+◌, ◌-◌, ◌<◌, ◌≤◌, ◌⊎◌, List, Option, Some, None, Result, Ok, Err, refl, sym, ap, subst, ◌∙◌, arith, ⊎_elim, inl, inr, slice_get}
+use Rattle.std.proofs.Common.{ℕ, suc, ◌≡◌, ◌+◌, ◌-◌, ◌<◌, ◌≤◌, ◌⊎◌, List, Option, Some, None, Ok, Err, refl, sym, ap, subst, ◌∙◌, arith, ⊎_elim, inl, inr}
 use Rattle.std.proofs.lemmas.Bool.{cases_lt}
 use Rattle.htt_words.specs.declared.words.Bound.{Bound}
 use Rattle.htt_words.specs.declared.words.Bound.TheVariants.{Step, Frame, Heap as HeapBound, Fuel, Turns}
 use Rattle.htt_values.specs.Heaps.{Heap}
 use Rattle.htt_meaning.specs.Choices.{AreShipped, numbers_from}
 use Rattle.htt_meaning.proofs.Shipped.{suffices}
-use Rattle.flat_heap.specs.Listing.{IsSize}
 use Rattle.flat_heap.specs.Blocks.{blocks_of}
 use Rattle.flat_heap.proofs.ChangedListing.{listing_laws}
 use Rattle.word_loader.specs.declared.code.Code.{Code}

@@ -5,7 +5,7 @@ use Rattle.htt_base.specs.Outside.{Held, Told, Rose}
 use Rattle.htt_words.specs.declared.words.SyntaxKind.{SyntaxKind}
 use Rattle.htt_words.specs.declared.words.Which.{Which}
 use Rattle.htt_words.specs.declared.words.Which.TheVariants.{File, CodeFile, HeapFile}
-use Rattle.htt_values.specs.Heaps.{Heap, IsSame}
+use Rattle.htt_values.specs.Heaps.{Heap}
 use Rattle.heap_text.specs.HeapText.{IsHeapFile, IsBadLine}
 use Rattle.heap_text.proofs.FileLemmas.{heap_text_laws}
 use Rattle.word_loader.specs.declared.code.Code.{Code}

@@ -1,5 +1,5 @@
 -- What was read in a call, and a call that is a part of another.
-use Rattle.std.proofs.Common.{ℕ, ◌≡◌, ◌≤◌, ◌⊎◌, List, [], ◌∷◌, ◌++◌, Option, Some, None, Result, Ok, Err, Vec, refl, sym, ap, subst, ◌∙◌, append_assoc, append-nil, arith, ⊎_elim, inl, inr}
+use Rattle.std.proofs.Common.{ℕ, ◌≡◌, ◌≤◌, List, [], ◌∷◌, ◌++◌, Option, Some, None, Result, Ok, Err, Vec, refl, sym, ap, subst, ◌∙◌, append_assoc, append-nil, arith, ⊎_elim, inl, inr}
 use Rattle.std.specs.Global.{Global}
 use Rattle.htt_base.specs.Outside.{Held, Told, Rose, NotesName, ReadGives}
 use Rattle.htt_base.specs.declared.outside.ReadStop.{ReadStop}

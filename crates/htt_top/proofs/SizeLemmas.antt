@@ -1,12 +1,12 @@
 -- A word takes two bytes of a heap file at least, and a block three more.
-use Rattle.std.proofs.Common.{ℕ, ◌≡◌, ◌+◌, ◌*◌, ◌<◌, ◌≤◌, ◌^◌, List, [], ◌∷◌, ◌++◌, length, ap, subst, sym, arith, length-append}
+use Rattle.std.proofs.Common.{ℕ, ◌≡◌, ◌+◌, ◌*◌, ◌≤◌, List, [], ◌∷◌, ◌++◌, length, ap, arith, length-append}
 use Rattle.std.specs.Fmt.{decimal}
 use Rattle.std.proofs.lemmas.Fmt.{decimal_nonempty}
 use Rattle.std.proofs.lemmas.List.Sums.{sum_by-cons}
-use Rattle.htt_values.specs.Heaps.{Heap, Block}
-use Rattle.flat_heap.specs.Listing.{IsSize, listing_size}
+use Rattle.htt_values.specs.Heaps.{Block}
+use Rattle.flat_heap.specs.Listing.{listing_size}
 use Rattle.flat_heap.proofs.ChangedListing.{listing_laws}
-use Rattle.heap_text.specs.HeapText.{words_text, listing_text, IsHeapFile}
+use Rattle.heap_text.specs.HeapText.{words_text, listing_text}
 use Rattle.heap_text.proofs.LineLemmas.{AreWords, ArePlaced}
 use Rattle.heap_text.proofs.FileLemmas.{listing_placed}
 use Rattle.htt_top.specs.Laws.{HeapFilesFit}

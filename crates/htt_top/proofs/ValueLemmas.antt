@@ -1,16 +1,14 @@
 -- The code for a number: its bytes, and its end.
-use Rattle.std.proofs.Common.{ℕ, zero, suc, ◌≡◌, ◌<◌, ◌≤◌, ◌^◌, List, [], ◌∷◌, refl, sym, ap, subst, ◌∙◌, arith, inl, inr, Some, None}
+use Rattle.std.proofs.Common.{ℕ, zero, suc, ◌≡◌, ◌<◌, ◌≤◌, ◌^◌, List, [], ◌∷◌, refl, sym, ap, subst, ◌∙◌, arith, Some, None}
 use Rattle.htt_words.specs.declared.words.Bound.{Bound}
 use Rattle.htt_words.specs.declared.words.Kind.{Kind}
 use Rattle.htt_values.specs.Heaps.{Heap, Block, InUse, empty_heap}
 use Rattle.word_loader.specs.declared.code.Code.{Code}
-use Rattle.word_loader.specs.Valid.{IsValid}
 use Rattle.word_loader.specs.Machine.{Machine, going, halted, faulted, bottom, step, after_steps, machine_after}
-use Rattle.code_format.specs.Layout.{Bytes, code_bytes}
-use Rattle.word_machine.specs.Runs.{StopsAt, Reaches, EndsShipped}
+use Rattle.word_machine.specs.Runs.{StopsAt, EndsShipped}
 use Rattle.word_machine.specs.declared.runs.End.{End}
 use Rattle.htt_top.specs.Code.{code_of}
-use Rattle.htt_top.proofs.EndLemmas.{Fact, over_in, stopped_by, fact_of, IsFact, fact_of_end}
+use Rattle.htt_top.proofs.EndLemmas.{over_in, stopped_by, fact_of, IsFact, fact_of_end}
 
 at_start : (n : ℕ) (cs : List ℕ) → machine_after (code_of n) empty_heap cs 0 ≡ going empty_heap (bottom (record { function = 0; next = 0; locals = 0 ∷ [] })) cs
 unfolding step after_steps

@@ -1,5 +1,5 @@
 -- What a command answers and prints.
-use Rattle.std.specs.Prelude.{ℕ, ◌≡◌, ◌≢◌, List, Option, Some, Ok, Err}
+use Rattle.std.specs.Prelude.{ℕ, ◌≡◌, ◌≢◌, List, Some, Err}
 use Rattle.htt_base.specs.Outside.{Held, Rose}
 use Rattle.htt_base.specs.declared.status.Status.{Status}
 use Rattle.htt_base.specs.declared.status.Status.TheVariants as status

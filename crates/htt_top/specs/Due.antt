@@ -1,6 +1,5 @@
 -- Which answer is due to a command, stage by stage, in the order in which a refusal comes.
-use Rattle.std.specs.Prelude.{ℕ, ◌≡◌, List, Option, Result, Ok, Err}
-use Rattle.htt_base.specs.Outside.{Held}
+use Rattle.std.specs.Prelude.{ℕ, List, Result, Ok, Err}
 use Rattle.htt_words.specs.declared.words.Which.TheVariants.{File}
 use Rattle.command_words.specs.Forms.{Form, go, run, HasForm, HasNoForm}
 use Rattle.command_answers.specs.declared.answer.Refusal.{Refusal}

@@ -15,7 +15,7 @@ use Rattle.word_machine.specs.Runs.{EndsShipped}
 use Rattle.one_form.specs.declared.parser.Form.{Form}
 use Rattle.one_form.specs.Form.{IsText}
 use Rattle.command_answers.specs.declared.answer.Refusal.{Refusal}
-use Rattle.command_answers.specs.declared.answer.Refusal.TheVariants.{Usage, ReadFault, Limit, Syntax, NotInferred, BadCode, BadHeap, Fault, Stopped, NoMemory}
+use Rattle.command_answers.specs.declared.answer.Refusal.TheVariants.{ReadFault, Limit, Syntax, NotInferred, BadCode, BadHeap, Fault, Stopped, NoMemory}
 use Rattle.command_answers.specs.Answers.{Answer, value, halt}
 use Rattle.command_answers.specs.Lines.{limit_of}
 

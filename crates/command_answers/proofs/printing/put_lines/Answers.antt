@@ -1,4 +1,3 @@
-use Rattle.std.proofs.Common.{sym}
 use Rattle.command_answers.specs.Answers.{answer_of}
 use Rattle.command_answers.proofs.PrintLemmas.{appended_done, puts_appended}
 use Rattle.command_answers.proofs.printing.put_lines.Goals as goal

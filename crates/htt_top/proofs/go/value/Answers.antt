@@ -1,4 +1,4 @@
-use Rattle.std.proofs.Common.{rules, ◌≡◌, ◌<◌, ◌≤◌, ◌^◌, ◌∙◌, length, [], ◌∷◌, ℕ, sym, ap, arith, refl, inl, inr}
+use Rattle.std.proofs.Common.{rules, ◌≡◌, ◌<◌, ◌∙◌, length, [], ◌∷◌, sym, ap, arith, refl, inl, inr}
 use Rattle.flat_heap.specs.Blocks.{blocks_of}
 use Rattle.htt_top.proofs.EndLemmas.{fact_of}
 use Rattle.htt_top.proofs.ValueLemmas.{value_end, value_words, no_fault, no_stop, empty_is_low}

@@ -1,4 +1,4 @@
-use Rattle.std.proofs.Common.{rules, ◌≡◌, [], ◌∷◌, ◌++◌, Ok, Err, ap, option_map}
+use Rattle.std.proofs.Common.{rules, ◌≡◌, [], ◌∷◌, Err, ap, option_map}
 use Rattle.flat_heap.specs.Blocks.{blocks_of}
 use Rattle.command_answers.specs.Answers.{answer_of}
 use Rattle.htt_top.specs.Words.{names_of}
