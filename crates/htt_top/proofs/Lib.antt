@@ -1,3 +1,8 @@
-pub mod AnswerLemmas
+pub mod EndLemmas
 pub mod ExactLemmas
-pub mod RunLemmas
+pub mod PrintedLemmas
+pub mod ReadLemmas
+pub mod ValueLemmas
+pub mod SizeLemmas
+pub mod TextLemmas
+pub mod DueLemmas

@@ -1,4 +1,7 @@
-pub mod Answers
 pub mod Words
 pub mod Code
-pub mod Lines
+pub mod Stages
+pub mod Due
+pub mod Answers
+pub mod Views
+pub mod Laws

@@ -1,20 +1,30 @@
--- The forms of a command's words, and the files that they name for reading.
-use Rattle.std.specs.Prelude.{ℕ, ◌≡◌, ◌++◌, ◌⊎◌, List, [], ◌∷◌, codes, Option, Some}
+-- What a command's words name, and which of it was read.
+use Rattle.std.specs.Prelude.{ℕ, ◌≡◌, ◌++◌, ◌⊎◌, List, [], ◌∷◌, Option, Some, None}
 use Rattle.htt_base.specs.Outside.{Told}
+use Rattle.command_words.specs.Forms.{Form, go, run, HasForm}
 
--- the words of `go FILE`
-abbrev pub IsGo : List (List ℕ) → List ℕ → Type 0
-IsGo words name = words ≡ codes "go" ∷ name ∷ []
+-- the most steps of a run that is asked for none
+abbrev pub default_steps : ℕ
+default_steps = 10000000
 
--- the words have no form
-abbrev pub HasNoForm : List (List ℕ) → Type 0
-HasNoForm words = (name : List ℕ) → IsGo words name → ⊥
+abbrev pub step_limit : Option ℕ → ℕ
+step_limit None = default_steps
+step_limit (Some n) = n
 
--- the names begin the list of the files that the words name for reading
-abbrev pub AreNamed : List (List ℕ) → List (List ℕ) → Type 0
-AreNamed words names = (names ≡ []) ⊎ ((name : List ℕ) × IsGo words name × (names ≡ name ∷ []))
+abbrev pub names_of : Option (List ℕ) → List (List ℕ)
+names_of None = []
+names_of (Some name) = name ∷ []
 
--- where the files tell what was read, only what the words name was read more, in its order
+-- the files that are named for reading, in the order of reading
+abbrev pub files_of : Form → List (List ℕ)
+files_of (go file) = file ∷ []
+files_of (run code heap steps) = code ∷ names_of heap
+
+-- of these files a first part was read more, where the files tell what was read
+abbrev pub ReadsOf : List (List ℕ) → Option (List (List ℕ)) → Option (List (List ℕ)) → Type 0
+ReadsOf files before now =
+    Told before (λ b. (names left : List (List ℕ)) × (files ≡ names ++ left) × (now ≡ Some (b ++ names)))
+
+-- only what the words name was read more, in its order
 abbrev pub ReadsNamed : List (List ℕ) → Option (List (List ℕ)) → Option (List (List ℕ)) → Type 0
-ReadsNamed words before now =
-    Told before (λ b. (names : List (List ℕ)) × AreNamed words names × (now ≡ Some (b ++ names)))
+ReadsNamed words before now = ReadsOf [] before now ⊎ ((form : Form) × HasForm words form × ReadsOf (files_of form) before now)

@@ -1,21 +1,26 @@
-//! What the bytes of a file come to: the form that they say, whether the sum is right, the code for
-//! the result, and its run.
+//! The command `go`: the form that the bytes of a file say, whether its claim is right, the code for
+//! the result, and its run. The code goes through its written bytes, as that of a code file does.
 
-ghost use Rattle.std.specs.Prelude.{◌≡◌, ◌≤◌, IfOk};
+ghost use Rattle.std.specs.Prelude.{◌≡◌, [], ◌∷◌, IfOk};
 ghost use Rattle.word_loader.specs.Valid.{IsValid};
+ghost use Rattle.command_answers.specs.Answers.{answer_of};
 ghost use Rattle.htt_top.specs.Code.{code_of};
-ghost use Rattle.htt_top.specs.Answers.{result_of, IsDueTo, IsDueToForm};
+ghost use Rattle.htt_words.specs.declared.words.Which.TheVariants.{File};
+ghost use Rattle.htt_top.specs.Stages.{FileGives, FormGives, GoGives, Then, result_of, seen};
+ghost use Rattle.htt_top.specs.Words.{ReadsOf};
 
-use crate::answer::Answer;
+use crate::command::DEFAULT_STEPS;
+use crate::read::read_file;
+use code_bytes::{LoadStop, load, write_code};
+use command_answers::{Refusal, Success};
 use flat_heap::Heap;
+use htt_base::Files;
 use htt_seq::Seq;
+use htt_words::Which;
 use one_form::{Form, FormStop, read_form};
 use std::alloc::{AllocError, Global};
 use word_loader::{Code, Function, Instr};
 use word_machine::{End, run};
-
-/// The most steps of a run.
-const STEP_LIMIT: u64 = 10_000_000;
 
 /// The result of a form's program.
 fn result_of(form: &Form) -> u64
@@ -44,40 +49,63 @@ fn code_of(alloc: Global, number: u64) -> Result<Code, AllocError>
     })
 }
 
-/// The value that the code for a number returns, within so many steps.
-fn value(alloc: Global, number: u64, steps: u64) -> Result<u64, AllocError>
-    requires enough { 2 ≤ steps }
-    requires few { steps ≤ 1000000000 }
-    ensures { IfOk result (λ value. value ≡ number) }
+/// The same code, loaded from its written bytes.
+fn loaded_code_of(alloc: Global, number: u64) -> Result<Code, AllocError>
+    ensures code { IfOk result (λ code. code ≡ code_of number) }
+    ensures valid { IfOk result IsValid }
 {
     let code = code_of(alloc, number)?;
-    match run(alloc, &code, Heap::new(alloc), steps)? {
+    let bytes = write_code(alloc, &code)?;
+    match load(alloc, &bytes) {
+        Ok(code) => Ok(code),
+        Err(LoadStop::Bad { .. }) => unreachable!(),
+        Err(LoadStop::NoMemory) => Err(AllocError),
+    }
+}
+
+/// The value that the code for a number returns.
+fn value(alloc: Global, number: u64) -> Result<u64, AllocError>
+    ensures { IfOk result (λ value. value ≡ number) }
+{
+    let code = loaded_code_of(alloc, number)?;
+    match run(alloc, &code, Heap::new(alloc), DEFAULT_STEPS)? {
         End::Halted(words, _) => Ok(words.as_slice()[0]),
         End::Fault(..) | End::Stopped(..) => unreachable!(),
     }
 }
 
-/// The answer to a form: its value, by a run of its code, where the sum is right.
-fn run_form(alloc: Global, form: &Form) -> Answer
-    ensures { IsDueToForm form.now result }
+/// The answer to a form: its value, by a run of its code, where its claim is right.
+fn run_form(alloc: Global, form: &Form) -> Result<Success, Refusal>
+    ensures { FormGives form.now (answer_of result) }
 {
     let result = result_of(form);
     if form.claimed != result {
-        return Answer::NotInferred { at: form.place };
+        return Err(Refusal::NotInferred { at: form.place });
     }
-    match value(alloc, result, STEP_LIMIT) {
-        Ok(value) => Answer::Value(value),
-        Err(_) => Answer::NoMemory,
+    match value(alloc, result) {
+        Ok(value) => Ok(Success::Value(value)),
+        Err(_) => Err(Refusal::NoMemory),
     }
 }
 
 /// The answer to the bytes of a file.
-pub fn go(alloc: Global, bytes: &[u8]) -> Answer
-    ensures { IsDueTo bytes.now result }
+fn run_text(alloc: Global, bytes: &[u8]) -> Result<Success, Refusal>
+    ensures { GoGives bytes.now (answer_of result) }
 {
     match read_form(alloc, bytes) {
         Ok(form) => run_form(alloc, &form),
-        Err(FormStop::NotForm { at, kind }) => Answer::Syntax { at, kind },
-        Err(FormStop::NoMemory) => Answer::NoMemory,
+        Err(FormStop::NotForm { at, kind }) => Err(Refusal::Syntax { at, kind }),
+        Err(FormStop::NoMemory) => Err(Refusal::NoMemory),
     }
+}
+
+/// Reads a file and runs the program of its text.
+pub(crate) fn go<F: Files>(alloc: Global, files: &mut F, name: &str) -> Result<Success, Refusal>
+    ensures due { Then (FileGives (seen (F.held files.old) (F.read_faults files.old) (F.read_faults files.new)) name.now File) GoGives (answer_of result) }
+    ensures reads { ReadsOf (name.now ∷ []) (F.reads files.old) (F.reads files.new) }
+    ensures held { F.held files.new ≡ F.held files.old }
+    ensures write_faults { F.write_faults files.new ≡ F.write_faults files.old }
+{
+    let bytes = read_file(alloc, files, name, Which::File)?;
+    run_text(alloc, &bytes)
 }

@@ -1,12 +1,15 @@
-//! The commands: from the words and the files to a status and the lines of the sink.
+//! The commands: from the words and the files to a status and the lines of the sink. Each command
+//! goes through its stages in the order in which a refusal comes.
 #![tactic(auto)]
 
-mod answer;
 mod command;
 mod go;
-mod lines;
+mod laws;
+mod read;
+mod run;
 
-pub use command::{FILE_LIMIT, htt_command};
+pub use command::htt_command;
+pub use laws::heap_files_fit;
 
 #[cfg(test)]
 mod tests;

@@ -1,14 +1,10 @@
-use Rattle.htt_base.specs.Outside.{Held, Told, ReadGives}
-use Rattle.std.proofs.Common.{ℕ, List, Option, Some, None, Vec, ◌≡◌, Ok, sym}
-use Rattle.std.specs.Global.{Global}
-use Rattle.htt_top.proofs.AnswerLemmas.{due_of_bytes}
+use Rattle.std.proofs.Common.{option_map}
+use Rattle.command_answers.specs.Answers.{answer_of}
+use Rattle.htt_top.proofs.DueLemmas.{due_of_run}
 use Rattle.htt_top.proofs.command.answer.Goals as goal
 
-told_bytes : (held : Option Held) (name : List ℕ) (max : ℕ) (v : Vec ℕ Global) → ReadGives held name max (Ok v) → Told held (λ h. h name ≡ Some v.items)
-told_bytes None name max v h = tt
-told_bytes (Some held) name max v h = h.bytes
-
-pub returns-in-Ok-clause-due : goal.returns-in-Ok-clause-due
-returns-in-Ok-clause-due g c = due_of_bytes _ c.in-Ok.bytes.items c.go.result
-    (record { name = c.in-Some.name.now; go = c.in-Some.ensures; content = told_bytes _ _ _ c.in-Ok.bytes c.in-Ok.ensures.gives; within = c.in-Ok.ensures.within })
-    (rw (sym c.deref.ensures.value) c.go.ensures)
+pub returns-in-Some-Run-clause-due : goal.returns-in-Some-Run-clause-due
+returns-in-Some-Run-clause-due g c =
+    let form = rw c.in-Some-Run.field-0-is at c.in-Some-Run.ensures in
+    due_of_run _ _ c.in-Some-Run.code.now (option_map (λ n. n.now) c.in-Some-Run.heap) c.in-Some-Run.steps c.unwrap_or.result (answer_of c.load_and_run.result)
+    form c.unwrap_or.ensures c.load_and_run.ensures.due

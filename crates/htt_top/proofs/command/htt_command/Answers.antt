@@ -1,13 +1,13 @@
-use Rattle.std.proofs.Common.{rules}
-use Rattle.htt_top.specs.declared.answer.Answer.TheVariants.{NoMemory}
-use Rattle.htt_top.proofs.ExactLemmas.{answers_exactly}
+use Rattle.command_answers.specs.Printing.{printed}
+use Rattle.htt_top.proofs.PrintedLemmas.{answers_exactly, answers_of}
 use Rattle.htt_top.proofs.command.htt_command.Goals as goal
 
-pub returns-in-Ok-clause-exactly : goal.returns-in-Ok-clause-exactly
-returns-in-Ok-clause-exactly g c = answers_exactly _ _ _ (c.answer-answer.result, c.answer-answer.ensures.due, search rules)
+pub returns-clause-answers : goal.returns-clause-answers
+returns-clause-answers g c =
+    let p = printed (g.O.Sink.written c.args.out.now) (g.O.Sink.written c.print.new.out) (g.O.Sink.faults c.args.out.now) (g.O.Sink.faults c.print.new.out) in
+    answers_of _ _ p _ c.print.result c.answer-answer.ensures.due c.print.ensures
 
-pub returns-in-Err-clause-answers : goal.returns-in-Err-clause-answers
-returns-in-Err-clause-answers g c = (NoMemory, tt, c.put_line-in-Err.ensures)
-
-pub returns-in-Err-clause-exactly : goal.returns-in-Err-clause-exactly
-returns-in-Err-clause-exactly g c = answers_exactly _ _ _ (NoMemory, tt, c.put_line-in-Err.ensures)
+pub returns-clause-exactly : goal.returns-clause-exactly
+returns-clause-exactly g c =
+    let p = printed (g.O.Sink.written c.args.out.now) (g.O.Sink.written c.print.new.out) (g.O.Sink.faults c.args.out.now) (g.O.Sink.faults c.print.new.out) in
+    answers_exactly _ _ p c.print.result (answers_of _ _ p _ c.print.result c.answer-answer.ensures.due c.print.ensures)
