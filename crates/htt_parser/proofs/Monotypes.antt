@@ -6,8 +6,8 @@ use Rattle.htt_tokens.specs.declared.tokens.Kind.TheVariants.{Name, Number, Keyw
 use Rattle.htt_tokens.specs.declared.tokens.Sign.TheVariants.{OpenParenSign, CloseParenSign, StarSign}
 use Rattle.htt_tokens.specs.declared.tokens.Token.{Token}
 use Rattle.raw_trees.specs.declared.mono.RawBracket.{RawBracket}
-use Rattle.raw_trees.specs.Views.{bracket_tree}
-use Rattle.raw_trees.specs.Levels.{brackets_tree}
+use Rattle.raw_trees.specs.MonoViews.{bracket_tree}
+use Rattle.raw_trees.specs.MonoLevels.{brackets_tree}
 use Rattle.std.proofs.lemmas.List.{reverse-append}
 use Rattle.raw_trees.specs.Trees.{MonoTree, m_name, m_brackets, with_right}
 use Rattle.htt_grammar.specs.Readers.{Reader, Halt, too_nested, give, after, ◌>>=◌, stop, refuse, chosen, either, measured, same_kind, that, token}

@@ -5,8 +5,8 @@ ghost use Rattle.std.specs.Prelude.{◌≡◌, ◌<◌, IfOk, drop, reverse, [],
 ghost use Rattle.htt_grammar.specs.Phrases.{mono_right, mono_closes, mono_at};
 ghost use Rattle.htt_grammar.specs.Reading.{deeper};
 ghost use Rattle.raw_trees.specs.Trees.{MonoTree, m_brackets, with_right};
-ghost use Rattle.raw_trees.specs.Views.{right_tree, bracket_tree};
-ghost use Rattle.raw_trees.specs.Levels.{mono_tree, brackets_tree};
+ghost use Rattle.raw_trees.specs.MonoViews.{right_tree, bracket_tree};
+ghost use Rattle.raw_trees.specs.MonoLevels.{mono_tree, brackets_tree};
 ghost use Rattle.htt_parser.specs.Results.{Gives};
 ghost use Rattle.htt_parser.specs.Brackets.{opened};
 

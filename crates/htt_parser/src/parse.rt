@@ -3,7 +3,7 @@
 ghost use Rattle.std.specs.Prelude.{◌≡◌, IfOk, IfErr, length};
 ghost use Rattle.htt_grammar.specs.Derivations.{IsMono};
 ghost use Rattle.htt_reading.specs.Laws.{IsMonoWithin};
-ghost use Rattle.raw_trees.specs.Levels.{mono_tree};
+ghost use Rattle.raw_trees.specs.MonoLevels.{mono_tree};
 ghost use Rattle.htt_parser.specs.Refusals.{RefusesMono, stop_of};
 
 use crate::cursor::{Cursor, Halted, Reason};

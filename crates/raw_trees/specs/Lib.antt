@@ -1,3 +1,8 @@
 pub mod Trees
-pub mod Views
-pub mod Levels
+pub mod MonoViews
+pub mod MonoLevels
+pub mod TreeViews
+pub mod TreeLevels
+pub mod ProofViews
+pub mod ProofLevels
+pub mod DeclViews

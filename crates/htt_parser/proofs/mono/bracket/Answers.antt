@@ -1,7 +1,7 @@
 use Rattle.std.proofs.Common.{ap, sym, ◌∙◌}
 use Rattle.raw_trees.specs.Trees.{m_brackets, with_right}
-use Rattle.raw_trees.specs.Views.{right_tree}
-use Rattle.raw_trees.specs.Levels.{right_nothing, right_times, bracket_alone, bracket_times}
+use Rattle.raw_trees.specs.MonoViews.{right_tree}
+use Rattle.raw_trees.specs.MonoLevels.{right_nothing, right_times, bracket_alone, bracket_times}
 use Rattle.htt_parser.proofs.mono.bracket.Goals as goal
 
 pub returns-in-Nothing : goal.returns-in-Nothing

@@ -5,8 +5,8 @@ use Rattle.htt_tokens.specs.declared.tokens.Kind.TheVariants.{Sign}
 use Rattle.htt_tokens.specs.declared.tokens.Sign.TheVariants.{CloseParenSign, StarSign}
 use Rattle.raw_trees.specs.declared.mono.RawRight.TheVariants as vright
 use Rattle.raw_trees.specs.Trees.{m_name, with_right}
-use Rattle.raw_trees.specs.Views.{right_tree}
-use Rattle.raw_trees.specs.Levels.{mono_tree, brackets_tree, right_times, right_nothing}
+use Rattle.raw_trees.specs.MonoViews.{right_tree}
+use Rattle.raw_trees.specs.MonoLevels.{mono_tree, brackets_tree, right_times, right_nothing}
 use Rattle.htt_grammar.specs.Readers.{token, same_kind, either, stop}
 use Rattle.htt_grammar.specs.Phrases.{mono_right, mono_closes, mono_name_case, mono_inside}
 use Rattle.htt_grammar.specs.Reading.{deeper}

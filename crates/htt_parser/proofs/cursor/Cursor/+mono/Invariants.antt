@@ -2,7 +2,7 @@ use Rattle.std.proofs.Common.{◌≡◌, ◌+◌, ◌*◌, drop, reverse, vec_le
 use Rattle.htt_grammar.specs.Phrases.{mono_closes}
 use Rattle.htt_grammar.specs.Reading.{deeper}
 use Rattle.raw_trees.specs.Trees.{MonoTree}
-use Rattle.raw_trees.specs.Levels.{brackets_tree}
+use Rattle.raw_trees.specs.MonoLevels.{brackets_tree}
 use Rattle.htt_parser.proofs.cursor.Cursor.+mono.Given as goal
 
 abbrev pub decreases-mono : goal.decreases-mono

@@ -7,7 +7,7 @@ use Rattle.raw_trees.specs.declared.mono.RawBracket.TheVariants as vbracket
 use Rattle.raw_trees.specs.declared.mono.RawBracket.TheBlock as block
 use Rattle.raw_trees.specs.declared.mono.RawMono.{RawMono}
 use Rattle.raw_trees.specs.Trees.{MonoTree, m_name, m_brackets, with_right}
-use Rattle.raw_trees.specs.Views.{right_tree, bracket_tree, brackets_row}
+use Rattle.raw_trees.specs.MonoViews.{right_tree, bracket_tree, brackets_row}
 
 -- the brackets round a monotype, from the innermost
 abbrev pub brackets_tree : List RawBracket → MonoTree → MonoTree

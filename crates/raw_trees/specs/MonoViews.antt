@@ -1,6 +1,6 @@
 -- The tree that each value of the Rust types is. The values are matched as they are generated: a
 -- box as its shape and what it holds, a sequence as its shape and its row, and a struct inside a
--- node as its fields. The equations that readers use stand in Levels.
+-- node as its fields. The equations that readers use stand in MonoLevels.
 use Rattle.std.specs.Prelude.{Option, Some, None}
 use Rattle.raw_trees.specs.declared.mono.RawRight.{RawRight, more_of-RawMono, end_of-RawMono}
 use Rattle.raw_trees.specs.declared.mono.RawRight as right
