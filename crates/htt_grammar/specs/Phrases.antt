@@ -11,6 +11,7 @@ use Rattle.raw_trees.specs.declared.place.Binder.{Binder}
 use Rattle.raw_trees.specs.declared.place.Binder.TheVariants as binders
 use Rattle.raw_trees.specs.declared.mono.MonoName.{MonoName}
 use Rattle.raw_trees.specs.declared.mono.MonoName.TheVariants as mono_names
+use Rattle.raw_trees.specs.declared.tree.UnaryWord.{UnaryWord}
 use Rattle.raw_trees.specs.declared.tree.UnaryWord.TheVariants as unary_words
 use Rattle.raw_trees.specs.declared.tree.RawHeap.{RawHeap}
 use Rattle.raw_trees.specs.declared.tree.RawHeap.TheVariants as heaps
@@ -121,11 +122,29 @@ is_close k = same_kind k (Sign CloseParenSign)
 unfoldable pub terms_there : Deeper → Reader TermTrees
 terms_there d = if_first is_close (give no_terms) (d.term >>= (λ m. measured (terms_on d) >>= (λ ms. give (more_terms m ms))))
 
+abbrev pub pair_on : Deeper → ℕ → TermTree → Reader AtomTree
+pair_on d at m = d.term >>= (λ n. token (Sign CloseParenSign) >>= (λ _. give (a_pair at m n)))
+
+abbrev pub annotated_on : Deeper → ℕ → TermTree → Reader AtomTree
+annotated_on d at m = d.ty >>= (λ a. token (Sign CloseParenSign) >>= (λ _. give (a_annotated at m a)))
+
 abbrev pub bracket_case : Deeper → ℕ → TermTree → Kind → Option (Span → Reader AtomTree)
 bracket_case d at m (Sign CloseParenSign) = Some (λ _. give (a_brackets at m))
-bracket_case d at m (Sign CommaSign) = Some (λ _. d.term >>= (λ n. token (Sign CloseParenSign) >>= (λ _. give (a_pair at m n))))
-bracket_case d at m (Sign ColonSign) = Some (λ _. d.ty >>= (λ a. token (Sign CloseParenSign) >>= (λ _. give (a_annotated at m a))))
+bracket_case d at m (Sign CommaSign) = Some (λ _. pair_on d at m)
+bracket_case d at m (Sign ColonSign) = Some (λ _. annotated_on d at m)
 bracket_case d at m _ = None
+
+abbrev pub place_on : ℕ → Reader AtomTree
+place_on at = a_number_there >>= (λ n. give (a_place at n))
+
+abbrev pub equality_on : Deeper → ℕ → Reader AtomTree
+equality_on d at = bracketed d >>= (λ t. token (Sign OpenParenSign) >>= (λ _. d.term >>= (λ m. token (Sign CommaSign) >>= (λ _. d.term >>= (λ n. token (Sign CloseParenSign) >>= (λ _. give (a_eq at t m n)))))))
+
+abbrev pub selection_on : Deeper → ℕ → Reader AtomTree
+selection_on d at = bracketed d >>= (λ t. token (Sign OpenParenSign) >>= (λ _. d.term >>= (λ b. token (Sign CommaSign) >>= (λ _. d.term >>= (λ m. token (Sign CommaSign) >>= (λ _. d.term >>= (λ n. token (Sign CloseParenSign) >>= (λ _. give (a_sel at t b m n)))))))))
+
+abbrev pub bracket_on : Deeper → ℕ → Reader AtomTree
+bracket_on d at = either (that (Sign CloseParenSign) (give (a_unit at))) (d.term >>= (λ m. either (bracket_case d at m) stop))
 
 abbrev pub atom_case : Deeper → Kind → Option (Span → Reader AtomTree)
 atom_case d Name = Some (λ s. give (a_name s))
@@ -133,10 +152,10 @@ atom_case d (Number n) = Some (λ s. give (a_number s.from n))
 atom_case d (Keyword TrueWord) = Some (λ s. give (a_true s.from))
 atom_case d (Keyword FalseWord) = Some (λ s. give (a_false s.from))
 atom_case d (Keyword NullWord) = Some (λ s. give (a_null s.from))
-atom_case d (Keyword PlaceWord) = Some (λ s. a_number_there >>= (λ n. give (a_place s.from n)))
-atom_case d (Keyword EqWord) = Some (λ s. bracketed d >>= (λ t. token (Sign OpenParenSign) >>= (λ _. d.term >>= (λ m. token (Sign CommaSign) >>= (λ _. d.term >>= (λ n. token (Sign CloseParenSign) >>= (λ _. give (a_eq s.from t m n))))))))
-atom_case d (Keyword SelWord) = Some (λ s. bracketed d >>= (λ t. token (Sign OpenParenSign) >>= (λ _. d.term >>= (λ b. token (Sign CommaSign) >>= (λ _. d.term >>= (λ m. token (Sign CommaSign) >>= (λ _. d.term >>= (λ n. token (Sign CloseParenSign) >>= (λ _. give (a_sel s.from t b m n))))))))))
-atom_case d (Sign OpenParenSign) = Some (λ s. either (that (Sign CloseParenSign) (give (a_unit s.from))) (d.term >>= (λ m. either (bracket_case d s.from m) stop)))
+atom_case d (Keyword PlaceWord) = Some (λ s. place_on s.from)
+atom_case d (Keyword EqWord) = Some (λ s. equality_on d s.from)
+atom_case d (Keyword SelWord) = Some (λ s. selection_on d s.from)
+atom_case d (Sign OpenParenSign) = Some (λ s. bracket_on d s.from)
 atom_case d _ = None
 
 unfoldable pub atom_at : Deeper → Reader AtomTree
@@ -155,14 +174,20 @@ unfoldable pub parts_on : Deeper → ℕ → Reader PartTrees
 parts_on d zero = either no_part_case (if_first begins_atom (refuse too_long begins_atom) (give no_parts))
 parts_on d (suc n) = either (part_case d (parts_on d n)) (if_first begins_atom (atom_at d >>= (λ a. parts_on d n >>= (λ ps. give (atom_part a ps)))) (give no_parts))
 
+abbrev pub unary_on : Deeper → UnaryWord → ℕ → Reader ApplTree
+unary_on d w at = atom_at d >>= (λ a. give (l_unary at w a))
+
 abbrev pub unary_case : Deeper → Kind → Option (Span → Reader ApplTree)
-unary_case d (Keyword FstWord) = Some (λ s. atom_at d >>= (λ a. give (l_unary s.from unary_words.Fst a)))
-unary_case d (Keyword SndWord) = Some (λ s. atom_at d >>= (λ a. give (l_unary s.from unary_words.Snd a)))
-unary_case d (Keyword NotWord) = Some (λ s. atom_at d >>= (λ a. give (l_unary s.from unary_words.Not a)))
+unary_case d (Keyword FstWord) = Some (λ s. unary_on d unary_words.Fst s.from)
+unary_case d (Keyword SndWord) = Some (λ s. unary_on d unary_words.Snd s.from)
+unary_case d (Keyword NotWord) = Some (λ s. unary_on d unary_words.Not s.from)
 unary_case d _ = None
 
+abbrev pub apply_on : Deeper → Reader ApplTree
+apply_on d = atom_at d >>= (λ a. parts_on d d.further >>= (λ ps. give (l_apply a ps)))
+
 unfoldable pub appl_at : Deeper → Reader ApplTree
-appl_at d = either (unary_case d) (atom_at d >>= (λ a. parts_on d d.further >>= (λ ps. give (l_apply a ps))))
+appl_at d = either (unary_case d) (apply_on d)
 
 abbrev pub on_prod_sign : (ProdSign → Reader ProdRestTree) → Option ProdSign → Option (Span → Reader ProdRestTree)
 on_prod_sign next None = None
@@ -197,14 +222,32 @@ unfoldable pub params_on : Deeper → ℕ → Reader ParamTrees
 params_on d zero = give no_params
 params_on d (suc n) = either (that (Sign OpenParenSign) (a_binder >>= (λ b. token (Sign ColonSign) >>= (λ _. d.ty >>= (λ a. token (Sign CloseParenSign) >>= (λ _. params_on d n >>= (λ ps. give (more_params b a ps)))))))) (give no_params)
 
+abbrev pub fun_mono_on : Deeper → ℕ → Reader TermTree
+fun_mono_on d at = a_name_there >>= (λ a. token (Sign CloseBracketSign) >>= (λ _. token (Sign DotSign) >>= (λ _. d.term >>= (λ m. give (t_fun_mono at a m)))))
+
+abbrev pub fun_binder_on : Deeper → ℕ → Reader TermTree
+fun_binder_on d at = a_binder >>= (λ b. token (Sign DotSign) >>= (λ _. d.term >>= (λ m. give (t_fun at b m))))
+
+abbrev pub fun_on : Deeper → ℕ → Reader TermTree
+fun_on d at = either (that (Sign OpenBracketSign) (fun_mono_on d at)) (fun_binder_on d at)
+
+abbrev pub do_on : Deeper → ℕ → Reader TermTree
+do_on d at = d.comp >>= (λ e. give (t_do at e))
+
+abbrev pub fix_on : Deeper → ℕ → Reader TermTree
+fix_on d at = a_name_there >>= (λ f. measured (params_on d) >>= (λ ps. token (Sign ColonSign) >>= (λ _. token (Sign OpenBraceSign) >>= (λ _. triple_at d >>= (λ t. token (Sign DotSign) >>= (λ _. d.comp >>= (λ e. give (t_fix at f ps t e))))))))
+
 abbrev pub term_case : Deeper → Kind → Option (Span → Reader TermTree)
-term_case d (Keyword FunWord) = Some (λ s. either (that (Sign OpenBracketSign) (a_name_there >>= (λ a. token (Sign CloseBracketSign) >>= (λ _. token (Sign DotSign) >>= (λ _. d.term >>= (λ m. give (t_fun_mono s.from a m))))))) (a_binder >>= (λ b. token (Sign DotSign) >>= (λ _. d.term >>= (λ m. give (t_fun s.from b m))))))
-term_case d (Keyword DoWord) = Some (λ s. d.comp >>= (λ e. give (t_do s.from e)))
-term_case d (Keyword FixWord) = Some (λ s. a_name_there >>= (λ f. measured (params_on d) >>= (λ ps. token (Sign ColonSign) >>= (λ _. token (Sign OpenBraceSign) >>= (λ _. triple_at d >>= (λ t. token (Sign DotSign) >>= (λ _. d.comp >>= (λ e. give (t_fix s.from f ps t e)))))))))
+term_case d (Keyword FunWord) = Some (λ s. fun_on d s.from)
+term_case d (Keyword DoWord) = Some (λ s. do_on d s.from)
+term_case d (Keyword FixWord) = Some (λ s. fix_on d s.from)
 term_case d _ = None
 
+abbrev pub rel_term_on : Deeper → Reader TermTree
+rel_term_on d = rel_at d >>= (λ r. give (t_rel r))
+
 unfoldable pub term_at : Deeper → Reader TermTree
-term_at d = either (term_case d) (rel_at d >>= (λ r. give (t_rel r)))
+term_at d = either (term_case d) (rel_term_on d)
 
 -- ---- types
 
@@ -220,31 +263,64 @@ abbrev pub starts_function : List Token → Bool
 starts_function [] = false
 starts_function (a ∷ tokens) = same_kind a.kind (Sign OpenParenSign) && binder_and_colon tokens
 
+abbrev pub function_on : Deeper → ℕ → Reader TyTree
+function_on d at = a_binder >>= (λ b. token (Sign ColonSign) >>= (λ _. d.ty >>= (λ a. token (Sign CloseParenSign) >>= (λ _. token (Sign ArrowSign) >>= (λ _. d.ty >>= (λ c. give (y_fun at b a c)))))))
+
 abbrev pub function_case : Deeper → Kind → Option (Span → Reader TyTree)
-function_case d (Sign OpenParenSign) = Some (λ s. a_binder >>= (λ b. token (Sign ColonSign) >>= (λ _. d.ty >>= (λ a. token (Sign CloseParenSign) >>= (λ _. token (Sign ArrowSign) >>= (λ _. d.ty >>= (λ c. give (y_fun s.from b a c))))))))
+function_case d (Sign OpenParenSign) = Some (λ s. function_on d s.from)
 function_case d _ = None
 
+abbrev pub all_on : Deeper → ℕ → Reader TyTree
+all_on d at = a_name_there >>= (λ a. token (Sign CloseBracketSign) >>= (λ _. token (Sign ArrowSign) >>= (λ _. d.ty >>= (λ c. give (y_all at a c)))))
+
+abbrev pub hoare_on : Deeper → ℕ → Reader TyTree
+hoare_on d at = triple_at d >>= (λ t. give (y_hoare at t))
+
 abbrev pub ty_case : Deeper → Kind → Option (Span → Reader TyTree)
-ty_case d (Sign OpenBracketSign) = Some (λ s. a_name_there >>= (λ a. token (Sign CloseBracketSign) >>= (λ _. token (Sign ArrowSign) >>= (λ _. d.ty >>= (λ c. give (y_all s.from a c))))))
-ty_case d (Sign OpenBraceSign) = Some (λ s. triple_at d >>= (λ t. give (y_hoare s.from t)))
+ty_case d (Sign OpenBracketSign) = Some (λ s. all_on d s.from)
+ty_case d (Sign OpenBraceSign) = Some (λ s. hoare_on d s.from)
 ty_case d _ = None
 
+abbrev pub mono_ty_on : Deeper → Reader TyTree
+mono_ty_on d = mono_at d >>= (λ m. give (y_mono m))
+
 unfoldable pub ty_at : Deeper → Reader TyTree
-ty_at d tokens = cond (starts_function tokens) (either (function_case d) stop tokens) (either (ty_case d) (mono_at d >>= (λ m. give (y_mono m))) tokens)
+ty_at d tokens = cond (starts_function tokens) (either (function_case d) stop tokens) (either (ty_case d) (mono_ty_on d) tokens)
 
 -- ---- computations
 
+abbrev pub alloc_on : Deeper → Reader StepTree
+alloc_on d = bracketed d >>= (λ t. atom_at d >>= (λ a. give (s_alloc t a)))
+
+abbrev pub get_on : Deeper → Reader StepTree
+get_on d = bracketed d >>= (λ t. atom_at d >>= (λ a. give (s_get t a)))
+
+abbrev pub set_on : Deeper → Reader StepTree
+set_on d = bracketed d >>= (λ t. atom_at d >>= (λ a. atom_at d >>= (λ b. give (s_set t a b))))
+
+abbrev pub free_on : Deeper → Reader StepTree
+free_on d = bracketed d >>= (λ t. atom_at d >>= (λ a. give (s_free t a)))
+
+abbrev pub if_on : Deeper → Reader StepTree
+if_on d = bracketed d >>= (λ t. atom_at d >>= (λ a. token (Sign OpenBraceSign) >>= (λ _. d.comp >>= (λ e. token (Sign CloseBraceSign) >>= (λ _. token (Sign OpenBraceSign) >>= (λ _. d.comp >>= (λ f. token (Sign CloseBraceSign) >>= (λ _. give (s_if t a e f)))))))))
+
+abbrev pub claim_on : Deeper → Reader StepTree
+claim_on d = token (Sign OpenBraceSign) >>= (λ _. d.formula >>= (λ p. token (Sign CloseBraceSign) >>= (λ _. give (s_claim p))))
+
 abbrev pub step_case : Deeper → Kind → Option (Span → Reader StepTree)
-step_case d (Keyword AllocWord) = Some (λ _. bracketed d >>= (λ t. atom_at d >>= (λ a. give (s_alloc t a))))
-step_case d (Keyword GetWord) = Some (λ _. bracketed d >>= (λ t. atom_at d >>= (λ a. give (s_get t a))))
-step_case d (Keyword SetWord) = Some (λ _. bracketed d >>= (λ t. atom_at d >>= (λ a. atom_at d >>= (λ b. give (s_set t a b)))))
-step_case d (Keyword FreeWord) = Some (λ _. bracketed d >>= (λ t. atom_at d >>= (λ a. give (s_free t a))))
-step_case d (Keyword IfWord) = Some (λ _. bracketed d >>= (λ t. atom_at d >>= (λ a. token (Sign OpenBraceSign) >>= (λ _. d.comp >>= (λ e. token (Sign CloseBraceSign) >>= (λ _. token (Sign OpenBraceSign) >>= (λ _. d.comp >>= (λ f. token (Sign CloseBraceSign) >>= (λ _. give (s_if t a e f))))))))))
-step_case d (Keyword ClaimWord) = Some (λ _. token (Sign OpenBraceSign) >>= (λ _. d.formula >>= (λ p. token (Sign CloseBraceSign) >>= (λ _. give (s_claim p)))))
+step_case d (Keyword AllocWord) = Some (λ _. alloc_on d)
+step_case d (Keyword GetWord) = Some (λ _. get_on d)
+step_case d (Keyword SetWord) = Some (λ _. set_on d)
+step_case d (Keyword FreeWord) = Some (λ _. free_on d)
+step_case d (Keyword IfWord) = Some (λ _. if_on d)
+step_case d (Keyword ClaimWord) = Some (λ _. claim_on d)
 step_case d _ = None
 
+abbrev pub run_on : Deeper → Reader StepTree
+run_on d = appl_at d >>= (λ a. give (s_run a))
+
 unfoldable pub step_at : Deeper → Reader StepTree
-step_at d = either (step_case d) (appl_at d >>= (λ a. give (s_run a)))
+step_at d = either (step_case d) (run_on d)
 
 unfoldable pub comp_on : Deeper → ℕ → Reader CompTree
 comp_on d zero = stop
@@ -261,39 +337,87 @@ sort_at d = either (that (Keyword HeapWord) (give over_heap)) (mono_at d >>= (λ
 unfoldable pub quantified : Deeper → (Binder → SortTree → FormulaTree → FormulaTree) → Reader FormulaTree
 quantified d make = a_binder >>= (λ b. token (Sign ColonSign) >>= (λ _. sort_at d >>= (λ s. token (Sign DotSign) >>= (λ _. d.formula >>= (λ p. give (make b s p))))))
 
+abbrev pub use_at_on : Deeper → ℕ → Span → TermTree → Reader FatomTree
+use_at_on d at p m = terms_there d >>= (λ ms. token (Sign CloseParenSign) >>= (λ _. give (g_use_at at p m ms)))
+
+abbrev pub use_terms_on : Deeper → ℕ → Span → TermTree → Reader FatomTree
+use_terms_on d at p m = d.term >>= (λ n. measured (terms_on d) >>= (λ ms. token (Sign CloseParenSign) >>= (λ _. give (g_use at p [] (more_terms m (more_terms n ms))))))
+
 abbrev pub argument_case : Deeper → ℕ → Span → TermTree → Kind → Option (Span → Reader FatomTree)
-argument_case d at p m (Sign SemicolonSign) = Some (λ _. terms_there d >>= (λ ms. token (Sign CloseParenSign) >>= (λ _. give (g_use_at at p m ms))))
-argument_case d at p m (Sign CommaSign) = Some (λ _. d.term >>= (λ n. measured (terms_on d) >>= (λ ms. token (Sign CloseParenSign) >>= (λ _. give (g_use at p [] (more_terms m (more_terms n ms)))))))
+argument_case d at p m (Sign SemicolonSign) = Some (λ _. use_at_on d at p m)
+argument_case d at p m (Sign CommaSign) = Some (λ _. use_terms_on d at p m)
 argument_case d at p m (Sign CloseParenSign) = Some (λ _. give (g_use at p [] (more_terms m no_terms)))
 argument_case d at p m _ = None
 
+abbrev pub use_monos_on : Deeper → ℕ → Span → Reader FatomTree
+use_monos_on d at p = mono_at d >>= (λ t. more_monos d >>= (λ ts. token (Sign CloseBracketSign) >>= (λ _. token (Sign OpenParenSign) >>= (λ _. terms_there d >>= (λ ms. token (Sign CloseParenSign) >>= (λ _. give (g_use at p (t ∷ ts) ms)))))))
+
+abbrev pub use_at_heap_on : Deeper → ℕ → Span → Reader FatomTree
+use_at_heap_on d at p = a_heap >>= (λ h. token (Sign OpenParenSign) >>= (λ _. d.term >>= (λ m. token (Sign SemicolonSign) >>= (λ _. terms_there d >>= (λ ms. token (Sign CloseParenSign) >>= (λ _. give (g_use_at_heap at p h m ms)))))))
+
+abbrev pub use_plain_on : Deeper → ℕ → Span → Reader FatomTree
+use_plain_on d at p = either (that (Sign CloseParenSign) (give (g_use at p [] no_terms))) (d.term >>= (λ m. either (argument_case d at p m) stop))
+
 abbrev pub use_case : Deeper → ℕ → Span → Kind → Option (Span → Reader FatomTree)
-use_case d at p (Sign OpenBracketSign) = Some (λ _. mono_at d >>= (λ t. more_monos d >>= (λ ts. token (Sign CloseBracketSign) >>= (λ _. token (Sign OpenParenSign) >>= (λ _. terms_there d >>= (λ ms. token (Sign CloseParenSign) >>= (λ _. give (g_use at p (t ∷ ts) ms))))))))
-use_case d at p (Sign AtSign) = Some (λ _. a_heap >>= (λ h. token (Sign OpenParenSign) >>= (λ _. d.term >>= (λ m. token (Sign SemicolonSign) >>= (λ _. terms_there d >>= (λ ms. token (Sign CloseParenSign) >>= (λ _. give (g_use_at_heap at p h m ms))))))))
-use_case d at p (Sign OpenParenSign) = Some (λ _. either (that (Sign CloseParenSign) (give (g_use at p [] no_terms))) (d.term >>= (λ m. either (argument_case d at p m) stop)))
+use_case d at p (Sign OpenBracketSign) = Some (λ _. use_monos_on d at p)
+use_case d at p (Sign AtSign) = Some (λ _. use_at_heap_on d at p)
+use_case d at p (Sign OpenParenSign) = Some (λ _. use_plain_on d at p)
 use_case d at p _ = None
+
+abbrev pub emp_of_on : ℕ → Reader FatomTree
+emp_of_on at = token (Sign OpenParenSign) >>= (λ _. a_heap >>= (λ h. token (Sign CloseParenSign) >>= (λ _. give (g_emp_of at h))))
+
+abbrev pub same_on : ℕ → Reader FatomTree
+same_on at = token (Sign OpenParenSign) >>= (λ _. a_heap >>= (λ h. token (Sign CommaSign) >>= (λ _. a_heap >>= (λ k. token (Sign CloseParenSign) >>= (λ _. give (g_same at h k))))))
+
+abbrev pub join_on : ℕ → Reader FatomTree
+join_on at = token (Sign OpenParenSign) >>= (λ _. a_heap >>= (λ h. token (Sign CommaSign) >>= (λ _. a_heap >>= (λ j. token (Sign CommaSign) >>= (λ _. a_heap >>= (λ k. token (Sign CloseParenSign) >>= (λ _. give (g_join at h j k))))))))
+
+abbrev pub cell_on : Deeper → ℕ → Reader FatomTree
+cell_on d at = bracketed d >>= (λ t. token (Sign OpenParenSign) >>= (λ _. a_heap >>= (λ h. token (Sign CommaSign) >>= (λ _. d.term >>= (λ m. token (Sign CommaSign) >>= (λ _. d.term >>= (λ n. token (Sign CloseParenSign) >>= (λ _. give (g_cell at t h m n)))))))))
+
+abbrev pub block_on : Deeper → ℕ → Reader FatomTree
+block_on d at = bracketed d >>= (λ t. token (Sign OpenParenSign) >>= (λ _. a_heap >>= (λ h. token (Sign CommaSign) >>= (λ _. d.term >>= (λ m. token (Sign CloseParenSign) >>= (λ _. give (g_block at t h m)))))))
+
+abbrev pub in_brackets_on : Deeper → ℕ → Reader FatomTree
+in_brackets_on d at = d.formula >>= (λ p. token (Sign CloseBracketSign) >>= (λ _. give (g_brackets at p)))
+
+abbrev pub at_heap_on : Deeper → ℕ → Reader FatomTree
+at_heap_on d at = a_heap >>= (λ h. token (Sign OpenBracketSign) >>= (λ _. d.formula >>= (λ p. token (Sign CloseBracketSign) >>= (λ _. give (g_at_heap at h p)))))
+
+abbrev pub use_on : Deeper → ℕ → Reader FatomTree
+use_on d at = a_name_there >>= (λ p. either (use_case d at p) stop)
 
 abbrev pub fatom_case : Deeper → Kind → Option (Span → Reader FatomTree)
 fatom_case d (Keyword TtWord) = Some (λ s. give (g_tt s.from))
 fatom_case d (Keyword FfWord) = Some (λ s. give (g_ff s.from))
 fatom_case d (Keyword EmpWord) = Some (λ s. give (g_emp s.from))
-fatom_case d (Keyword CapitalEmpWord) = Some (λ s. token (Sign OpenParenSign) >>= (λ _. a_heap >>= (λ h. token (Sign CloseParenSign) >>= (λ _. give (g_emp_of s.from h)))))
-fatom_case d (Keyword SameWord) = Some (λ s. token (Sign OpenParenSign) >>= (λ _. a_heap >>= (λ h. token (Sign CommaSign) >>= (λ _. a_heap >>= (λ k. token (Sign CloseParenSign) >>= (λ _. give (g_same s.from h k)))))))
-fatom_case d (Keyword JoinWord) = Some (λ s. token (Sign OpenParenSign) >>= (λ _. a_heap >>= (λ h. token (Sign CommaSign) >>= (λ _. a_heap >>= (λ j. token (Sign CommaSign) >>= (λ _. a_heap >>= (λ k. token (Sign CloseParenSign) >>= (λ _. give (g_join s.from h j k)))))))))
-fatom_case d (Keyword CellWord) = Some (λ s. bracketed d >>= (λ t. token (Sign OpenParenSign) >>= (λ _. a_heap >>= (λ h. token (Sign CommaSign) >>= (λ _. d.term >>= (λ m. token (Sign CommaSign) >>= (λ _. d.term >>= (λ n. token (Sign CloseParenSign) >>= (λ _. give (g_cell s.from t h m n))))))))))
-fatom_case d (Keyword BlockWord) = Some (λ s. bracketed d >>= (λ t. token (Sign OpenParenSign) >>= (λ _. a_heap >>= (λ h. token (Sign CommaSign) >>= (λ _. d.term >>= (λ m. token (Sign CloseParenSign) >>= (λ _. give (g_block s.from t h m))))))))
-fatom_case d (Sign OpenBracketSign) = Some (λ s. d.formula >>= (λ p. token (Sign CloseBracketSign) >>= (λ _. give (g_brackets s.from p))))
-fatom_case d (Sign AtSign) = Some (λ s. a_heap >>= (λ h. token (Sign OpenBracketSign) >>= (λ _. d.formula >>= (λ p. token (Sign CloseBracketSign) >>= (λ _. give (g_at_heap s.from h p))))))
-fatom_case d (Sign BangSign) = Some (λ s. a_name_there >>= (λ p. either (use_case d s.from p) stop))
+fatom_case d (Keyword CapitalEmpWord) = Some (λ s. emp_of_on s.from)
+fatom_case d (Keyword SameWord) = Some (λ s. same_on s.from)
+fatom_case d (Keyword JoinWord) = Some (λ s. join_on s.from)
+fatom_case d (Keyword CellWord) = Some (λ s. cell_on d s.from)
+fatom_case d (Keyword BlockWord) = Some (λ s. block_on d s.from)
+fatom_case d (Sign OpenBracketSign) = Some (λ s. in_brackets_on d s.from)
+fatom_case d (Sign AtSign) = Some (λ s. at_heap_on d s.from)
+fatom_case d (Sign BangSign) = Some (λ s. use_on d s.from)
 fatom_case d _ = None
 
+abbrev pub equal_on : Deeper → RelTree → Reader FatomTree
+equal_on d m = bracketed d >>= (λ t. rel_at d >>= (λ n. give (g_eq m t n)))
+
+abbrev pub points_on : Deeper → RelTree → Reader FatomTree
+points_on d m = bracketed d >>= (λ t. either (that (Sign UnderscoreSign) (give (g_points_any m t))) (rel_at d >>= (λ n. give (g_points m t n))))
+
 abbrev pub relation_case : Deeper → RelTree → Kind → Option (Span → Reader FatomTree)
-relation_case d m (Sign EqualSign) = Some (λ _. bracketed d >>= (λ t. rel_at d >>= (λ n. give (g_eq m t n))))
-relation_case d m (Sign PointsToSign) = Some (λ _. bracketed d >>= (λ t. either (that (Sign UnderscoreSign) (give (g_points_any m t))) (rel_at d >>= (λ n. give (g_points m t n)))))
+relation_case d m (Sign EqualSign) = Some (λ _. equal_on d m)
+relation_case d m (Sign PointsToSign) = Some (λ _. points_on d m)
 relation_case d m _ = None
 
+abbrev pub relation_on : Deeper → Reader FatomTree
+relation_on d = rel_at d >>= (λ m. either (relation_case d m) stop)
+
 unfoldable pub fatom_at : Deeper → Reader FatomTree
-fatom_at d = either (fatom_case d) (rel_at d >>= (λ m. either (relation_case d m) stop))
+fatom_at d = either (fatom_case d) (relation_on d)
 
 unfoldable pub star_at : Deeper → Reader StarTree
 star_at d = fatom_at d >>= (λ f. either (that (Sign DoubleStarSign) (d.star >>= (λ s. give (k_times f s)))) (give (k_fatom f)))
@@ -309,5 +433,8 @@ quantifier_case d (Keyword AllWord) = Some (λ s. quantified d (f_all s.from))
 quantifier_case d (Keyword ExWord) = Some (λ s. quantified d (f_ex s.from))
 quantifier_case d _ = None
 
+abbrev pub implication_on : Deeper → Reader FormulaTree
+implication_on d = disj_at d >>= (λ e. either (that (Sign ImpliesSign) (d.formula >>= (λ p. give (f_implies e p)))) (give (f_disj e)))
+
 unfoldable pub formula_at : Deeper → Reader FormulaTree
-formula_at d = either (quantifier_case d) (disj_at d >>= (λ e. either (that (Sign ImpliesSign) (d.formula >>= (λ p. give (f_implies e p)))) (give (f_disj e))))
+formula_at d = either (quantifier_case d) (implication_on d)

@@ -14,8 +14,11 @@ use Rattle.htt_grammar.specs.Phrases.{Deeper, a_binder, a_name_there, a_number_t
 
 -- ---- proofs
 
+abbrev pub heap_arg_on : ℕ → Reader ArgTree
+heap_arg_on at = a_heap >>= (λ h. give (arg_heap at h))
+
 abbrev pub arg_case : Kind → Option (Span → Reader ArgTree)
-arg_case (Sign AtSign) = Some (λ s. a_heap >>= (λ h. give (arg_heap s.from h)))
+arg_case (Sign AtSign) = Some (λ s. heap_arg_on s.from)
 arg_case _ = None
 
 unfoldable pub arg_at : Deeper → Reader ArgTree
@@ -51,11 +54,53 @@ inst_more d at (suc n) p = arg_at d >>= (λ a. args_on d n >>= (λ more. token (
 unfoldable pub unary_at : Deeper → ℕ → UnaryRule → Reader EndTree
 unary_at d at w = token (Sign OpenParenSign) >>= (λ _. d.proof >>= (λ p. token (Sign CloseParenSign) >>= (λ _. give (e_unary at w p))))
 
+abbrev pub unfold_on : Deeper → ℕ → Span → Reader EndTree
+unfold_on d at c = a_number_there >>= (λ n. token (Sign OpenParenSign) >>= (λ _. arg_at d >>= (λ a. more_args d >>= (λ more. token (Sign CloseParenSign) >>= (λ _. give (e_unfold at c n a more))))))
+
+abbrev pub axiom_monos_on : Deeper → ℕ → Span → Reader EndTree
+axiom_monos_on d at c = mono_at d >>= (λ t. more_monos d >>= (λ ts. token (Sign CloseBracketSign) >>= (λ _. token (Sign OpenParenSign) >>= (λ _. args_there d >>= (λ more. token (Sign CloseParenSign) >>= (λ _. give (e_axiom at c (t ∷ ts) more)))))))
+
+abbrev pub axiom_plain_on : Deeper → ℕ → Span → Reader EndTree
+axiom_plain_on d at c = args_there d >>= (λ more. token (Sign CloseParenSign) >>= (λ _. give (e_axiom at c [] more)))
+
 abbrev pub axiom_case : Deeper → ℕ → Span → Kind → Option (Span → Reader EndTree)
-axiom_case d at c (Sign DotSign) = Some (λ _. a_number_there >>= (λ n. token (Sign OpenParenSign) >>= (λ _. arg_at d >>= (λ a. more_args d >>= (λ more. token (Sign CloseParenSign) >>= (λ _. give (e_unfold at c n a more)))))))
-axiom_case d at c (Sign OpenBracketSign) = Some (λ _. mono_at d >>= (λ t. more_monos d >>= (λ ts. token (Sign CloseBracketSign) >>= (λ _. token (Sign OpenParenSign) >>= (λ _. args_there d >>= (λ more. token (Sign CloseParenSign) >>= (λ _. give (e_axiom at c (t ∷ ts) more))))))))
-axiom_case d at c (Sign OpenParenSign) = Some (λ _. args_there d >>= (λ more. token (Sign CloseParenSign) >>= (λ _. give (e_axiom at c [] more))))
+axiom_case d at c (Sign DotSign) = Some (λ _. unfold_on d at c)
+axiom_case d at c (Sign OpenBracketSign) = Some (λ _. axiom_monos_on d at c)
+axiom_case d at c (Sign OpenParenSign) = Some (λ _. axiom_plain_on d at c)
 axiom_case d at c _ = None
+
+abbrev pub both_on : Deeper → ℕ → Reader EndTree
+both_on d at = token (Sign OpenParenSign) >>= (λ _. d.proof >>= (λ p. token (Sign CommaSign) >>= (λ _. d.proof >>= (λ q. token (Sign CloseParenSign) >>= (λ _. give (e_both at p q))))))
+
+abbrev pub give_on : Deeper → ℕ → Reader EndTree
+give_on d at = token (Sign OpenParenSign) >>= (λ _. arg_at d >>= (λ a. token (Sign CommaSign) >>= (λ _. d.proof >>= (λ p. token (Sign CloseParenSign) >>= (λ _. give (e_give at a p))))))
+
+abbrev pub app_on : Deeper → ℕ → Reader EndTree
+app_on d at = token (Sign OpenParenSign) >>= (λ _. d.proof >>= (λ p. token (Sign CommaSign) >>= (λ _. app_more d at d.further p)))
+
+abbrev pub inst_on : Deeper → ℕ → Reader EndTree
+inst_on d at = token (Sign OpenParenSign) >>= (λ _. d.proof >>= (λ p. token (Sign CommaSign) >>= (λ _. inst_more d at d.further p)))
+
+abbrev pub case_on : Deeper → ℕ → Reader EndTree
+case_on d at = token (Sign OpenParenSign) >>= (λ _. d.proof >>= (λ p. token (Sign CommaSign) >>= (λ _. a_name_there >>= (λ u. token (Sign DotSign) >>= (λ _. d.proof >>= (λ q. token (Sign CommaSign) >>= (λ _. a_name_there >>= (λ v. token (Sign DotSign) >>= (λ _. d.proof >>= (λ r. token (Sign CloseParenSign) >>= (λ _. give (e_case at p u q v r))))))))))))
+
+abbrev pub rewrite_on : Deeper → ℕ → Reader EndTree
+rewrite_on d at = token (Sign OpenParenSign) >>= (λ _. d.proof >>= (λ p. token (Sign CommaSign) >>= (λ _. motive_at d >>= (λ c. token (Sign CommaSign) >>= (λ _. d.proof >>= (λ q. token (Sign CloseParenSign) >>= (λ _. give (e_rewrite at p c q))))))))
+
+abbrev pub induct_end_on : Deeper → ℕ → Reader EndTree
+induct_end_on d at = token (Sign OpenParenSign) >>= (λ _. motive_at d >>= (λ c. token (Sign CommaSign) >>= (λ _. d.term >>= (λ m. token (Sign CommaSign) >>= (λ _. d.proof >>= (λ p. token (Sign CommaSign) >>= (λ _. a_binder >>= (λ b. a_name_there >>= (λ u. a_name_there >>= (λ v. token (Sign DotSign) >>= (λ _. d.proof >>= (λ q. token (Sign CloseParenSign) >>= (λ _. give (e_induct at c m p b u v q))))))))))))))
+
+abbrev pub split_on : Deeper → ℕ → Reader EndTree
+split_on d at = token (Sign OpenParenSign) >>= (λ _. motive_at d >>= (λ c. token (Sign CommaSign) >>= (λ _. d.term >>= (λ m. token (Sign CommaSign) >>= (λ _. d.proof >>= (λ p. token (Sign CommaSign) >>= (λ _. d.proof >>= (λ q. token (Sign CloseParenSign) >>= (λ _. give (e_split at c m p q))))))))))
+
+abbrev pub axiom_on : Deeper → ℕ → Reader EndTree
+axiom_on d at = a_name_there >>= (λ c. either (axiom_case d at c) stop)
+
+abbrev pub lem_on : Deeper → ℕ → Reader EndTree
+lem_on d at = token (Sign OpenBracketSign) >>= (λ _. d.formula >>= (λ f. token (Sign CloseBracketSign) >>= (λ _. give (e_lem at f))))
+
+abbrev pub the_on : Deeper → ℕ → Reader EndTree
+the_on d at = token (Sign OpenBracketSign) >>= (λ _. d.formula >>= (λ f. token (Sign CloseBracketSign) >>= (λ _. token (Sign OpenParenSign) >>= (λ _. d.proof >>= (λ p. token (Sign CloseParenSign) >>= (λ _. give (e_the at f p)))))))
 
 abbrev pub end_case : Deeper → Kind → Option (Span → Reader EndTree)
 end_case d Name = Some (λ s. give (e_name s))
@@ -66,27 +111,39 @@ end_case d (Keyword SecondWord) = Some (λ s. unary_at d s.from unary_rules.Seco
 end_case d (Keyword LeftWord) = Some (λ s. unary_at d s.from unary_rules.Left)
 end_case d (Keyword RightWord) = Some (λ s. unary_at d s.from unary_rules.Right)
 end_case d (Keyword AbsurdWord) = Some (λ s. unary_at d s.from unary_rules.Absurd)
-end_case d (Keyword BothWord) = Some (λ s. token (Sign OpenParenSign) >>= (λ _. d.proof >>= (λ p. token (Sign CommaSign) >>= (λ _. d.proof >>= (λ q. token (Sign CloseParenSign) >>= (λ _. give (e_both s.from p q)))))))
-end_case d (Keyword GiveWord) = Some (λ s. token (Sign OpenParenSign) >>= (λ _. arg_at d >>= (λ a. token (Sign CommaSign) >>= (λ _. d.proof >>= (λ p. token (Sign CloseParenSign) >>= (λ _. give (e_give s.from a p)))))))
-end_case d (Keyword AppWord) = Some (λ s. token (Sign OpenParenSign) >>= (λ _. d.proof >>= (λ p. token (Sign CommaSign) >>= (λ _. app_more d s.from d.further p))))
-end_case d (Keyword InstWord) = Some (λ s. token (Sign OpenParenSign) >>= (λ _. d.proof >>= (λ p. token (Sign CommaSign) >>= (λ _. inst_more d s.from d.further p))))
-end_case d (Keyword CaseWord) = Some (λ s. token (Sign OpenParenSign) >>= (λ _. d.proof >>= (λ p. token (Sign CommaSign) >>= (λ _. a_name_there >>= (λ u. token (Sign DotSign) >>= (λ _. d.proof >>= (λ q. token (Sign CommaSign) >>= (λ _. a_name_there >>= (λ v. token (Sign DotSign) >>= (λ _. d.proof >>= (λ r. token (Sign CloseParenSign) >>= (λ _. give (e_case s.from p u q v r)))))))))))))
-end_case d (Keyword RewriteWord) = Some (λ s. token (Sign OpenParenSign) >>= (λ _. d.proof >>= (λ p. token (Sign CommaSign) >>= (λ _. motive_at d >>= (λ c. token (Sign CommaSign) >>= (λ _. d.proof >>= (λ q. token (Sign CloseParenSign) >>= (λ _. give (e_rewrite s.from p c q)))))))))
-end_case d (Keyword InductWord) = Some (λ s. token (Sign OpenParenSign) >>= (λ _. motive_at d >>= (λ c. token (Sign CommaSign) >>= (λ _. d.term >>= (λ m. token (Sign CommaSign) >>= (λ _. d.proof >>= (λ p. token (Sign CommaSign) >>= (λ _. a_binder >>= (λ b. a_name_there >>= (λ u. a_name_there >>= (λ v. token (Sign DotSign) >>= (λ _. d.proof >>= (λ q. token (Sign CloseParenSign) >>= (λ _. give (e_induct s.from c m p b u v q)))))))))))))))
-end_case d (Keyword SplitWord) = Some (λ s. token (Sign OpenParenSign) >>= (λ _. motive_at d >>= (λ c. token (Sign CommaSign) >>= (λ _. d.term >>= (λ m. token (Sign CommaSign) >>= (λ _. d.proof >>= (λ p. token (Sign CommaSign) >>= (λ _. d.proof >>= (λ q. token (Sign CloseParenSign) >>= (λ _. give (e_split s.from c m p q)))))))))))
-end_case d (Keyword AxiomWord) = Some (λ s. a_name_there >>= (λ c. either (axiom_case d s.from c) stop))
-end_case d (Keyword LemWord) = Some (λ s. token (Sign OpenBracketSign) >>= (λ _. d.formula >>= (λ f. token (Sign CloseBracketSign) >>= (λ _. give (e_lem s.from f)))))
-end_case d (Keyword TheWord) = Some (λ s. token (Sign OpenBracketSign) >>= (λ _. d.formula >>= (λ f. token (Sign CloseBracketSign) >>= (λ _. token (Sign OpenParenSign) >>= (λ _. d.proof >>= (λ p. token (Sign CloseParenSign) >>= (λ _. give (e_the s.from f p))))))))
+end_case d (Keyword BothWord) = Some (λ s. both_on d s.from)
+end_case d (Keyword GiveWord) = Some (λ s. give_on d s.from)
+end_case d (Keyword AppWord) = Some (λ s. app_on d s.from)
+end_case d (Keyword InstWord) = Some (λ s. inst_on d s.from)
+end_case d (Keyword CaseWord) = Some (λ s. case_on d s.from)
+end_case d (Keyword RewriteWord) = Some (λ s. rewrite_on d s.from)
+end_case d (Keyword InductWord) = Some (λ s. induct_end_on d s.from)
+end_case d (Keyword SplitWord) = Some (λ s. split_on d s.from)
+end_case d (Keyword AxiomWord) = Some (λ s. axiom_on d s.from)
+end_case d (Keyword LemWord) = Some (λ s. lem_on d s.from)
+end_case d (Keyword TheWord) = Some (λ s. the_on d s.from)
 end_case d _ = None
 
 unfoldable pub end_at : Deeper → Reader EndTree
 end_at d = either (end_case d) stop
 
+abbrev pub intro_on : ℕ → Reader StmtTree
+intro_on at = a_name_there >>= (λ u. token (Sign SemicolonSign) >>= (λ _. give (b_intro at u)))
+
+abbrev pub gen_on : ℕ → Reader StmtTree
+gen_on at = a_binder >>= (λ b. token (Sign SemicolonSign) >>= (λ _. give (b_gen at b)))
+
+abbrev pub open_on : Deeper → ℕ → Reader StmtTree
+open_on d at = a_binder >>= (λ b. a_name_there >>= (λ u. token (Sign EqualSign) >>= (λ _. d.proof >>= (λ p. token (Sign SemicolonSign) >>= (λ _. give (b_open at b u p))))))
+
+abbrev pub have_on : Deeper → ℕ → Reader StmtTree
+have_on d at = a_name_there >>= (λ u. token (Sign ColonSign) >>= (λ _. token (Sign OpenBracketSign) >>= (λ _. d.formula >>= (λ f. token (Sign CloseBracketSign) >>= (λ _. token (Sign EqualSign) >>= (λ _. d.proof >>= (λ p. token (Sign SemicolonSign) >>= (λ _. give (b_have at u f p)))))))))
+
 abbrev pub stmt_case : Deeper → Kind → Option (Span → Reader StmtTree)
-stmt_case d (Keyword IntroWord) = Some (λ s. a_name_there >>= (λ u. token (Sign SemicolonSign) >>= (λ _. give (b_intro s.from u))))
-stmt_case d (Keyword GenWord) = Some (λ s. a_binder >>= (λ b. token (Sign SemicolonSign) >>= (λ _. give (b_gen s.from b))))
-stmt_case d (Keyword OpenWord) = Some (λ s. a_binder >>= (λ b. a_name_there >>= (λ u. token (Sign EqualSign) >>= (λ _. d.proof >>= (λ p. token (Sign SemicolonSign) >>= (λ _. give (b_open s.from b u p)))))))
-stmt_case d (Keyword HaveWord) = Some (λ s. a_name_there >>= (λ u. token (Sign ColonSign) >>= (λ _. token (Sign OpenBracketSign) >>= (λ _. d.formula >>= (λ f. token (Sign CloseBracketSign) >>= (λ _. token (Sign EqualSign) >>= (λ _. d.proof >>= (λ p. token (Sign SemicolonSign) >>= (λ _. give (b_have s.from u f p))))))))))
+stmt_case d (Keyword IntroWord) = Some (λ s. intro_on s.from)
+stmt_case d (Keyword GenWord) = Some (λ s. gen_on s.from)
+stmt_case d (Keyword OpenWord) = Some (λ s. open_on d s.from)
+stmt_case d (Keyword HaveWord) = Some (λ s. have_on d s.from)
 stmt_case d _ = None
 
 unfoldable pub stmt_at : Deeper → Reader StmtTree
@@ -151,9 +208,12 @@ pred_on d name names = mono_parameters_at d >>= (λ ps. token (Sign EqualSign) >
 unfoldable pub induct_on : Deeper → Span → Reader DeclTree
 induct_on d name = a_binder >>= (λ b. mono_parameters_at d >>= (λ ps. token (Sign EqualSign) >>= (λ _. token (Sign OpenBraceSign) >>= (λ _. d.formula >>= (λ f. token (Sign CloseBraceSign) >>= (λ _. token (Sign OpenBraceSign) >>= (λ _. d.formula >>= (λ g. token (Sign CloseBraceSign) >>= (λ _. give (decl_induct name b ps f g))))))))))
 
+abbrev pub pred_names_on : Deeper → Span → Reader DeclTree
+pred_names_on d name = a_name_there >>= (λ a. measured (after_commas (Sign CommaSign) a_name_there) >>= (λ as'. token (Sign CloseBracketSign) >>= (λ _. pred_on d name (a ∷ as'))))
+
 abbrev pub pred_case : Deeper → Span → Kind → Option (Span → Reader DeclTree)
 pred_case d name (Keyword InductWord) = Some (λ _. induct_on d name)
-pred_case d name (Sign OpenBracketSign) = Some (λ _. a_name_there >>= (λ a. measured (after_commas (Sign CommaSign) a_name_there) >>= (λ as'. token (Sign CloseBracketSign) >>= (λ _. pred_on d name (a ∷ as')))))
+pred_case d name (Sign OpenBracketSign) = Some (λ _. pred_names_on d name)
 pred_case d name _ = None
 
 abbrev pub body_case : Kind → Option (Span → Reader BodyTree)
@@ -166,12 +226,21 @@ body_at d = either body_case (d.proof >>= (λ p. give (body_proof p)))
 unfoldable pub typed_on : Deeper → (Span → TyTree → TermTree → DeclTree) → Reader DeclTree
 typed_on d make = a_name_there >>= (λ x. token (Sign ColonSign) >>= (λ _. d.ty >>= (λ a. token (Sign EqualSign) >>= (λ _. d.term >>= (λ m. give (make x a m))))))
 
+abbrev pub type_on : Deeper → Reader DeclTree
+type_on d = a_name_there >>= (λ x. token (Sign EqualSign) >>= (λ _. d.mono >>= (λ m. give (decl_type x m))))
+
+abbrev pub pred_decl_on : Deeper → Reader DeclTree
+pred_decl_on d = a_name_there >>= (λ x. either (pred_case d x) (pred_on d x []))
+
+abbrev pub proof_decl_on : Deeper → ℕ → Reader DeclTree
+proof_decl_on d at = a_name_there >>= (λ x. token (Sign DotSign) >>= (λ _. a_number_there >>= (λ n. token (Sign EqualSign) >>= (λ _. body_at d >>= (λ b. give (decl_proof at x n b))))))
+
 abbrev pub decl_case : Deeper → Kind → Option (Span → Reader DeclTree)
-decl_case d (Keyword TypeWord) = Some (λ _. a_name_there >>= (λ x. token (Sign EqualSign) >>= (λ _. d.mono >>= (λ m. give (decl_type x m)))))
-decl_case d (Keyword PredWord) = Some (λ _. a_name_there >>= (λ x. either (pred_case d x) (pred_on d x [])))
+decl_case d (Keyword TypeWord) = Some (λ _. type_on d)
+decl_case d (Keyword PredWord) = Some (λ _. pred_decl_on d)
 decl_case d (Keyword DefWord) = Some (λ _. typed_on d decl_def)
 decl_case d (Keyword ValWord) = Some (λ _. typed_on d decl_val)
-decl_case d (Keyword ProofWord) = Some (λ s. a_name_there >>= (λ x. token (Sign DotSign) >>= (λ _. a_number_there >>= (λ n. token (Sign EqualSign) >>= (λ _. body_at d >>= (λ b. give (decl_proof s.from x n b)))))))
+decl_case d (Keyword ProofWord) = Some (λ s. proof_decl_on d s.from)
 decl_case d _ = None
 
 unfoldable pub decl_at : Deeper → Reader DeclTree
