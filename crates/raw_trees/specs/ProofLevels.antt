@@ -14,21 +14,19 @@ use Rattle.raw_trees.specs.declared.proof.UnaryRule.{UnaryRule}
 use Rattle.raw_trees.specs.declared.proof.RawMotive.{RawMotive}
 use Rattle.raw_trees.specs.declared.proof.RawArg.{RawArg}
 use Rattle.raw_trees.specs.declared.proof.RawEnd.TheBlock as block
-use Rattle.raw_trees.specs.Trees.{ProofTree, ProofTrees, b_gen, b_have, b_intro, b_open, e_app, e_axiom, e_both, e_case, e_give, e_induct, e_inst, e_lem, e_name, e_refl, e_rewrite, e_split, e_the, e_trivial, e_unary, e_unfold, more_proofs, no_proofs, p_end, p_step}
+use Rattle.raw_trees.specs.Trees.{ProofTree, ProofTrees, b_gen, b_have, b_intro, b_open, e_app, e_axiom, e_both, e_case, e_give, e_induct, e_inst, e_lem, e_name, e_refl, e_rewrite, e_split, e_the, e_trivial, e_unary, e_unfold, more_proofs, no_proofs, onto, p_end, p_step}
 use Rattle.raw_trees.specs.MonoLevels.{mono_tree}
 use Rattle.raw_trees.specs.TreeViews.{formula_tree, term_tree}
 use Rattle.raw_trees.specs.ProofViews.{arg_tree, end_tree, motive_tree, proofs_row, stmt_tree, stmts_row}
 
 abbrev pub stmts_tree : List RawStmt → ProofTree → ProofTree
-stmts_tree [] last = last
-stmts_tree (x ∷ xs) last = stmt_tree x (stmts_tree xs last)
+stmts_tree xs last = onto (λ x. p_step (stmt_tree x)) xs last
 
 unfoldable pub proof_tree : RawProof → ProofTree
 proof_tree p = stmts_tree p.statements (p_end (end_tree p.end))
 
 abbrev pub proof_trees : List RawProof → ProofTrees
-proof_trees [] = no_proofs
-proof_trees (x ∷ xs) = more_proofs (proof_tree x) (proof_trees xs)
+proof_trees xs = onto (λ x. more_proofs (proof_tree x)) xs no_proofs
 
 -- all that the equations below compute with
 generated : Type 0
@@ -38,7 +36,7 @@ generated = ⊤
 stmts_row_is : (xs : List RawStmt) (last : ProofTree) → stmts_row (block.hidden-the_row-RawStmt-0 xs) last ≡ stmts_tree xs last
 unfolding stmt_tree block.hidden-the_row-RawStmt-0 denote.Hole.Carrier.hidden
 stmts_row_is [] last = refl
-stmts_row_is (x ∷ xs) last = ap (stmt_tree x) (stmts_row_is xs last)
+stmts_row_is (x ∷ xs) last = ap (p_step (stmt_tree x)) (stmts_row_is xs last)
 
 proof_is : (p : RawProof) → stmts_row (block.hidden-the_row-RawStmt-0 p.statements) (p_end (end_tree p.end)) ≡ proof_tree p
 unfolding proof_tree
@@ -49,21 +47,21 @@ unfolding stmt_tree proof_tree block.hidden-the_row-RawProof-2 denote.Hole.Carri
 proofs_row_is [] = refl
 proofs_row_is (x ∷ xs) = λ j. more_proofs (proof_is x j) (proofs_row_is xs j)
 
-pub stmt_intro : (at : ℕ) (x : Span) (rest : ProofTree) → stmt_tree (vstmt.Intro at x) rest ≡ p_step (b_intro at x) rest
+pub stmt_intro : (at : ℕ) (x : Span) → stmt_tree (vstmt.Intro at x) ≡ b_intro at x
 unfolding generated
-stmt_intro at x rest = refl
+stmt_intro at x = refl
 
-pub stmt_gen : (at : ℕ) (x : Binder) (rest : ProofTree) → stmt_tree (vstmt.Gen at x) rest ≡ p_step (b_gen at x) rest
+pub stmt_gen : (at : ℕ) (x : Binder) → stmt_tree (vstmt.Gen at x) ≡ b_gen at x
 unfolding generated
-stmt_gen at x rest = refl
+stmt_gen at x = refl
 
-pub stmt_open : (at : ℕ) (x : Binder) (hypothesis : Span) (p : RawProof) (rest : ProofTree) → stmt_tree (vstmt.Open at x hypothesis p) rest ≡ p_step (b_open at x hypothesis (proof_tree p)) rest
+pub stmt_open : (at : ℕ) (x : Binder) (hypothesis : Span) (p : RawProof) → stmt_tree (vstmt.Open at x hypothesis p) ≡ b_open at x hypothesis (proof_tree p)
 unfolding generated
-stmt_open at x hypothesis p rest = λ j. p_step (b_open at x hypothesis (proof_is p j)) rest
+stmt_open at x hypothesis p = λ j. b_open at x hypothesis (proof_is p j)
 
-pub stmt_have : (at : ℕ) (hypothesis : Span) (f : RawFormula) (p : RawProof) (rest : ProofTree) → stmt_tree (vstmt.Have at hypothesis f p) rest ≡ p_step (b_have at hypothesis (formula_tree f) (proof_tree p)) rest
+pub stmt_have : (at : ℕ) (hypothesis : Span) (f : RawFormula) (p : RawProof) → stmt_tree (vstmt.Have at hypothesis f p) ≡ b_have at hypothesis (formula_tree f) (proof_tree p)
 unfolding generated
-stmt_have at hypothesis f p rest = λ j. p_step (b_have at hypothesis (formula_tree f) (proof_is p j)) rest
+stmt_have at hypothesis f p = λ j. b_have at hypothesis (formula_tree f) (proof_is p j)
 
 pub end_name : (span : Span) → end_tree (vend.Name span) ≡ e_name span
 unfolding generated

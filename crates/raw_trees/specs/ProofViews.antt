@@ -5,7 +5,7 @@ use Rattle.raw_trees.specs.declared.proof.RawStmt as stmt
 use Rattle.raw_trees.specs.declared.proof.RawEnd.{RawEnd}
 use Rattle.raw_trees.specs.declared.proof.RawEnd as end
 use Rattle.raw_trees.specs.declared.proof.RawEnd.TheBlock.{Row_of-RawProof, Row_of-RawStmt, end_of-RawProof, end_of-RawStmt, more_of-RawProof, more_of-RawStmt}
-use Rattle.raw_trees.specs.Trees.{ArgTree, arg_heap, arg_term, MotiveTree, motive_of, EndTree, ProofTree, ProofTrees, b_gen, b_have, b_intro, b_open, e_app, e_axiom, e_both, e_case, e_give, e_induct, e_inst, e_lem, e_name, e_refl, e_rewrite, e_split, e_the, e_trivial, e_unary, e_unfold, more_proofs, no_proofs, p_end, p_step}
+use Rattle.raw_trees.specs.Trees.{ArgTree, arg_heap, arg_term, MotiveTree, motive_of, EndTree, ProofTree, ProofTrees, StmtTree, b_gen, b_have, b_intro, b_open, e_app, e_axiom, e_both, e_case, e_give, e_induct, e_inst, e_lem, e_name, e_refl, e_rewrite, e_split, e_the, e_trivial, e_unary, e_unfold, more_proofs, no_proofs, p_end, p_step}
 use Rattle.raw_trees.specs.declared.proof.RawArg.{RawArg}
 use Rattle.raw_trees.specs.declared.proof.RawArg.TheVariants as arg
 use Rattle.raw_trees.specs.declared.proof.RawMotive.{RawMotive}
@@ -20,11 +20,11 @@ unfoldable pub motive_tree : RawMotive → MotiveTree
 motive_tree m = motive_of m.name (formula_tree m.formula)
 
 unfoldable mutual
-  pub stmt_tree : RawStmt → ProofTree → ProofTree
-  stmt_tree (stmt.Intro x1 x2) rest = p_step (b_intro x1 x2) rest
-  stmt_tree (stmt.Gen x1 x2) rest = p_step (b_gen x1 x2) rest
-  stmt_tree (stmt.Open' x1 x2 x3 _ x4 x5) rest = p_step (b_open x1 x2 x3 (stmts_row x4 (p_end (end_tree x5)))) rest
-  stmt_tree (stmt.Have' x1 x2 x3 _ x4 x5) rest = p_step (b_have x1 x2 (formula_tree x3) (stmts_row x4 (p_end (end_tree x5)))) rest
+  pub stmt_tree : RawStmt → StmtTree
+  stmt_tree (stmt.Intro x1 x2) = b_intro x1 x2
+  stmt_tree (stmt.Gen x1 x2) = b_gen x1 x2
+  stmt_tree (stmt.Open' x1 x2 x3 _ x4 x5) = b_open x1 x2 x3 (stmts_row x4 (p_end (end_tree x5)))
+  stmt_tree (stmt.Have' x1 x2 x3 _ x4 x5) = b_have x1 x2 (formula_tree x3) (stmts_row x4 (p_end (end_tree x5)))
 
   pub end_tree : RawEnd → EndTree
   end_tree (end.Name x1) = e_name x1
@@ -50,4 +50,4 @@ unfoldable mutual
 
   pub stmts_row : {shape : _} → Row_of-RawStmt shape → ProofTree → ProofTree
   stmts_row end_of-RawStmt last = last
-  stmts_row (more_of-RawStmt first others) last = stmt_tree first (stmts_row others last)
+  stmts_row (more_of-RawStmt first others) last = p_step (stmt_tree first) (stmts_row others last)

@@ -45,33 +45,27 @@ use Rattle.raw_trees.specs.declared.tree.RawFatom.{RawFatom}
 use Rattle.raw_trees.specs.declared.tree.RawFatom.TheVariants as vfatom
 use Rattle.raw_trees.specs.declared.tree.RawHeap.{RawHeap}
 use Rattle.raw_trees.specs.declared.tree.ProdOperand.TheBlock as block
-use Rattle.raw_trees.specs.Trees.{CompTree, ParamTrees, PartTrees, ProdRestTree, ProdTree, SumRestTree, SumTree, TermTrees, TripleTree, a_annotated, a_brackets, a_eq, a_false, a_name, a_null, a_number, a_pair, a_place, a_sel, a_true, a_unit, ampersand, atom_part, bar, c_ret, c_step, caret, d_conj, d_or, f_all, f_disj, f_ex, f_implies, g_at_heap, g_block, g_brackets, g_cell, g_emp, g_emp_of, g_eq, g_ff, g_join, g_points, g_points_any, g_same, g_tt, g_use, g_use_at, g_use_at_heap, j_and, j_star, k_fatom, k_times, l_apply, l_unary, minus, mono_part, more_params, more_terms, no_params, no_parts, no_terms, plus, r_less, r_sum, s_alloc, s_claim, s_end, s_free, s_get, s_if, s_more, s_run, s_set, s_sum, shift_left, shift_right, t_do, t_fix, t_fun, t_fun_mono, t_rel, times, triple_of, x_end, x_more, x_prod, y_all, y_fun, y_hoare, y_mono}
+use Rattle.raw_trees.specs.Trees.{CompTree, ParamTrees, PartTrees, ProdRestTree, ProdTree, SumRestTree, SumTree, TermTrees, TripleTree, a_annotated, a_brackets, a_eq, a_false, a_name, a_null, a_number, a_pair, a_place, a_sel, a_true, a_unit, ampersand, atom_part, bar, c_ret, c_step, caret, d_conj, d_or, f_all, f_disj, f_ex, f_implies, g_at_heap, g_block, g_brackets, g_cell, g_emp, g_emp_of, g_eq, g_ff, g_join, g_points, g_points_any, g_same, g_tt, g_use, g_use_at, g_use_at_heap, j_and, j_star, k_fatom, k_times, l_apply, l_unary, minus, mono_part, more_params, more_terms, no_params, no_parts, no_terms, onto, plus, r_less, r_sum, s_alloc, s_claim, s_end, s_free, s_get, s_if, s_more, s_run, s_set, s_sum, shift_left, shift_right, t_do, t_fix, t_fun, t_fun_mono, t_rel, times, triple_of, x_end, x_more, x_prod, y_all, y_fun, y_hoare, y_mono}
 use Rattle.raw_trees.specs.MonoLevels.{mono_tree}
-use Rattle.raw_trees.specs.TreeViews.{appl_tree, atom_tree, conj_tree, disj_tree, fatom_tree, formula_tree, param_tree, params_row, part_tree, parts_row, prod_operand_tree, prod_row, rel_tree, sort_tree, star_tree, step_tree, steps_row, sum_operand_tree, sum_row, term_tree, terms_row, ty_tree}
+use Rattle.raw_trees.specs.TreeViews.{appl_tree, atom_tree, conj_tree, disj_tree, fatom_tree, formula_tree, param_tree, params_row, part_tree, parts_row, prod_operand_tree, prod_row, rel_tree, sort_tree, star_tree, step_name, step_tree, steps_row, sum_operand_tree, sum_row, term_tree, terms_row, ty_tree}
 
 abbrev pub params_tree : List RawParam → ParamTrees
-params_tree [] = no_params
-params_tree (x ∷ xs) = param_tree x (params_tree xs)
+params_tree xs = onto param_tree xs no_params
 
 abbrev pub sum_rest : List SumOperand → SumRestTree
-sum_rest [] = s_end
-sum_rest (x ∷ xs) = sum_operand_tree x (sum_rest xs)
+sum_rest xs = onto sum_operand_tree xs s_end
 
 abbrev pub prod_rest : List ProdOperand → ProdRestTree
-prod_rest [] = x_end
-prod_rest (x ∷ xs) = prod_operand_tree x (prod_rest xs)
+prod_rest xs = onto prod_operand_tree xs x_end
 
 abbrev pub parts_tree : List RawPart → PartTrees
-parts_tree [] = no_parts
-parts_tree (x ∷ xs) = part_tree x (parts_tree xs)
+parts_tree xs = onto part_tree xs no_parts
 
 abbrev pub term_trees : List RawTerm → TermTrees
-term_trees [] = no_terms
-term_trees (x ∷ xs) = more_terms (term_tree x) (term_trees xs)
+term_trees xs = onto (λ x. more_terms (term_tree x)) xs no_terms
 
 abbrev pub steps_tree : List RawStep → CompTree → CompTree
-steps_tree [] last = last
-steps_tree (x ∷ xs) last = step_tree x (steps_tree xs last)
+steps_tree xs last = onto (λ x. c_step (step_name x) (step_tree x)) xs last
 
 unfoldable pub prod_tree : RawProd → ProdTree
 prod_tree p = x_prod (appl_tree p.first) (prod_rest p.rest)
@@ -122,7 +116,7 @@ terms_row_is (x ∷ xs) = ap (more_terms (term_tree x)) (terms_row_is xs)
 steps_row_is : (xs : List RawStep) (last : CompTree) → steps_row (block.hidden-the_row-RawStep-11 xs) last ≡ steps_tree xs last
 unfolding ty_tree block.hidden-the_row-RawStep-11 denote.Hole.Carrier.hidden
 steps_row_is [] last = refl
-steps_row_is (x ∷ xs) last = ap (step_tree x) (steps_row_is xs last)
+steps_row_is (x ∷ xs) last = ap (c_step (step_name x) (step_tree x)) (steps_row_is xs last)
 
 sum_is : (s : RawSum) → s_sum (x_prod (appl_tree s.first.first) (prod_row (block.hidden-the_row-ProdOperand-8 s.first.rest))) (sum_row (block.hidden-the_row-SumOperand-9 s.rest)) ≡ sum_tree s
 unfolding sum_tree
@@ -280,33 +274,33 @@ pub atom_annotated : (at : ℕ) (t : RawTerm) (a : RawTy) → atom_tree (vatom.A
 unfolding generated
 atom_annotated at t a = refl
 
-pub step_alloc : (x : Binder) (m : RawMono) (value : RawAtom) (rest : CompTree) → step_tree (vstep.Alloc x m value) rest ≡ c_step x (s_alloc (mono_tree m) (atom_tree value)) rest
+pub step_alloc : (x : Binder) (m : RawMono) (value : RawAtom) → step_tree (vstep.Alloc x m value) ≡ s_alloc (mono_tree m) (atom_tree value)
 unfolding generated
-step_alloc x m value rest = refl
+step_alloc x m value = refl
 
-pub step_get : (x : Binder) (m : RawMono) (at_place : RawAtom) (rest : CompTree) → step_tree (vstep.Get x m at_place) rest ≡ c_step x (s_get (mono_tree m) (atom_tree at_place)) rest
+pub step_get : (x : Binder) (m : RawMono) (at_place : RawAtom) → step_tree (vstep.Get x m at_place) ≡ s_get (mono_tree m) (atom_tree at_place)
 unfolding generated
-step_get x m at_place rest = refl
+step_get x m at_place = refl
 
-pub step_set : (x : Binder) (m : RawMono) (at_place : RawAtom) (value : RawAtom) (rest : CompTree) → step_tree (vstep.Set x m at_place value) rest ≡ c_step x (s_set (mono_tree m) (atom_tree at_place) (atom_tree value)) rest
+pub step_set : (x : Binder) (m : RawMono) (at_place : RawAtom) (value : RawAtom) → step_tree (vstep.Set x m at_place value) ≡ s_set (mono_tree m) (atom_tree at_place) (atom_tree value)
 unfolding generated
-step_set x m at_place value rest = refl
+step_set x m at_place value = refl
 
-pub step_free : (x : Binder) (m : RawMono) (at_place : RawAtom) (rest : CompTree) → step_tree (vstep.Free x m at_place) rest ≡ c_step x (s_free (mono_tree m) (atom_tree at_place)) rest
+pub step_free : (x : Binder) (m : RawMono) (at_place : RawAtom) → step_tree (vstep.Free x m at_place) ≡ s_free (mono_tree m) (atom_tree at_place)
 unfolding generated
-step_free x m at_place rest = refl
+step_free x m at_place = refl
 
-pub step_if : (x : Binder) (m : RawMono) (test : RawAtom) (this : RawComp) (that : RawComp) (rest : CompTree) → step_tree (vstep.If x m test this that) rest ≡ c_step x (s_if (mono_tree m) (atom_tree test) (comp_tree this) (comp_tree that)) rest
+pub step_if : (x : Binder) (m : RawMono) (test : RawAtom) (this : RawComp) (that : RawComp) → step_tree (vstep.If x m test this that) ≡ s_if (mono_tree m) (atom_tree test) (comp_tree this) (comp_tree that)
 unfolding generated
-step_if x m test this that rest = λ j. c_step x (s_if (mono_tree m) (atom_tree test) (comp_is this j) (comp_is that j)) rest
+step_if x m test this that = λ j. s_if (mono_tree m) (atom_tree test) (comp_is this j) (comp_is that j)
 
-pub step_claim : (x : Binder) (f : RawFormula) (rest : CompTree) → step_tree (vstep.Claim x f) rest ≡ c_step x (s_claim (formula_tree f)) rest
+pub step_claim : (x : Binder) (f : RawFormula) → step_tree (vstep.Claim x f) ≡ s_claim (formula_tree f)
 unfolding generated
-step_claim x f rest = refl
+step_claim x f = refl
 
-pub step_run : (x : Binder) (routine : RawAppl) (rest : CompTree) → step_tree (vstep.Run x routine) rest ≡ c_step x (s_run (appl_tree routine)) rest
+pub step_run : (x : Binder) (routine : RawAppl) → step_tree (vstep.Run x routine) ≡ s_run (appl_tree routine)
 unfolding generated
-step_run x routine rest = refl
+step_run x routine = refl
 
 pub formula_all : (at : ℕ) (x : Binder) (sort : RawSort) (body : RawFormula) → formula_tree (vformula.All at x sort body) ≡ f_all at x (sort_tree sort) (formula_tree body)
 unfolding generated
@@ -411,3 +405,31 @@ fatom_points_to at_place m value = refl
 pub fatom_points_to_any : (at_place : RawRel) (m : RawMono) → fatom_tree (vfatom.PointsToAny at_place m) ≡ g_points_any (rel_tree at_place) (mono_tree m)
 unfolding generated
 fatom_points_to_any at_place m = refl
+
+pub step_name_alloc : (x : Binder) (m : RawMono) (value : RawAtom) → step_name (vstep.Alloc x m value) ≡ x
+unfolding generated
+step_name_alloc x m value = refl
+
+pub step_name_get : (x : Binder) (m : RawMono) (at_place : RawAtom) → step_name (vstep.Get x m at_place) ≡ x
+unfolding generated
+step_name_get x m at_place = refl
+
+pub step_name_set : (x : Binder) (m : RawMono) (at_place : RawAtom) (value : RawAtom) → step_name (vstep.Set x m at_place value) ≡ x
+unfolding generated
+step_name_set x m at_place value = refl
+
+pub step_name_free : (x : Binder) (m : RawMono) (at_place : RawAtom) → step_name (vstep.Free x m at_place) ≡ x
+unfolding generated
+step_name_free x m at_place = refl
+
+pub step_name_if : (x : Binder) (m : RawMono) (test : RawAtom) (this : RawComp) (that : RawComp) → step_name (vstep.If x m test this that) ≡ x
+unfolding generated
+step_name_if x m test this that = refl
+
+pub step_name_claim : (x : Binder) (f : RawFormula) → step_name (vstep.Claim x f) ≡ x
+unfolding generated
+step_name_claim x f = refl
+
+pub step_name_run : (x : Binder) (routine : RawAppl) → step_name (vstep.Run x routine) ≡ x
+unfolding generated
+step_name_run x routine = refl

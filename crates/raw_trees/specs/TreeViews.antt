@@ -2,6 +2,7 @@
 -- generated: a box as its shape and what it holds, a sequence as its shape and its row, and a struct
 -- inside a node as its fields. The equations that readers use stand in TreeLevels.
 use Rattle.std.specs.Prelude.{map}
+use Rattle.raw_trees.specs.declared.place.Binder.{Binder}
 use Rattle.raw_trees.specs.declared.place.Binder.TheVariants as binders
 use Rattle.raw_trees.specs.declared.tree.RawTy.{RawTy}
 use Rattle.raw_trees.specs.declared.tree.RawTy as ty
@@ -34,7 +35,7 @@ use Rattle.raw_trees.specs.declared.tree.RawStar as star
 use Rattle.raw_trees.specs.declared.tree.RawFatom.{RawFatom}
 use Rattle.raw_trees.specs.declared.tree.RawFatom as fatom
 use Rattle.raw_trees.specs.declared.tree.ProdOperand.TheBlock.{Row_of-ProdOperand, Row_of-RawParam, Row_of-RawPart, Row_of-RawStep, Row_of-RawTerm, Row_of-SumOperand, end_of-ProdOperand, end_of-RawComp, end_of-RawConj, end_of-RawDisj, end_of-RawFix, end_of-RawFormula, end_of-RawParam, end_of-RawPart, end_of-RawRel, end_of-RawStar, end_of-RawStep, end_of-RawTerm, end_of-RawTriple, end_of-RawTy, end_of-SumOperand, more_of-ProdOperand, more_of-RawComp, more_of-RawConj, more_of-RawDisj, more_of-RawFix, more_of-RawFormula, more_of-RawParam, more_of-RawPart, more_of-RawRel, more_of-RawStar, more_of-RawStep, more_of-RawTerm, more_of-RawTriple, more_of-RawTy, more_of-SumOperand}
-use Rattle.raw_trees.specs.Trees.{SortTree, over_mono, over_heap, ApplTree, AtomTree, CompTree, ConjTree, DisjTree, FatomTree, FormulaTree, ParamTrees, PartTrees, ProdRestTree, RelTree, StarTree, SumRestTree, TermTree, TermTrees, TyTree, a_annotated, a_brackets, a_eq, a_false, a_name, a_null, a_number, a_pair, a_place, a_sel, a_true, a_unit, ampersand, atom_part, bar, c_ret, c_step, caret, d_conj, d_or, f_all, f_disj, f_ex, f_implies, g_at_heap, g_block, g_brackets, g_cell, g_emp, g_emp_of, g_eq, g_ff, g_join, g_points, g_points_any, g_same, g_tt, g_use, g_use_at, g_use_at_heap, j_and, j_star, k_fatom, k_times, l_apply, l_unary, minus, mono_part, more_params, more_terms, no_params, no_parts, no_terms, plus, r_less, r_sum, s_alloc, s_claim, s_end, s_free, s_get, s_if, s_more, s_run, s_set, s_sum, shift_left, shift_right, t_do, t_fix, t_fun, t_fun_mono, t_rel, times, triple_of, x_end, x_more, x_prod, y_all, y_fun, y_hoare, y_mono}
+use Rattle.raw_trees.specs.Trees.{SortTree, over_mono, over_heap, ApplTree, AtomTree, CompTree, ConjTree, DisjTree, FatomTree, FormulaTree, ParamTrees, PartTrees, ProdRestTree, RelTree, StarTree, StepTree, SumRestTree, TermTree, TermTrees, TyTree, a_annotated, a_brackets, a_eq, a_false, a_name, a_null, a_number, a_pair, a_place, a_sel, a_true, a_unit, ampersand, atom_part, bar, c_ret, c_step, caret, d_conj, d_or, f_all, f_disj, f_ex, f_implies, g_at_heap, g_block, g_brackets, g_cell, g_emp, g_emp_of, g_eq, g_ff, g_join, g_points, g_points_any, g_same, g_tt, g_use, g_use_at, g_use_at_heap, j_and, j_star, k_fatom, k_times, l_apply, l_unary, minus, mono_part, more_params, more_terms, no_params, no_parts, no_terms, plus, r_less, r_sum, s_alloc, s_claim, s_end, s_free, s_get, s_if, s_more, s_run, s_set, s_sum, shift_left, shift_right, t_do, t_fix, t_fun, t_fun_mono, t_rel, times, triple_of, x_end, x_more, x_prod, y_all, y_fun, y_hoare, y_mono}
 use Rattle.raw_trees.specs.declared.tree.RawSort.{RawSort}
 use Rattle.raw_trees.specs.declared.tree.RawSort.TheVariants as sort
 use Rattle.raw_trees.specs.MonoLevels.{mono_tree}
@@ -42,6 +43,16 @@ use Rattle.raw_trees.specs.MonoLevels.{mono_tree}
 abbrev pub sort_tree : RawSort → SortTree
 sort_tree (sort.Mono m) = over_mono (mono_tree m)
 sort_tree sort.Heap = over_heap
+
+-- what a step binds
+abbrev pub step_name : RawStep → Binder
+step_name (step.Alloc x _ _) = x
+step_name (step.Get x _ _) = x
+step_name (step.Set x _ _ _) = x
+step_name (step.Free x _ _) = x
+step_name (step.If' x _ _ _ _ _ _ _ _) = x
+step_name (step.Claim x _) = x
+step_name (step.Run x _) = x
 
 unfoldable mutual
   pub ty_tree : RawTy → TyTree
@@ -99,14 +110,14 @@ unfoldable mutual
   atom_tree (atom.Pair' x1 _ (more_of-RawTerm x2 end_of-RawTerm) _ (more_of-RawTerm x3 end_of-RawTerm)) = a_pair x1 (term_tree x2) (term_tree x3)
   atom_tree (atom.Annotated' x1 _ (more_of-RawTerm x2 end_of-RawTerm) _ (more_of-RawTy x3 end_of-RawTy)) = a_annotated x1 (term_tree x2) (ty_tree x3)
 
-  pub step_tree : RawStep → CompTree → CompTree
-  step_tree (step.Alloc x1 x2 x3) rest = c_step x1 (s_alloc (mono_tree x2) (atom_tree x3)) rest
-  step_tree (step.Get x1 x2 x3) rest = c_step x1 (s_get (mono_tree x2) (atom_tree x3)) rest
-  step_tree (step.Set x1 x2 x3 x4) rest = c_step x1 (s_set (mono_tree x2) (atom_tree x3) (atom_tree x4)) rest
-  step_tree (step.Free x1 x2 x3) rest = c_step x1 (s_free (mono_tree x2) (atom_tree x3)) rest
-  step_tree (step.If' x1 x2 x3 _ x4 x5 _ x6 x7) rest = c_step x1 (s_if (mono_tree x2) (atom_tree x3) (steps_row x4 (c_ret (term_tree x5))) (steps_row x6 (c_ret (term_tree x7)))) rest
-  step_tree (step.Claim x1 x2) rest = c_step x1 (s_claim (formula_tree x2)) rest
-  step_tree (step.Run x1 x2) rest = c_step x1 (s_run (appl_tree x2)) rest
+  pub step_tree : RawStep → StepTree
+  step_tree (step.Alloc x1 x2 x3) = s_alloc (mono_tree x2) (atom_tree x3)
+  step_tree (step.Get x1 x2 x3) = s_get (mono_tree x2) (atom_tree x3)
+  step_tree (step.Set x1 x2 x3 x4) = s_set (mono_tree x2) (atom_tree x3) (atom_tree x4)
+  step_tree (step.Free x1 x2 x3) = s_free (mono_tree x2) (atom_tree x3)
+  step_tree (step.If' x1 x2 x3 _ x4 x5 _ x6 x7) = s_if (mono_tree x2) (atom_tree x3) (steps_row x4 (c_ret (term_tree x5))) (steps_row x6 (c_ret (term_tree x7)))
+  step_tree (step.Claim x1 x2) = s_claim (formula_tree x2)
+  step_tree (step.Run x1 x2) = s_run (appl_tree x2)
 
   pub formula_tree : RawFormula → FormulaTree
   formula_tree (formula.All' x1 x2 x3 _ (more_of-RawFormula x4 end_of-RawFormula)) = f_all x1 x2 (sort_tree x3) (formula_tree x4)
@@ -166,4 +177,4 @@ unfoldable mutual
 
   pub steps_row : {shape : _} → Row_of-RawStep shape → CompTree → CompTree
   steps_row end_of-RawStep last = last
-  steps_row (more_of-RawStep first others) last = step_tree first (steps_row others last)
+  steps_row (more_of-RawStep first others) last = c_step (step_name first) (step_tree first) (steps_row others last)

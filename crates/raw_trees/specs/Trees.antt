@@ -1,12 +1,17 @@
 -- The trees of a text as the grammar speaks of them: a constructor for each form of a production,
 -- with its parts in the order of the text. A number is the first byte of the phrase.
-use Rattle.std.specs.Prelude.{ℕ, List, Option, Some, None}
+use Rattle.std.specs.Prelude.{ℕ, List, [], ◌∷◌, Option, Some, None}
 use Rattle.raw_trees.specs.declared.place.Span.{Span}
 use Rattle.raw_trees.specs.declared.place.Binder.{Binder}
 use Rattle.raw_trees.specs.declared.mono.MonoName.{MonoName}
 use Rattle.raw_trees.specs.declared.tree.UnaryWord.{UnaryWord}
 use Rattle.raw_trees.specs.declared.tree.RawHeap.{RawHeap}
 use Rattle.raw_trees.specs.declared.proof.UnaryRule.{UnaryRule}
+
+-- the members of a list before what follows them, each put there by `put`
+abbrev pub onto : {X T : Type 0} → (X → T → T) → List X → T → T
+onto put [] rest = rest
+onto put (x ∷ xs) rest = put x (onto put xs rest)
 
 -- the sign before an operand of a sum, and of a product
 pub data SumSign : Type 0 where
