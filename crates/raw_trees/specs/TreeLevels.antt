@@ -162,13 +162,13 @@ pub term_rel : (rel : RawRel) → term_tree (vterm.Rel rel) ≡ t_rel (rel_tree 
 unfolding generated
 term_rel rel = refl
 
-pub param_named : (x : Span) (a : RawTy) (rest : ParamTrees) → param_tree (vparam.Named x a) rest ≡ more_params (binders.Name x) (ty_tree a) rest
+pub param_named : (x : Span) (a : RawTy) → param_tree (vparam.Named x a) ≡ more_params (binders.Name x) (ty_tree a)
 unfolding generated
-param_named x a rest = refl
+param_named x a = refl
 
-pub param_blank : (a : RawTy) (rest : ParamTrees) → param_tree (vparam.Blank a) rest ≡ more_params binders.Blank (ty_tree a) rest
+pub param_blank : (a : RawTy) → param_tree (vparam.Blank a) ≡ more_params binders.Blank (ty_tree a)
 unfolding generated
-param_blank a rest = refl
+param_blank a = refl
 
 pub rel_sum : (s : RawSum) → rel_tree (vrel.Sum s) ≡ r_sum (sum_tree s)
 unfolding generated
@@ -178,37 +178,37 @@ pub rel_less : (s : RawSum) (s2 : RawSum) → rel_tree (vrel.Less s s2) ≡ r_le
 unfolding generated
 rel_less s s2 = λ j. r_less (sum_is s j) (sum_is s2 j)
 
-pub sum_operand_plus : (prod : RawProd) (rest : SumRestTree) → sum_operand_tree (vsum_operand.Plus prod) rest ≡ s_more plus (prod_tree prod) rest
+pub sum_operand_plus : (prod : RawProd) → sum_operand_tree (vsum_operand.Plus prod) ≡ s_more plus (prod_tree prod)
 unfolding generated
-sum_operand_plus prod rest = λ j. s_more plus (prod_is prod j) rest
+sum_operand_plus prod = λ j. s_more plus (prod_is prod j)
 
-pub sum_operand_minus : (prod : RawProd) (rest : SumRestTree) → sum_operand_tree (vsum_operand.Minus prod) rest ≡ s_more minus (prod_tree prod) rest
+pub sum_operand_minus : (prod : RawProd) → sum_operand_tree (vsum_operand.Minus prod) ≡ s_more minus (prod_tree prod)
 unfolding generated
-sum_operand_minus prod rest = λ j. s_more minus (prod_is prod j) rest
+sum_operand_minus prod = λ j. s_more minus (prod_is prod j)
 
-pub sum_operand_bar : (prod : RawProd) (rest : SumRestTree) → sum_operand_tree (vsum_operand.Bar prod) rest ≡ s_more bar (prod_tree prod) rest
+pub sum_operand_bar : (prod : RawProd) → sum_operand_tree (vsum_operand.Bar prod) ≡ s_more bar (prod_tree prod)
 unfolding generated
-sum_operand_bar prod rest = λ j. s_more bar (prod_is prod j) rest
+sum_operand_bar prod = λ j. s_more bar (prod_is prod j)
 
-pub sum_operand_caret : (prod : RawProd) (rest : SumRestTree) → sum_operand_tree (vsum_operand.Caret prod) rest ≡ s_more caret (prod_tree prod) rest
+pub sum_operand_caret : (prod : RawProd) → sum_operand_tree (vsum_operand.Caret prod) ≡ s_more caret (prod_tree prod)
 unfolding generated
-sum_operand_caret prod rest = λ j. s_more caret (prod_is prod j) rest
+sum_operand_caret prod = λ j. s_more caret (prod_is prod j)
 
-pub prod_operand_times : (appl : RawAppl) (rest : ProdRestTree) → prod_operand_tree (vprod_operand.Times appl) rest ≡ x_more times (appl_tree appl) rest
+pub prod_operand_times : (appl : RawAppl) → prod_operand_tree (vprod_operand.Times appl) ≡ x_more times (appl_tree appl)
 unfolding generated
-prod_operand_times appl rest = refl
+prod_operand_times appl = refl
 
-pub prod_operand_and : (appl : RawAppl) (rest : ProdRestTree) → prod_operand_tree (vprod_operand.And appl) rest ≡ x_more ampersand (appl_tree appl) rest
+pub prod_operand_and : (appl : RawAppl) → prod_operand_tree (vprod_operand.And appl) ≡ x_more ampersand (appl_tree appl)
 unfolding generated
-prod_operand_and appl rest = refl
+prod_operand_and appl = refl
 
-pub prod_operand_shift_left : (appl : RawAppl) (rest : ProdRestTree) → prod_operand_tree (vprod_operand.ShiftLeft appl) rest ≡ x_more shift_left (appl_tree appl) rest
+pub prod_operand_shift_left : (appl : RawAppl) → prod_operand_tree (vprod_operand.ShiftLeft appl) ≡ x_more shift_left (appl_tree appl)
 unfolding generated
-prod_operand_shift_left appl rest = refl
+prod_operand_shift_left appl = refl
 
-pub prod_operand_shift_right : (appl : RawAppl) (rest : ProdRestTree) → prod_operand_tree (vprod_operand.ShiftRight appl) rest ≡ x_more shift_right (appl_tree appl) rest
+pub prod_operand_shift_right : (appl : RawAppl) → prod_operand_tree (vprod_operand.ShiftRight appl) ≡ x_more shift_right (appl_tree appl)
 unfolding generated
-prod_operand_shift_right appl rest = refl
+prod_operand_shift_right appl = refl
 
 pub appl_unary : (at : ℕ) (word : UnaryWord) (operand : RawAtom) → appl_tree (vappl.Unary at word operand) ≡ l_unary at word (atom_tree operand)
 unfolding generated
@@ -218,13 +218,13 @@ pub appl_apply : (head : RawAtom) (parts : List RawPart) → appl_tree (vappl.Ap
 unfolding generated
 appl_apply head parts = λ j. l_apply (atom_tree head) (parts_row_is parts j)
 
-pub part_atom : (atom : RawAtom) (rest : PartTrees) → part_tree (vpart.Atom atom) rest ≡ atom_part (atom_tree atom) rest
+pub part_atom : (atom : RawAtom) → part_tree (vpart.Atom atom) ≡ atom_part (atom_tree atom)
 unfolding generated
-part_atom atom rest = refl
+part_atom atom = refl
 
-pub part_mono : (m : RawMono) (rest : PartTrees) → part_tree (vpart.Mono m) rest ≡ mono_part (mono_tree m) rest
+pub part_mono : (m : RawMono) → part_tree (vpart.Mono m) ≡ mono_part (mono_tree m)
 unfolding generated
-part_mono m rest = refl
+part_mono m = refl
 
 pub atom_name : (span : Span) → atom_tree (vatom.Name span) ≡ a_name span
 unfolding generated

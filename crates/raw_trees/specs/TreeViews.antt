@@ -69,32 +69,32 @@ unfoldable mutual
   term_tree (term.Rel' _ (more_of-RawRel x1 end_of-RawRel)) = t_rel (rel_tree x1)
 
   pub param_tree : RawParam → ParamTrees → ParamTrees
-  param_tree (param.Named x1 x2) rest = more_params (binders.Name x1) (ty_tree x2) rest
-  param_tree (param.Blank x1) rest = more_params binders.Blank (ty_tree x1) rest
+  param_tree (param.Named x1 x2) = more_params (binders.Name x1) (ty_tree x2)
+  param_tree (param.Blank x1) = more_params binders.Blank (ty_tree x1)
 
   pub rel_tree : RawRel → RelTree
   rel_tree (rel.Sum' x1 _ x2 _ x3) = r_sum (s_sum (x_prod (appl_tree x1) (prod_row x2)) (sum_row x3))
   rel_tree (rel.Less' x1 _ x2 _ x3 x4 _ x5 _ x6) = r_less (s_sum (x_prod (appl_tree x1) (prod_row x2)) (sum_row x3)) (s_sum (x_prod (appl_tree x4) (prod_row x5)) (sum_row x6))
 
   pub sum_operand_tree : SumOperand → SumRestTree → SumRestTree
-  sum_operand_tree (sum_operand.Plus' x1 _ x2) rest = s_more plus (x_prod (appl_tree x1) (prod_row x2)) rest
-  sum_operand_tree (sum_operand.Minus' x1 _ x2) rest = s_more minus (x_prod (appl_tree x1) (prod_row x2)) rest
-  sum_operand_tree (sum_operand.Bar' x1 _ x2) rest = s_more bar (x_prod (appl_tree x1) (prod_row x2)) rest
-  sum_operand_tree (sum_operand.Caret' x1 _ x2) rest = s_more caret (x_prod (appl_tree x1) (prod_row x2)) rest
+  sum_operand_tree (sum_operand.Plus' x1 _ x2) = s_more plus (x_prod (appl_tree x1) (prod_row x2))
+  sum_operand_tree (sum_operand.Minus' x1 _ x2) = s_more minus (x_prod (appl_tree x1) (prod_row x2))
+  sum_operand_tree (sum_operand.Bar' x1 _ x2) = s_more bar (x_prod (appl_tree x1) (prod_row x2))
+  sum_operand_tree (sum_operand.Caret' x1 _ x2) = s_more caret (x_prod (appl_tree x1) (prod_row x2))
 
   pub prod_operand_tree : ProdOperand → ProdRestTree → ProdRestTree
-  prod_operand_tree (prod_operand.Times x1) rest = x_more times (appl_tree x1) rest
-  prod_operand_tree (prod_operand.And x1) rest = x_more ampersand (appl_tree x1) rest
-  prod_operand_tree (prod_operand.ShiftLeft x1) rest = x_more shift_left (appl_tree x1) rest
-  prod_operand_tree (prod_operand.ShiftRight x1) rest = x_more shift_right (appl_tree x1) rest
+  prod_operand_tree (prod_operand.Times x1) = x_more times (appl_tree x1)
+  prod_operand_tree (prod_operand.And x1) = x_more ampersand (appl_tree x1)
+  prod_operand_tree (prod_operand.ShiftLeft x1) = x_more shift_left (appl_tree x1)
+  prod_operand_tree (prod_operand.ShiftRight x1) = x_more shift_right (appl_tree x1)
 
   pub appl_tree : RawAppl → ApplTree
   appl_tree (appl.Unary x1 x2 x3) = l_unary x1 x2 (atom_tree x3)
   appl_tree (appl.Apply' x1 _ x2) = l_apply (atom_tree x1) (parts_row x2)
 
   pub part_tree : RawPart → PartTrees → PartTrees
-  part_tree (part.Atom x1) rest = atom_part (atom_tree x1) rest
-  part_tree (part.Mono x1) rest = mono_part (mono_tree x1) rest
+  part_tree (part.Atom x1) = atom_part (atom_tree x1)
+  part_tree (part.Mono x1) = mono_part (mono_tree x1)
 
   pub atom_tree : RawAtom → AtomTree
   atom_tree (atom.Name x1) = a_name x1

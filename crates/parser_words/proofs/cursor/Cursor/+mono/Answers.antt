@@ -10,9 +10,9 @@ use Rattle.raw_trees.specs.MonoLevels.{mono_tree, brackets_tree, right_times, ri
 use Rattle.htt_grammar.specs.Readers.{token, same_kind, either, stop}
 use Rattle.htt_grammar.specs.Phrases.{mono_right, mono_closes, mono_name_case, mono_inside}
 use Rattle.htt_grammar.specs.Reading.{deeper}
-use Rattle.htt_parser.proofs.Monotypes.{bind_ok, bind_err, err_along, gives_along, deeper_none, deeper_some, at_inside, inside_is, right_star, right_other, right_end, given, closes_open, closes_none, brackets_last}
-use Rattle.htt_parser.proofs.cursor.Cursor.+mono.Goals as goal
-use Rattle.htt_parser.proofs.cursor.Cursor.+mono.Goals.{mono_right-in_default-via-in-Some+else-eq, mono_right-in_default-via-in_default}
+use Rattle.parser_words.proofs.Monotypes.{bind_ok, bind_err, err_along, gives_along, deeper_none, deeper_some, at_inside, inside_is, right_star, right_other, right_end, given, closes_open, closes_none, brackets_last}
+use Rattle.parser_words.proofs.cursor.Cursor.+mono.Goals as goal
+use Rattle.parser_words.proofs.cursor.Cursor.+mono.Goals.{mono_right-in_default-via-in-Some+else-eq, mono_right-in_default-via-in_default}
 
 pub closes-returns-in_err-next : goal.closes-returns-in_err-next
 closes-returns-in_err-next n c = λ m.

@@ -2,10 +2,10 @@
 use Rattle.std.specs.Prelude.{◌≡◌, ℕ, ◌+◌, List, [], ◌∷◌, drop, Option, Some, None, Result, Ok, Err}
 use Rattle.htt_tokens.specs.declared.tokens.Token.{Token}
 use Rattle.htt_grammar.specs.Readers.{Why, expected, too_nested, too_long, too_many, Halt}
-use Rattle.htt_parser.specs.declared.cursor.Reason.{Reason}
-use Rattle.htt_parser.specs.declared.cursor.Reason.TheVariants as reasons
-use Rattle.htt_parser.specs.declared.cursor.Halted.{Halted}
-use Rattle.htt_parser.specs.declared.cursor.Halted.TheVariants as halts
+use Rattle.parser_words.specs.declared.cursor.Reason.{Reason}
+use Rattle.parser_words.specs.declared.cursor.Reason.TheVariants as reasons
+use Rattle.parser_words.specs.declared.cursor.Halted.{Halted}
+use Rattle.parser_words.specs.declared.cursor.Halted.TheVariants as halts
 
 abbrev pub why_of : Reason → Why
 why_of reasons.Expected = expected

@@ -6,7 +6,7 @@ use Rattle.htt_tokens.specs.declared.tokens.Kind.TheVariants.{Sign}
 use Rattle.htt_tokens.specs.declared.tokens.Sign.TheVariants.{OpenParenSign}
 use Rattle.htt_tokens.specs.declared.tokens.Token.{Token}
 use Rattle.htt_grammar.specs.Readers.{same_kind}
-use Rattle.htt_parser.specs.Brackets.{opened}
+use Rattle.parser_words.specs.Brackets.{opened}
 
 pub opened_step : (os : List ℕ) (ts : List Token) (i : ℕ) (t : Token) (rest : List Token) → drop i ts ≡ t ∷ rest → same_kind t.kind (Sign OpenParenSign) ≡ true → opened (reverse os) (drop i ts) ≡ opened (reverse (os ++ t.from ∷ [])) rest
 unfolding opened

@@ -1,8 +1,8 @@
 //! The tokens of a text with the places among them, and why reading stops.
 
 ghost use Rattle.std.specs.Prelude.{◌≡◌, ◌≤◌, ◌<◌, length, IsOk};
-ghost use Rattle.htt_parser.specs.declared.cursor.Halted.TheVariants.{NoMemory};
-ghost use Rattle.htt_parser.specs.Results.{IsThere};
+ghost use Rattle.parser_words.specs.declared.cursor.Halted.TheVariants.{NoMemory};
+ghost use Rattle.parser_words.specs.Results.{IsThere};
 
 use htt_tokens::Token;
 use std::alloc::{AllocError, AllocFailed, Global};

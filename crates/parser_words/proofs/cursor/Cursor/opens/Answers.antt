@@ -2,10 +2,10 @@ use Rattle.std.proofs.Common.{◌≡◌, ◌+◌, rules, ◌∙◌, ap, sym, rev
 use Rattle.htt_tokens.specs.declared.tokens.Kind.TheVariants.{Sign}
 use Rattle.htt_tokens.specs.declared.tokens.Sign.TheVariants.{OpenParenSign}
 use Rattle.htt_grammar.specs.Readers.{same_kind}
-use Rattle.htt_parser.specs.Brackets.{opened}
-use Rattle.htt_parser.proofs.Opening.{opened_step, opened_other, opened_end}
-use Rattle.htt_parser.proofs.cursor.Cursor.opens.Goals as goal
-use Rattle.htt_parser.proofs.cursor.Cursor.opens.Goals.{in-Some+then-ne, in_default}
+use Rattle.parser_words.specs.Brackets.{opened}
+use Rattle.parser_words.proofs.Opening.{opened_step, opened_other, opened_end}
+use Rattle.parser_words.proofs.cursor.Cursor.opens.Goals as goal
+use Rattle.parser_words.proofs.cursor.Cursor.opens.Goals.{in-Some+then-ne, in_default}
 
 pub loop-token-preserved : goal.loop-token-preserved
 loop-token-preserved c =

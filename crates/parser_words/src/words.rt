@@ -7,7 +7,7 @@ ghost use Rattle.htt_grammar.specs.Beginnings.{begins_mono};
 ghost use Rattle.htt_tokens.specs.declared.tokens.Kind.TheVariants as kinds;
 ghost use Rattle.htt_grammar.specs.Phrases.{mono_name_case};
 ghost use Rattle.raw_trees.specs.MonoLevels.{mono_tree};
-ghost use Rattle.htt_parser.specs.Results.{Gives, Passes};
+ghost use Rattle.parser_words.specs.Results.{Gives, Passes};
 
 use crate::cursor::{Cursor, Halted, Reason};
 use htt_tokens::{Keyword, Kind, Sign, Token};

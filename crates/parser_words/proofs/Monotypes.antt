@@ -14,10 +14,10 @@ use Rattle.htt_grammar.specs.Readers.{Reader, Halt, too_nested, give, after, ◌
 use Rattle.htt_grammar.specs.Beginnings.{begins_mono}
 use Rattle.htt_grammar.specs.Phrases.{Deeper, mono_right, mono_closes, mono_name_case, mono_inside, mono_opens, mono_case, mono_at}
 use Rattle.htt_grammar.specs.Reading.{deeper}
-use Rattle.htt_parser.specs.declared.cursor.Halted.{Halted}
-use Rattle.htt_parser.specs.declared.cursor.Halted.TheVariants as halts
-use Rattle.htt_parser.specs.Results.{StopsAs, Gives}
-use Rattle.htt_parser.specs.Brackets.{opened}
+use Rattle.parser_words.specs.declared.cursor.Halted.{Halted}
+use Rattle.parser_words.specs.declared.cursor.Halted.TheVariants as halts
+use Rattle.parser_words.specs.Results.{StopsAs, Gives}
+use Rattle.parser_words.specs.Brackets.{opened}
 
 -- ---- one after the other
 

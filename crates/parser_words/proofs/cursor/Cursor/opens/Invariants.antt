@@ -1,6 +1,6 @@
 use Rattle.std.proofs.Common.{◌≡◌, [], drop, reverse, length}
-use Rattle.htt_parser.specs.Brackets.{opened}
-use Rattle.htt_parser.proofs.cursor.Cursor.opens.Given as goal
+use Rattle.parser_words.specs.Brackets.{opened}
+use Rattle.parser_words.proofs.cursor.Cursor.opens.Given as goal
 
 -- the brackets so far, and those that still open
 abbrev pub invariant-loop-token : goal.invariant-loop-token

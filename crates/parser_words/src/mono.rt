@@ -7,8 +7,8 @@ ghost use Rattle.htt_grammar.specs.Reading.{deeper};
 ghost use Rattle.raw_trees.specs.Trees.{MonoTree, m_brackets, with_right};
 ghost use Rattle.raw_trees.specs.MonoViews.{right_tree, bracket_tree};
 ghost use Rattle.raw_trees.specs.MonoLevels.{mono_tree, brackets_tree};
-ghost use Rattle.htt_parser.specs.Results.{Gives};
-ghost use Rattle.htt_parser.specs.Brackets.{opened};
+ghost use Rattle.parser_words.specs.Results.{Gives};
+ghost use Rattle.parser_words.specs.Brackets.{opened};
 
 use crate::cursor::{Cursor, Halted};
 use htt_seq::Seq;

@@ -3,7 +3,7 @@ use Rattle.htt_grammar.specs.Phrases.{mono_closes}
 use Rattle.htt_grammar.specs.Reading.{deeper}
 use Rattle.raw_trees.specs.Trees.{MonoTree}
 use Rattle.raw_trees.specs.MonoLevels.{brackets_tree}
-use Rattle.htt_parser.proofs.cursor.Cursor.+mono.Given as goal
+use Rattle.parser_words.proofs.cursor.Cursor.+mono.Given as goal
 
 abbrev pub decreases-mono : goal.decreases-mono
 decreases-mono l = l.left * 4 + 3
