@@ -59,10 +59,16 @@ a_number_there = either number_case stop
 unfoldable pub over_there : Reader (Option ℕ)
 over_there = either (that (Sign CaretSign) (a_number_there >>= (λ n. give (Some n)))) (give None)
 
+abbrev pub init_on : ℕ → Reader RawHeap
+init_on at = over_there >>= (λ n. give (heaps.Init at n))
+
+abbrev pub mem_on : ℕ → Reader RawHeap
+mem_on at = over_there >>= (λ n. give (heaps.Mem at n))
+
 abbrev pub heap_case : Kind → Option (Span → Reader RawHeap)
 heap_case Name = Some (λ s. give (heaps.Name s))
-heap_case (Keyword InitWord) = Some (λ s. over_there >>= (λ n. give (heaps.Init s.from n)))
-heap_case (Keyword MemWord) = Some (λ s. over_there >>= (λ n. give (heaps.Mem s.from n)))
+heap_case (Keyword InitWord) = Some (λ s. init_on s.from)
+heap_case (Keyword MemWord) = Some (λ s. mem_on s.from)
 heap_case _ = None
 
 unfoldable pub a_heap : Reader RawHeap

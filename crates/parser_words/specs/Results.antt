@@ -1,7 +1,7 @@
 -- What a function that reads must answer: what the reader of its production answers.
-use Rattle.std.specs.Prelude.{◌≡◌, ℕ, ◌+◌, List, [], ◌∷◌, drop, Option, Some, None, Result, Ok, Err}
+use Rattle.std.specs.Prelude.{◌≡◌, ◌<◌, ℕ, ◌+◌, List, [], ◌∷◌, drop, Option, Some, None, Result, Ok, Err}
 use Rattle.htt_tokens.specs.declared.tokens.Token.{Token}
-use Rattle.htt_grammar.specs.Readers.{Why, expected, too_nested, too_long, too_many, Halt}
+use Rattle.htt_grammar.specs.Readers.{Why, expected, too_nested, too_long, too_many, Halt, Reader, after, give}
 use Rattle.parser_words.specs.declared.cursor.Reason.{Reason}
 use Rattle.parser_words.specs.declared.cursor.Reason.TheVariants as reasons
 use Rattle.parser_words.specs.declared.cursor.Halted.{Halted}
@@ -32,3 +32,20 @@ Passes tokens (Err halted) told = StopsAs tokens halted told
 abbrev pub IsThere : List Token → ℕ → Option Token → Type 0
 IsThere tokens at None = drop at tokens ≡ []
 IsThere tokens at (Some token) = drop at tokens ≡ token ∷ drop (at + 1) tokens
+
+-- ---- lists, which are read member by member
+
+-- what is made of a result
+abbrev pub mapped : {A B : Type 0} → (A → B) → Result (A × List Token) Halt → Result (B × List Token) Halt
+mapped make told = after told (λ x. give (make x))
+
+-- one member more, which is put before what the rest of the list gives; or none, and the list ends
+abbrev pub GivesMore : {X T : Type 0} → List Token → (X → T → T) → T → Result (Option (X × ℕ)) Halted → Reader T → Reader T → ℕ → Type 0
+GivesMore tokens put nothing (Ok None) now rest at = now (drop at tokens) ≡ Ok (nothing, drop at tokens)
+GivesMore tokens put nothing (Ok (Some read)) now rest at = now (drop at tokens) ≡ mapped (put read.0) (rest (drop read.1 tokens))
+GivesMore tokens put nothing (Err halted) now rest at = StopsAs tokens halted (now (drop at tokens))
+
+-- a member of a chain takes room
+abbrev pub HasRoom : {X : Type 0} → Result (Option (X × ℕ)) Halted → ℕ → Type 0
+HasRoom (Ok (Some read)) room = 0 < room
+HasRoom _ room = Unit {0}

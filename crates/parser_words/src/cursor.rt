@@ -1,15 +1,18 @@
 //! The tokens of a text with the places among them, and why reading stops.
 
-ghost use Rattle.std.specs.Prelude.{◌≡◌, ◌≤◌, ◌<◌, length, IsOk};
+ghost use Rattle.std.specs.Prelude.{◌≡◌, ◌<◌, ◌-◌, ◌^◌, true, drop};
+ghost use Rattle.htt_tokens.specs.declared.tokens.Kind.TheVariants as kinds;
+ghost use Rattle.htt_grammar.specs.Readers.{first_is, same_kind};
 ghost use Rattle.parser_words.specs.declared.cursor.Halted.TheVariants.{NoMemory};
 ghost use Rattle.parser_words.specs.Results.{IsThere};
 
-use htt_tokens::Token;
+use htt_tokens::{Keyword, Kind, Sign, Token};
 use std::alloc::{AllocError, AllocFailed, Global};
 
-/// Why a token is refused.
+/// Why a token is refused: it isn't what is wanted, or what begins with it would be past the limit of
+/// levels, of a chain's operands, or of declarations.
 #[derive(Clone, Copy, Debug, PartialEq, Eq)]
-pub(crate) enum Reason {
+pub enum Reason {
     Expected,
     TooNested,
     TooLong,
@@ -19,7 +22,7 @@ pub(crate) enum Reason {
 /// Why reading stopped: the reason and the place of the refused token among the tokens, which is
 /// their number at their end; or want of memory.
 #[derive(Clone, Copy, Debug, PartialEq, Eq)]
-pub(crate) enum Halted {
+pub enum Halted {
     At(Reason, usize),
     NoMemory,
 }
@@ -42,7 +45,7 @@ impl<T: Drop> From<AllocFailed<T>> for Halted {
 
 /// The tokens that are read, and where trees are put.
 #[derive(Clone, Copy)]
-pub(crate) struct Cursor<'a> {
+pub struct Cursor<'a> {
     pub alloc: Global,
     pub tokens: &'a [Token],
 }
@@ -53,5 +56,27 @@ impl Cursor<'_> {
         ensures { IsThere self.now.tokens.now at result }
     {
         self.tokens.get(at).copied()
+    }
+
+    /// Whether the token at a place is this sign.
+    pub fn is_sign(&self, at: usize, sign: Sign) -> bool
+        ensures is { result ≡ first_is (λ k. same_kind k (kinds.Sign sign)) (drop at self.now.tokens.now) }
+        ensures there { result ≡ true → at < 2 ^ 64 - 1 }
+    {
+        match self.token(at) {
+            Some(token) => token.kind == Kind::Sign(sign),
+            None => false,
+        }
+    }
+
+    /// Whether the token at a place is this word.
+    pub fn is_word(&self, at: usize, word: Keyword) -> bool
+        ensures is { result ≡ first_is (λ k. same_kind k (kinds.Keyword word)) (drop at self.now.tokens.now) }
+        ensures there { result ≡ true → at < 2 ^ 64 - 1 }
+    {
+        match self.token(at) {
+            Some(token) => token.kind == Kind::Keyword(word),
+            None => false,
+        }
     }
 }

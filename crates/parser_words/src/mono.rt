@@ -1,16 +1,21 @@
 //! Monotypes. Brackets are opened and closed by loops, so that a monotype recurses only into right
 //! operands, of which each is one level deeper.
 
-ghost use Rattle.std.specs.Prelude.{◌≡◌, ◌<◌, IfOk, drop, reverse, [], ℕ};
-ghost use Rattle.htt_grammar.specs.Phrases.{mono_right, mono_closes, mono_at};
+ghost use Rattle.std.specs.Prelude.{◌≡◌, IfOk, drop, reverse, [], ◌∷◌, ℕ, suc, map};
+ghost use Rattle.htt_tokens.specs.declared.tokens.Kind.TheVariants as kinds;
+ghost use Rattle.htt_tokens.specs.declared.tokens.Sign.TheVariants.{CommaSign};
+ghost use Rattle.htt_grammar.specs.Readers.{after_commas};
+ghost use Rattle.htt_grammar.specs.Phrases.{mono_right, mono_closes, mono_at, bracketed};
 ghost use Rattle.htt_grammar.specs.Reading.{deeper};
 ghost use Rattle.raw_trees.specs.Trees.{MonoTree, m_brackets, with_right};
 ghost use Rattle.raw_trees.specs.MonoViews.{right_tree, bracket_tree};
 ghost use Rattle.raw_trees.specs.MonoLevels.{mono_tree, brackets_tree};
-ghost use Rattle.parser_words.specs.Results.{Gives};
+ghost use Rattle.parser_words.specs.Results.{Gives, GivesMore};
+ghost use Rattle.parser_words.specs.Lists.{monos_at};
 ghost use Rattle.parser_words.specs.Brackets.{opened};
 
-use crate::cursor::{Cursor, Halted};
+use crate::beginnings::Phrase;
+use crate::cursor::{Cursor, Halted, Reason};
 use htt_seq::Seq;
 use htt_tokens::{Kind, Sign};
 use raw_trees::{RawBracket, RawMono, RawRight};
@@ -46,7 +51,7 @@ impl Cursor<'_> {
 
     /// A monotype where `left` further levels may be entered.
     #[cycle(mono)]
-    pub(crate) fn mono(&self, left: u32, at: usize) -> Result<(RawMono, usize), Halted>
+    pub fn mono(&self, left: u32, at: usize) -> Result<(RawMono, usize), Halted>
         ensures { Gives self.now.tokens.now mono_tree result (mono_at (deeper 63 left) (drop at self.now.tokens.now)) }
     {
         let (opens, at) = self.opens(at)?;
@@ -79,11 +84,11 @@ impl Cursor<'_> {
 
     /// A monotype one level deeper.
     #[cycle(mono)]
-    pub(crate) fn deeper_mono(&self, left: u32, at: usize) -> Result<(RawMono, usize), Halted>
+    pub fn deeper_mono(&self, left: u32, at: usize) -> Result<(RawMono, usize), Halted>
         ensures { Gives self.now.tokens.now mono_tree result ((deeper 63 left).mono (drop at self.now.tokens.now)) }
     {
         if left == 0 {
-            self.nested_mono(at)
+            Err(self.refuse(Reason::TooNested, Phrase::Mono, at))
         } else {
             self.mono(left - 1, at)
         }
@@ -109,5 +114,49 @@ impl Cursor<'_> {
             at = next;
         }
         Ok((brackets, at))
+    }
+
+    /// A monotype in square brackets.
+    #[tactic(auto, using(crate::proofs::Steps::steps), unfolding(crate::proofs::Steps::reading, htt_grammar::specs::Phrases::bracketed))]
+    pub fn bracketed(&self, left: u32, at: usize) -> Result<(RawMono, usize), Halted>
+        ensures { Gives self.now.tokens.now mono_tree result (bracketed (deeper 63 left) (drop at self.now.tokens.now)) }
+    {
+        let at = self.sign(at, Sign::OpenBracketSign)?;
+        let (mono, at) = self.mono(left, at)?;
+        let at = self.sign(at, Sign::CloseBracketSign)?;
+        Ok((mono, at))
+    }
+
+    /// A comma and a monotype, if there is a comma.
+    #[tactic(auto, using(crate::proofs::Steps::steps), unfolding(crate::proofs::Steps::reading, htt_grammar::specs::Readers::after_commas))]
+    fn more_mono(&self, left: u32, at: usize) -> Result<Option<(RawMono, usize)>, Halted>
+        ensures { (n : ℕ) → let next = after_commas (kinds.Sign CommaSign) (mono_at (deeper 63 left)) in GivesMore self.now.tokens.now (λ m ms. mono_tree m ∷ ms) [] result (next (suc n)) (next n) at }
+    {
+        if !self.is_sign(at, Sign::CommaSign) {
+            return Ok(None);
+        }
+        let (mono, at) = self.mono(left, at + 1)?;
+        Ok(Some((mono, at)))
+    }
+
+    /// Monotypes with commas between them.
+    #[tactic(auto, using(crate::proofs::Steps::steps), unfolding(crate::proofs::Steps::reading))]
+    pub fn monos(&self, left: u32, at: usize) -> Result<(Vec<RawMono>, usize), Halted>
+        ensures { Gives self.now.tokens.now (λ monos. map mono_tree monos.items) result (monos_at (deeper 63 left) (drop at self.now.tokens.now)) }
+    {
+        let (first, at) = self.mono(left, at)?;
+        let mut monos = Vec::new(self.alloc);
+        monos.push(first)?;
+        let mut at = at;
+        for _ in at..self.tokens.len() {
+            match self.more_mono(left, at)? {
+                None => break,
+                Some((mono, next)) => {
+                    monos.push(mono)?;
+                    at = next;
+                }
+            }
+        }
+        Ok((monos, at))
     }
 }

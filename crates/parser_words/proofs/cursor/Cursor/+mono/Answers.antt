@@ -1,4 +1,4 @@
-use Rattle.std.proofs.Common.{◌≡◌, ◌∙◌, ap, sym, rules, arith, reverse, drop, [], ◌∷◌, ◌++◌, true, false, ◌-◌, suc}
+use Rattle.std.proofs.Common.{◌≡◌, refl, ◌∙◌, ap, sym, rules, arith, reverse, drop, [], ◌∷◌, ◌++◌, true, false, ◌-◌, suc}
 use Rattle.std.proofs.lemmas.Result.{err_from_is_err_and}
 use Rattle.std.specs.Prelude.{Ok}
 use Rattle.htt_tokens.specs.declared.tokens.Kind.TheVariants.{Sign}
@@ -7,7 +7,10 @@ use Rattle.raw_trees.specs.declared.mono.RawRight.TheVariants as vright
 use Rattle.raw_trees.specs.Trees.{m_name, with_right}
 use Rattle.raw_trees.specs.MonoViews.{right_tree}
 use Rattle.raw_trees.specs.MonoLevels.{mono_tree, brackets_tree, right_times, right_nothing}
-use Rattle.htt_grammar.specs.Readers.{token, same_kind, either, stop}
+use Rattle.htt_grammar.specs.Readers.{token, same_kind, either, stop, too_nested}
+use Rattle.htt_grammar.specs.Beginnings.{begins_mono}
+use Rattle.parser_words.specs.declared.cursor.Reason.TheVariants.{TooNested}
+use Rattle.parser_words.proofs.Steps.{refuse_stops}
 use Rattle.htt_grammar.specs.Phrases.{mono_right, mono_closes, mono_name_case, mono_inside}
 use Rattle.htt_grammar.specs.Reading.{deeper}
 use Rattle.parser_words.proofs.Monotypes.{bind_ok, bind_err, err_along, gives_along, deeper_none, deeper_some, at_inside, inside_is, right_star, right_other, right_end, given, closes_open, closes_none, brackets_last}
@@ -53,7 +56,7 @@ closes-returns n c = λ m.
 pub deeper_mono-returns-then-left-eq0 : goal.deeper_mono-returns-then-left-eq0
 deeper_mono-returns-then-left-eq0 n c =
     let us = drop c.args.at c.args.self.now.tokens.now in
-    gives_along _ _ _ _ _ (ap (λ n. (deeper 63 n).mono us) c.if-left-eq0.true ∙ ap (λ r. r us) deeper_none) c.nested_mono.ensures
+    err_along _ _ _ _ (ap (λ n. (deeper 63 n).mono us) c.if-left-eq0.true ∙ ap (λ r. r us) deeper_none) (refuse_stops _ c.args.self.now.tokens.now too_nested begins_mono TooNested c.args.at _ refl c.refuse.ensures)
 
 pub deeper_mono-returns-else-left-eq0 : goal.deeper_mono-returns-else-left-eq0
 deeper_mono-returns-else-left-eq0 n c =

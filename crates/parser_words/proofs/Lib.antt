@@ -1,0 +1,5 @@
+pub mod Opening
+pub mod Monotypes
+pub mod Steps
+pub mod Loops
+pub mod MonoLists

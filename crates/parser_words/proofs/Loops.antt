@@ -1,0 +1,60 @@
+-- Lists that are read by a loop: what was read so far stands before what the rest of the list gives.
+use Rattle.std.proofs.Common.{◌≡◌, ℕ, suc, ◌+◌, ◌-◌, ◌<◌, ◌≤◌, List, [], ◌∷◌, ◌++◌, drop, refl, ap, sym, ◌∙◌, subst, arith}
+use Rattle.std.specs.Prelude.{Result, Ok, Err, map, Option, Some, None}
+use Rattle.htt_tokens.specs.declared.tokens.Token.{Token}
+use Rattle.raw_trees.specs.Trees.{onto}
+use Rattle.htt_grammar.specs.Readers.{Reader, Halt, give, after}
+use Rattle.parser_words.specs.declared.cursor.Halted.{Halted}
+use Rattle.parser_words.specs.declared.cursor.Halted.TheVariants as halts
+use Rattle.parser_words.specs.Results.{StopsAs, GivesMore, mapped}
+
+onto_last : {X T : Type 0} (put : X → T → T) (xs : List X) (x : X) (rest : T) → onto put (xs ++ x ∷ []) rest ≡ onto put xs (put x rest)
+onto_last put [] x rest = refl
+onto_last put (y ∷ xs) x rest = ap (put y) (onto_last put xs x rest)
+
+pub onto_map : {X Y : Type 0} (view : X → Y) (xs : List X) → onto (λ x ys. view x ∷ ys) xs [] ≡ map view xs
+onto_map view [] = refl
+onto_map view (x ∷ xs) = ap (λ ys. view x ∷ ys) (onto_map view xs)
+
+put_last : {X T : Type 0} (put : X → T → T) (xs : List X) (x : X) (o : Result (T × List Token) Halt) → mapped (onto put xs) (mapped (put x) o) ≡ mapped (onto put (xs ++ x ∷ [])) o
+unfolding give
+put_last put xs x (Ok read) = ap (λ t. Ok (t, read.1)) (sym (onto_last put xs x read.0))
+put_last put xs x (Err halt) = refl
+
+-- where a list begins
+pub loop_first : {T : Type 0} (told : Result (T × List Token) Halt) → told ≡ mapped (λ t. t) told
+unfolding give
+loop_first (Ok read) = refl
+loop_first (Err halt) = refl
+
+-- one member more
+pub loop_more : {X T : Type 0} (ts : List Token) (put : X → T → T) (nothing : T) (next : ℕ → Reader T) (told : Result (T × List Token) Halt) (xs items : List X) (r : Option (X × ℕ)) (x : X) (end counter at after_at : ℕ) → counter < end → told ≡ mapped (onto put xs) (next (end - counter) (drop at ts)) → ((n : ℕ) → GivesMore ts put nothing (Ok r) (next (suc n)) (next n) at) → r ≡ Some (x, after_at) → items ≡ xs ++ x ∷ [] → told ≡ mapped (onto put items) (next (end - (counter + 1)) (drop after_at ts))
+loop_more ts put nothing next told xs items r x end counter at after_at below so_far more some is =
+    let left : end - counter ≡ suc (end - (counter + 1)) = omega (arith, below) in
+    let n = end - (counter + 1) in
+    let one : next (suc n) (drop at ts) ≡ mapped (put x) (next n (drop after_at ts)) = subst (λ (q : Option _). GivesMore ts put nothing (Ok q) (next (suc n)) (next n) at) some (more n) in
+    so_far ∙ ap (λ m. mapped (onto put xs) (next m (drop at ts))) left ∙ ap (mapped (onto put xs)) one ∙ put_last put xs x (next n (drop after_at ts)) ∙ ap (λ ys. mapped (onto put ys) (next n (drop after_at ts))) (sym is)
+
+-- no member more
+pub loop_ends : {X T : Type 0} (ts : List Token) (put : X → T → T) (nothing : T) (next : ℕ → Reader T) (told : Result (T × List Token) Halt) (xs : List X) (r : Option (X × ℕ)) (end counter at : ℕ) → counter < end → told ≡ mapped (onto put xs) (next (end - counter) (drop at ts)) → ((n : ℕ) → GivesMore ts put nothing (Ok r) (next (suc n)) (next n) at) → r ≡ None → told ≡ Ok (onto put xs nothing, drop at ts)
+unfolding give
+loop_ends ts put nothing next told xs r end counter at below so_far more none =
+    let left : end - counter ≡ suc (end - suc counter) = omega (arith, below) in
+    let n = end - suc counter in
+    let last : next (suc n) (drop at ts) ≡ Ok (nothing, drop at ts) = subst (λ (q : Option _). GivesMore ts put nothing (Ok q) (next (suc n)) (next n) at) none (more n) in
+    so_far ∙ ap (λ m. mapped (onto put xs) (next m (drop at ts))) left ∙ ap (mapped (onto put xs)) last
+
+-- no token more
+pub loop_is_over : {X T : Type 0} (ts : List Token) (put : X → T → T) (nothing : T) (next : ℕ → Reader T) (told : Result (T × List Token) Halt) (xs : List X) (end counter at : ℕ) → end ≤ counter → told ≡ mapped (onto put xs) (next (end - counter) (drop at ts)) → next 0 (drop at ts) ≡ Ok (nothing, drop at ts) → told ≡ Ok (onto put xs nothing, drop at ts)
+unfolding give
+loop_is_over ts put nothing next told xs end counter at over so_far last =
+    let none : end - counter ≡ 0 = omega (arith, over) in
+    so_far ∙ ap (λ m. mapped (onto put xs) (next m (drop at ts))) none ∙ ap (mapped (onto put xs)) last
+
+-- a member stops
+pub loop_stops : {X T : Type 0} (ts : List Token) (e : Halted) (put : X → T → T) (xs : List X) (next : ℕ → Reader T) (at : ℕ) (told : Result (T × List Token) Halt) (end counter : ℕ) → counter < end → told ≡ mapped (onto put xs) (next (end - counter) (drop at ts)) → ((n : ℕ) → StopsAs ts e (next (suc n) (drop at ts))) → StopsAs ts e told
+unfolding give
+loop_stops ts halts.NoMemory put xs next i told end counter below so_far h = tt
+loop_stops ts (halts.At reason at) put xs next i told end counter below so_far h =
+    let left : end - counter ≡ suc (end - suc counter) = omega (arith, below) in
+    so_far ∙ ap (λ m. mapped (onto put xs) (next m (drop i ts))) left ∙ ap (mapped (onto put xs)) (h (end - suc counter))

@@ -1,0 +1,4 @@
+pub mod Results
+pub mod Beginnings
+pub mod Brackets
+pub mod Lists
