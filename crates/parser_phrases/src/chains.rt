@@ -39,7 +39,6 @@ impl Phrases<'_> {
     }
 
     /// A monotype that a head is applied to, from its bracket on.
-    #[cycle(phrases)]
     #[tactic(auto, using(parser_words::proofs::Steps::steps), unfolding(parser_words::proofs::Steps::reading))]
     fn mono_part(&self, left: u32, room: u32, at: usize) -> Result<Option<(RawPart, usize)>, Halted>
         ensures gives { GivesMore self.now.cursor.tokens.now part_tree no_parts result (mono_part_on (deeper 63 left) room) (parts_on (deeper 63 left) (room - 1)) at }

@@ -130,7 +130,6 @@ impl Phrases<'_> {
     }
 
     /// A monotype as a type.
-    #[cycle(phrases)]
     #[tactic(auto, using(parser_words::proofs::Steps::steps, raw_trees::specs::TreeLevels::ty_mono), unfolding(parser_words::proofs::Steps::reading))]
     fn mono_ty(&self, left: u32, at: usize) -> Result<(RawTy, usize), Halted>
         ensures { Gives self.now.cursor.tokens.now ty_tree result (mono_ty_on (deeper 63 left) (drop at self.now.cursor.tokens.now)) }
