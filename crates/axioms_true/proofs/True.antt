@@ -11,7 +11,8 @@ use Rattle.htt_truth.specs.Truth.{NotNot, Recs, Holds}
 use Rattle.htt_truth.specs.Predicates.{recs_of}
 use Rattle.htt_truth.proofs.Renamed.{value_renamed}
 use Rattle.logic_axioms.specs.Names.{AxiomName, emp_some, emp_one, join_emp, join_comm, join_assoc, join_fun, join_cancel, join_empty, join_cross, cell_block, cell_one, cell_val, cell_make, block_part, block_sep, block_null, block_emp, block_word, block_place, block_width, add_comm, mul_comm, add_assoc, mul_assoc, add_zero, mul_one, mul_zero, mul_add, sub_add, add_sub, lt_irrefl, lt_zero, lt_trans, lt_total, lt_step, lt_gap, lt_pred, eq_yes, eq_no, bool_or, bool_ne, pair_eta, unit_eta, and_zero, or_zero, xor_self, shl_one}
-use Rattle.logic_axioms.specs.Table.{shape_of, SideCondition, formula_of, up}
+use Rattle.substitution.specs.Closing.{up}
+use Rattle.logic_axioms.specs.Table.{shape_of, SideCondition, formula_of}
 use Rattle.axioms_true.specs.Laws.{AreOfShape, AxiomsAreTrue}
 use Rattle.axioms_true.proofs.Values.{as_loc, as_unit}
 use Rattle.axioms_true.proofs.WordAxioms.{sum_commutes, product_commutes, sum_regroups, product_regroups, zero_added, times_one, times_zero, product_of_sum, difference_and_sum, sum_and_difference, not_below_itself, not_below_zero, transitive, total, below_next, nothing_between, before_is_below, bits_with_zero, bits_or_zero, xor_itself, left_by_one}

@@ -8,7 +8,7 @@ use Rattle.canonical_trees.specs.Folding.{folding}
 use Rattle.htt_truth.specs.Worlds.{World, mono_under}
 use Rattle.htt_truth.specs.TermValue.{value_or_unit, term_value}
 use Rattle.htt_truth.specs.Truth.{NotNot}
-use Rattle.logic_axioms.specs.Table.{IsCompared}
+use Rattle.htt_typing.specs.Contexts.{IsComparable, compares_word, compares_bool, compares_loc}
 use Rattle.term_values.proofs.Folded.{folded}
 use Rattle.axioms_true.proofs.Values.{as_bool, as_pair}
 
@@ -32,27 +32,27 @@ truth_of : {a b : Bool} → v_bool a ≡ v_bool b → a ≡ b
 truth_of e = cc
 
 -- values of a monotype that is compared are equal exactly where `eq` says true
-compared : (w : World) (t : MonoTree) {x y : Value} → IsCompared t → HasType x (mono_under w t) → HasType y (mono_under w t) → value_or_unit (value_of_eq (mono_under w t) x y) ≡ v_bool true → x ≡ y
-compared w m_word c (is_word {n = n} l) (is_word {n = m} k) e = ap v_word (number_equal n m (truth_of e))
-compared w m_bool c (is_bool {b = a}) (is_bool {b = b}) e = ap v_bool (truth_equal a b (truth_of e))
-compared w m_loc c (is_loc {n = n} l) (is_loc {n = m} k) e = ap v_loc (number_equal n m (truth_of e))
-compared w m_unit c p q e = absurd c
-compared w (m_pair t u) c p q e = absurd c
-compared w (m_var i) c p q e = absurd c
+compared : (w : World) (t : MonoTree) {x y : Value} → IsComparable t → HasType x (mono_under w t) → HasType y (mono_under w t) → value_or_unit (value_of_eq (mono_under w t) x y) ≡ v_bool true → x ≡ y
+compared w m_word compares_word (is_word {n = n} l) (is_word {n = m} k) e = ap v_word (number_equal n m (truth_of e))
+compared w m_bool compares_bool (is_bool {b = a}) (is_bool {b = b}) e = ap v_bool (truth_equal a b (truth_of e))
+compared w m_loc compares_loc (is_loc {n = n} l) (is_loc {n = m} k) e = ap v_loc (number_equal n m (truth_of e))
+compared w m_unit c p q e = elim c [ ]
+compared w (m_pair t u) c p q e = elim c [ ]
+compared w (m_var i) c p q e = elim c [ ]
 
-compares_itself : (w : World) (t : MonoTree) {x : Value} → IsCompared t → HasType x (mono_under w t) → value_or_unit (value_of_eq (mono_under w t) x x) ≡ v_bool true
-compares_itself w m_word c (is_word {n = n} l) = ap v_bool (number_equals n n refl)
-compares_itself w m_bool c (is_bool {b = a}) = ap v_bool (truth_equals a)
-compares_itself w m_loc c (is_loc {n = n} l) = ap v_bool (number_equals n n refl)
-compares_itself w m_unit c p = absurd c
-compares_itself w (m_pair t u) c p = absurd c
-compares_itself w (m_var i) c p = absurd c
+compares_itself : (w : World) (t : MonoTree) {x : Value} → IsComparable t → HasType x (mono_under w t) → value_or_unit (value_of_eq (mono_under w t) x x) ≡ v_bool true
+compares_itself w m_word compares_word (is_word {n = n} l) = ap v_bool (number_equals n n refl)
+compares_itself w m_bool compares_bool (is_bool {b = a}) = ap v_bool (truth_equals a)
+compares_itself w m_loc compares_loc (is_loc {n = n} l) = ap v_bool (number_equals n n refl)
+compares_itself w m_unit c p = elim c [ ]
+compares_itself w (m_pair t u) c p = elim c [ ]
+compares_itself w (m_var i) c p = elim c [ ]
 
-pub equal_where_yes : (w : World) (t : MonoTree) (m n : TermTree) → IsCompared t → HasType (term_value w m) (mono_under w t) → HasType (term_value w n) (mono_under w t) → term_value w (folding (t_eq t m n)) ≡ v_bool true → term_value w m ≡ term_value w n
+pub equal_where_yes : (w : World) (t : MonoTree) (m n : TermTree) → IsComparable t → HasType (term_value w m) (mono_under w t) → HasType (term_value w n) (mono_under w t) → term_value w (folding (t_eq t m n)) ≡ v_bool true → term_value w m ≡ term_value w n
 unfolding term_value
 equal_where_yes w t m n c p q e = compared w t c p q (sym (folded w (t_eq t m n)) ∙ e)
 
-pub yes_where_equal : (w : World) (t : MonoTree) (m n : TermTree) → IsCompared t → HasType (term_value w m) (mono_under w t) → HasType (term_value w n) (mono_under w t) → term_value w m ≡ term_value w n → term_value w (folding (t_eq t m n)) ≡ v_bool true
+pub yes_where_equal : (w : World) (t : MonoTree) (m n : TermTree) → IsComparable t → HasType (term_value w m) (mono_under w t) → HasType (term_value w n) (mono_under w t) → term_value w m ≡ term_value w n → term_value w (folding (t_eq t m n)) ≡ v_bool true
 unfolding term_value
 yes_where_equal w t m n c p q e = folded w (t_eq t m n) ∙ ap (λ v. value_or_unit (value_of_eq (mono_under w t) (term_value w m) v)) (sym e) ∙ compares_itself w t c p
 

@@ -97,47 +97,58 @@ fn a_cut_file_ends_too_early(rt: HostRuntime) {
 }
 
 #[test]
-fn the_first_field_that_fails_is_named(rt: HostRuntime) {
-    let table: [(&[u8], u64, u8); 17] = [
+fn no_byte_follows_the_last_instruction(rt: HostRuntime) -> Result<(), Fail> {
+    let mut longer = JUMP.to_vec(rt.alloc())?;
+    longer.push(0)?;
+    assert_eq!(rt; refusal(rt.alloc(), longer.as_slice()), Some((24, 12)));
+    Ok(())
+}
+
+#[test]
+fn the_opening_is_tested_first(rt: HostRuntime) {
+    let table: [(&[u8], u64, u8); 5] = [
         (b"HTX", 3, 0),
         (b"HTTX", 0, 1),
         (b"HTTW\x03", 4, 2),
-        // 5,000 functions
+        // no function, and 5,000 functions
+        (b"HTTW\x01\0\0\0\0", 5, 3),
         (b"HTTW\x01\x88\x13\0\0", 5, 3),
+    ];
+    for (bytes, at, row) in table {
+        assert_eq!(rt; refusal(rt.alloc(), bytes), Some((at, row)), "at {at}");
+    }
+}
+
+#[test]
+fn a_header_is_read_whole_and_then_tested(rt: HostRuntime) {
+    let table: [(&[u8], u64, u8); 6] = [
+        // params 2, locals 1, without the last byte of the count; and with result 4097, count 0
+        (b"HTTW\x01\x01\0\0\0\x02\0\x01\0\0\0\0\0\0", 18, 0),
+        (b"HTTW\x01\x01\0\0\0\x02\0\x01\0\x01\x10\0\0\0\0", 9, 4),
         // params 1, locals 1, result 4097, count 0
         (b"HTTW\x01\x01\0\0\0\x01\0\x01\0\x01\x10\0\0\0\0", 9, 6),
+        // the same with no params; and with result 0
+        (b"HTTW\x01\x01\0\0\0\0\0\x01\0\x01\x10\0\0\0\0", 13, 4),
+        (b"HTTW\x01\x01\0\0\0\0\0\x01\0\0\0\0\0\0\0", 15, 5),
         // counts 1,000,000 and 1, then locals 5,000
         (
             b"HTTW\x01\x03\0\0\0\0\0\0\0\0\0\x40\x42\x0f\0\0\0\0\0\0\0\x01\0\0\0\0\0\x88\x13\0\0\x01\0\0\0",
             25,
             5,
         ),
-        // `const 9 5` as the only instruction, whole and cut
-        (
-            b"HTTW\x01\x01\0\0\0\0\0\x01\0\0\0\x01\0\0\0\0\x09\0\x05\0\0\0\0\0\0\0",
-            19,
-            11,
-        ),
-        (
-            b"HTTW\x01\x01\0\0\0\0\0\x01\0\0\0\x01\0\0\0\0\x09\0\x05",
-            19,
-            11,
-        ),
+    ];
+    for (bytes, at, row) in table {
+        assert_eq!(rt; refusal(rt.alloc(), bytes), Some((at, row)), "at {at}");
+    }
+}
+
+#[test]
+fn an_operand_is_tested_when_it_is_read(rt: HostRuntime) {
+    let table: [(&[u8], u64, u8); 7] = [
         // `const 1 ..` and `free 1 ..` cut after the place
         (b"HTTW\x01\x01\0\0\0\0\0\x01\0\0\0\x02\0\0\0\0\x01\0", 20, 8),
         (
             b"HTTW\x01\x01\0\0\0\0\0\x01\0\0\0\x02\0\0\0\x07\x01\0",
-            20,
-            8,
-        ),
-        // `set 2 0 ..` cut before its number of words, and whole
-        (
-            b"HTTW\x01\x01\0\0\0\0\0\x01\0\0\0\x02\0\0\0\x06\x02\0\0\0",
-            24,
-            0,
-        ),
-        (
-            b"HTTW\x01\x01\0\0\0\0\0\x01\0\0\0\x02\0\0\0\x06\x02\0\0\0\x01\0",
             20,
             8,
         ),
@@ -152,22 +163,93 @@ fn the_first_field_that_fails_is_named(rt: HostRuntime) {
             25,
             7,
         ),
-        // `jump 1` in a body of one, and a byte after the end
+        // `jz 1 9` and `jz 0 9` in a body of two
+        (
+            b"HTTW\x01\x01\0\0\0\0\0\x01\0\0\0\x02\0\0\0\x09\x01\0\x09\0\0\0",
+            20,
+            8,
+        ),
+        (
+            b"HTTW\x01\x01\0\0\0\0\0\x01\0\0\0\x02\0\0\0\x09\0\0\x09\0\0\0",
+            22,
+            9,
+        ),
+        // `jump 1` in a body of one
         (
             b"HTTW\x01\x01\0\0\0\0\0\0\0\0\0\x01\0\0\0\x08\x01\0\0\0",
             20,
             9,
         ),
+    ];
+    for (bytes, at, row) in table {
+        assert_eq!(rt; refusal(rt.alloc(), bytes), Some((at, row)), "at {at}");
+    }
+}
+
+#[test]
+fn an_instruction_whose_words_are_counted_is_read_whole(rt: HostRuntime) {
+    let table: [(&[u8], u64, u8); 2] = [
+        // `set 2 0 ..` cut before its number of words, and whole
         (
-            b"HTTW\x01\x01\0\0\0\0\0\0\0\0\0\x01\0\0\0\x08\0\0\0\0\0",
+            b"HTTW\x01\x01\0\0\0\0\0\x01\0\0\0\x02\0\0\0\x06\x02\0\0\0",
             24,
-            12,
+            0,
+        ),
+        (
+            b"HTTW\x01\x01\0\0\0\0\0\x01\0\0\0\x02\0\0\0\x06\x02\0\0\0\x01\0",
+            20,
+            8,
+        ),
+    ];
+    for (bytes, at, row) in table {
+        assert_eq!(rt; refusal(rt.alloc(), bytes), Some((at, row)), "at {at}");
+    }
+}
+
+#[test]
+fn a_call_is_tested_from_its_function_on(rt: HostRuntime) {
+    let table: [(&[u8], u64, u8); 3] = [
+        // `call 1 9 9`, `call 0 9 9` and `call 0 1 9`, of one function, with one local and no result
+        (
+            b"HTTW\x01\x01\0\0\0\0\0\x01\0\0\0\x02\0\0\0\x0a\x01\0\0\0\x09\0\x09\0",
+            20,
+            10,
+        ),
+        (
+            b"HTTW\x01\x01\0\0\0\0\0\x01\0\0\0\x02\0\0\0\x0a\0\0\0\0\x09\0\x09\0",
+            24,
+            8,
+        ),
+        (
+            b"HTTW\x01\x01\0\0\0\0\0\x01\0\0\0\x02\0\0\0\x0a\0\0\0\0\x01\0\x09\0",
+            26,
+            8,
+        ),
+    ];
+    for (bytes, at, row) in table {
+        assert_eq!(rt; refusal(rt.alloc(), bytes), Some((at, row)), "at {at}");
+    }
+}
+
+#[test]
+fn the_byte_of_an_instruction_is_tested_before_its_operands(rt: HostRuntime) {
+    let table: [(&[u8], u64, u8); 3] = [
+        // `const 9 5` as the only instruction, whole and cut
+        (
+            b"HTTW\x01\x01\0\0\0\0\0\x01\0\0\0\x01\0\0\0\0\x09\0\x05\0\0\0\0\0\0\0",
+            19,
+            11,
+        ),
+        (
+            b"HTTW\x01\x01\0\0\0\0\0\x01\0\0\0\x01\0\0\0\0\x09\0\x05",
+            19,
+            11,
         ),
         // a byte that begins no instruction
         (b"HTTW\x02\x01\0\0\0\0\0\0\0\0\0\x01\0\0\0\x0d", 19, 7),
     ];
     for (bytes, at, row) in table {
-        assert_eq!(rt; refusal(rt.alloc(), bytes), Some((at, row)));
+        assert_eq!(rt; refusal(rt.alloc(), bytes), Some((at, row)), "at {at}");
     }
 }
 

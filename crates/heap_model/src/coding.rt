@@ -4,8 +4,8 @@
 ghost use Rattle.std.specs.Prelude.{◌≡◌, ◌++◌, ◌<◌, ◌≤◌, ◌^◌, option_map, IfOk, OnOk};
 ghost use Rattle.htt_syntax.specs.Views.{mono_tree};
 ghost use Rattle.htt_values.specs.Values.{IsClosed, width, encoding, value_of_words};
-ghost use Rattle.heap_model.specs.Coding.{mono_nodes};
 ghost use Rattle.heap_model.specs.Views.{value_tree};
+ghost use Rattle.tree_counts.specs.Nodes.{nodes_mono};
 
 use crate::decoding::front_of;
 use crate::value::Value;
@@ -16,7 +16,7 @@ use std::alloc::{AllocError, Global};
 #[tactic(auto, using(crate::proofs::WidthLemmas::width_small))]
 pub fn width(t: &Mono) -> u64
     requires closed { IsClosed (mono_tree t.now) }
-    requires small { mono_nodes (mono_tree t.now) ≤ 64 }
+    requires small { nodes_mono (mono_tree t.now) ≤ 64 }
     ensures width { result ≡ width (mono_tree t.now) }
 {
     saturated_width(t)

@@ -31,7 +31,7 @@ fn sign(sign: Sign, from: u64, to: u64) -> Token {
 }
 
 #[test]
-fn every_keyword_is_one_token(rt: HostRuntime) {
+fn words_of_declarations_and_types_are_keywords(rt: HostRuntime) {
     let words = [
         ("type", Keyword::TypeWord),
         ("pred", Keyword::PredWord),
@@ -44,6 +44,16 @@ fn every_keyword_is_one_token(rt: HostRuntime) {
         ("loc", Keyword::LocWord),
         ("unit", Keyword::UnitWord),
         ("heap", Keyword::HeapWord),
+    ];
+    for (text, word) in words {
+        let wanted = [keyword(word, 0, text.len() as u64)];
+        assert!(rt; has(rt, text.as_bytes(), &wanted), "{text}");
+    }
+}
+
+#[test]
+fn words_of_computations_and_terms_are_keywords(rt: HostRuntime) {
+    let words = [
         ("fun", Keyword::FunWord),
         ("do", Keyword::DoWord),
         ("fix", Keyword::FixWord),
@@ -64,6 +74,16 @@ fn every_keyword_is_one_token(rt: HostRuntime) {
         ("eq", Keyword::EqWord),
         ("sel", Keyword::SelWord),
         ("emp", Keyword::EmpWord),
+    ];
+    for (text, word) in words {
+        let wanted = [keyword(word, 0, text.len() as u64)];
+        assert!(rt; has(rt, text.as_bytes(), &wanted), "{text}");
+    }
+}
+
+#[test]
+fn words_of_formulas_are_keywords(rt: HostRuntime) {
+    let words = [
         ("tt", Keyword::TtWord),
         ("ff", Keyword::FfWord),
         ("all", Keyword::AllWord),
@@ -75,6 +95,16 @@ fn every_keyword_is_one_token(rt: HostRuntime) {
         ("Same", Keyword::SameWord),
         ("init", Keyword::InitWord),
         ("mem", Keyword::MemWord),
+    ];
+    for (text, word) in words {
+        let wanted = [keyword(word, 0, text.len() as u64)];
+        assert!(rt; has(rt, text.as_bytes(), &wanted), "{text}");
+    }
+}
+
+#[test]
+fn words_of_proofs_are_keywords(rt: HostRuntime) {
+    let words = [
         ("intro", Keyword::IntroWord),
         ("gen", Keyword::GenWord),
         ("have", Keyword::HaveWord),
@@ -145,18 +175,34 @@ fn every_sign_is_one_token(rt: HostRuntime) {
 }
 
 #[test]
-fn texts_are_cut_where_the_longest_token_ends(rt: HostRuntime) {
-    let texts = [
-        ("", [].as_slice()),
+fn blanks_and_comments_are_no_tokens(rt: HostRuntime) {
+    let texts: [(&str, &[Token]); 9] = [
+        ("", &[]),
         (" \t\r\n", &[]),
         ("-->", &[]),
         ("-- to the end", &[]),
         ("--", &[]),
+        ("|--", &[sign(Sign::BarSign, 0, 1)]),
+        ("|-->", &[sign(Sign::BarSign, 0, 1)]),
+        ("--\rx\ny", &[name(5, 6)]),
+        ("x--\u{2192}\n2", &[name(0, 1), number(2, 7, 8)]),
+    ];
+    for (text, wanted) in texts {
+        assert!(rt; has(rt, text.as_bytes(), wanted), "{text}");
+    }
+}
+
+#[test]
+fn the_longest_sign_is_taken(rt: HostRuntime) {
+    let texts: [(&str, &[Token]); 8] = [
         (
             "<--",
             &[sign(Sign::LeftArrowSign, 0, 2), sign(Sign::MinusSign, 2, 3)],
         ),
-        ("|--", &[sign(Sign::BarSign, 0, 1)]),
+        (
+            "<-->",
+            &[sign(Sign::LeftArrowSign, 0, 2), sign(Sign::ArrowSign, 2, 4)],
+        ),
         (
             "|->-",
             &[sign(Sign::PointsToSign, 0, 3), sign(Sign::MinusSign, 3, 4)],
@@ -184,16 +230,40 @@ fn texts_are_cut_where_the_longest_token_ends(rt: HostRuntime) {
             "/\\\\/",
             &[sign(Sign::AndSign, 0, 2), sign(Sign::OrSign, 2, 4)],
         ),
-        ("--\rx\ny", &[name(5, 6)]),
-        ("x--\u{2192}\n2", &[name(0, 1), number(2, 7, 8)]),
+    ];
+    for (text, wanted) in texts {
+        assert!(rt; has(rt, text.as_bytes(), wanted), "{text}");
+    }
+}
+
+#[test]
+fn a_number_ends_with_its_last_digit(rt: HostRuntime) {
+    let texts: [(&str, &[Token]); 6] = [
         ("1a", &[number(1, 0, 1), name(1, 2)]),
         ("1_", &[number(1, 0, 1), sign(Sign::UnderscoreSign, 1, 2)]),
+        (
+            "1-2",
+            &[
+                number(1, 0, 1),
+                sign(Sign::MinusSign, 1, 2),
+                number(2, 2, 3),
+            ],
+        ),
         ("007", &[number(7, 0, 3)]),
         ("18446744073709551615", &[number(u64::MAX, 0, 20)]),
         (
             "0000000000000000000000018446744073709551615",
             &[number(u64::MAX, 0, 43)],
         ),
+    ];
+    for (text, wanted) in texts {
+        assert!(rt; has(rt, text.as_bytes(), wanted), "{text}");
+    }
+}
+
+#[test]
+fn a_word_is_as_long_as_it_can_be(rt: HostRuntime) {
+    let texts: [(&str, &[Token]); 11] = [
         ("_", &[sign(Sign::UnderscoreSign, 0, 1)]),
         ("__", &[name(0, 2)]),
         ("_1", &[name(0, 2)]),
@@ -209,23 +279,34 @@ fn texts_are_cut_where_the_longest_token_ends(rt: HostRuntime) {
         ("x\u{663}", &[name(0, 3)]),
         ("_\u{301}", &[name(0, 3)]),
         ("words word2 Word", &[name(0, 5), name(6, 11), name(12, 16)]),
-        ("f.k", &[name(0, 1), sign(Sign::DotSign, 1, 2), name(2, 3)]),
         (
-            "def a : word = 1a",
+            "emp Emp EMP Empty",
             &[
-                keyword(Keyword::DefWord, 0, 3),
-                name(4, 5),
-                sign(Sign::ColonSign, 6, 7),
-                keyword(Keyword::WordWord, 8, 12),
-                sign(Sign::EqualSign, 13, 14),
-                number(1, 15, 16),
-                name(16, 17),
+                keyword(Keyword::EmpWord, 0, 3),
+                keyword(Keyword::CapitalEmpWord, 4, 7),
+                name(8, 11),
+                name(12, 17),
             ],
         ),
+        ("f.k", &[name(0, 1), sign(Sign::DotSign, 1, 2), name(2, 3)]),
     ];
     for (text, wanted) in texts {
         assert!(rt; has(rt, text.as_bytes(), wanted), "{text}");
     }
+}
+
+#[test]
+fn a_declaration_has_its_tokens(rt: HostRuntime) {
+    let wanted = [
+        keyword(Keyword::DefWord, 0, 3),
+        name(4, 5),
+        sign(Sign::ColonSign, 6, 7),
+        keyword(Keyword::WordWord, 8, 12),
+        sign(Sign::EqualSign, 13, 14),
+        number(1, 15, 16),
+        name(16, 17),
+    ];
+    assert!(rt; has(rt, b"def a : word = 1a", &wanted));
 }
 
 #[test]

@@ -1,38 +1,16 @@
 -- What was read in a call, and a call that is a part of another.
-use Rattle.std.proofs.Common.{ℕ, ◌≡◌, ◌≤◌, List, [], ◌∷◌, ◌++◌, Option, Some, None, Result, Ok, Err, Vec, refl, sym, ap, subst, ◌∙◌, append_assoc, append-nil, arith, ⊎_elim, inl, inr}
-use Rattle.std.specs.Global.{Global}
-use Rattle.htt_base.specs.Outside.{Held, Told, Rose, NotesName, ReadGives}
-use Rattle.htt_base.specs.declared.outside.ReadStop.{ReadStop}
-use Rattle.htt_base.specs.declared.outside.ReadStop.TheVariants as stops
+use Rattle.std.proofs.Common.{ℕ, ◌≡◌, ◌≤◌, List, [], ◌∷◌, ◌++◌, Option, Some, None, Result, Ok, Err, sym, ap, subst, ◌∙◌, append_assoc, arith, ⊎_elim, inl, inr}
+use Rattle.htt_base.specs.Outside.{Held, Told, Rose}
 use Rattle.htt_words.specs.declared.words.Which.{Which}
 use Rattle.htt_words.specs.declared.words.Which.TheVariants.{CodeFile, HeapFile}
 use Rattle.htt_values.specs.Heaps.{Heap}
 use Rattle.word_loader.specs.declared.code.Code.{Code}
 use Rattle.command_answers.specs.declared.answer.Refusal.{Refusal}
 use Rattle.command_answers.specs.declared.answer.Refusal.TheVariants.{Usage, ReadFault, Limit, Syntax, NotInferred, BadCode, BadHeap, Fault, Stopped, NoMemory}
-use Rattle.htt_top.specs.Words.{ReadsOf}
+use Rattle.htt_top.specs.Words.{ReadsOf, ReadsRun, names_of}
 use Rattle.htt_top.specs.Stages.{Then, FileGives, LoadGives, CodeGives, HeapGives, StartGives, seen}
 
--- ---- the names that were read
-
-pub told_bytes : (held : Option Held) (name : List ℕ) (max : ℕ) (v : Vec ℕ Global) → ReadGives held name max (Ok v) → Told held (λ h. h name ≡ Some v.items)
-told_bytes None name max v h = tt
-told_bytes (Some held) name max v h = h.bytes
-
-pub reads_of : (before now : Option (List (List ℕ))) (name : List ℕ) (r : Result (Vec ℕ Global) ReadStop) → NotesName before now name r → ReadsOf (name ∷ []) before now
-reads_of None now name r h = tt
-reads_of (Some b) now name (Ok v) h = (name ∷ [], [], refl, h)
-reads_of (Some b) now name (Err stops.Failed) h = (name ∷ [], [], refl, h)
-reads_of (Some b) now name (Err stops.TooLong) h = (name ∷ [], [], refl, h)
-reads_of (Some b) now name (Err stops.NoMemory) h = ([], name ∷ [], refl, h ∙ ap Some (sym (append-nil b)))
-
-pub reads_nothing : (files : List (List ℕ)) (before : Option (List (List ℕ))) → ReadsOf files before before
-reads_nothing files None = tt
-reads_nothing files (Some b) = ([], files, refl, ap Some (sym (append-nil b)))
-
-pub reads_first : (a b : List (List ℕ)) (before now : Option (List (List ℕ))) → ReadsOf a before now → ReadsOf (a ++ b) before now
-reads_first a b None now h = tt
-reads_first a b (Some r) now h = (h.0, h.1 ++ b, ap (λ (t : List (List ℕ)). t ++ b) h.2 ∙ append_assoc h.0 h.1 b, h.3)
+-- ---- the names that were read, one part after the other
 
 pub reads_both : (a b : List (List ℕ)) (before mid now : Option (List (List ℕ))) → Told before (λ r. mid ≡ Some (r ++ a)) → ReadsOf b mid now → ReadsOf (a ++ b) before now
 reads_both a b None mid now h g = tt
@@ -72,3 +50,11 @@ module _ (held : Option Held) (a b c d : ℕ) (earlier : c ≤ a) (later : b ≤
   pub start_wider : (name : Option (List ℕ)) (x : Result Heap Refusal) → StartGives (seen held a b) name x → StartGives (seen held c d) name x
   start_wider None x h = h
   start_wider (Some name) x h = then_wider name HeapFile HeapGives x h
+
+-- ---- the names that a run reads
+
+pub reads_run : (held : Option Held) (a b c : ℕ) (name : List ℕ) (heap : Option (List ℕ)) (code : Code) (before mid now : Option (List (List ℕ)))
+    → CodeGives (seen held a b) name (Ok code) → b ≤ c → Told before (λ r. mid ≡ Some (r ++ (name ∷ []))) → ReadsOf (names_of heap) mid now → ReadsRun (seen held a c) name heap before now
+reads_run held a b c name heap code before mid now coded later all more =
+    let earlier : a ≤ a = omega arith in
+    inr ((code, code_wider held a b a c earlier later name (Ok code) coded), reads_both (name ∷ []) (names_of heap) before mid now all more)

@@ -1,7 +1,9 @@
 -- What a command's words name, and which of it was read.
-use Rattle.std.specs.Prelude.{ℕ, ◌≡◌, ◌++◌, ◌⊎◌, List, [], ◌∷◌, Option, Some, None}
+use Rattle.std.specs.Prelude.{ℕ, ◌≡◌, ◌++◌, ◌⊎◌, List, [], ◌∷◌, Option, Some, None, Ok}
 use Rattle.htt_base.specs.Outside.{Told}
+use Rattle.word_loader.specs.declared.code.Code.{Code}
 use Rattle.command_words.specs.Forms.{Form, go, run, HasForm}
+use Rattle.htt_top.specs.Stages.{Seen, CodeGives}
 
 -- the most steps of a run that is asked for none
 abbrev pub default_steps : ℕ
@@ -15,16 +17,23 @@ abbrev pub names_of : Option (List ℕ) → List (List ℕ)
 names_of None = []
 names_of (Some name) = name ∷ []
 
--- the files that are named for reading, in the order of reading
-abbrev pub files_of : Form → List (List ℕ)
-files_of (go file) = file ∷ []
-files_of (run code heap steps) = code ∷ names_of heap
-
 -- of these files a first part was read more, where the files tell what was read
 abbrev pub ReadsOf : List (List ℕ) → Option (List (List ℕ)) → Option (List (List ℕ)) → Type 0
 ReadsOf files before now =
     Told before (λ b. (names left : List (List ℕ)) × (files ≡ names ++ left) × (now ≡ Some (b ++ names)))
 
--- only what the words name was read more, in its order
-abbrev pub ReadsNamed : List (List ℕ) → Option (List (List ℕ)) → Option (List (List ℕ)) → Type 0
-ReadsNamed words before now = ReadsOf [] before now ⊎ ((form : Form) × HasForm words form × ReadsOf (files_of form) before now)
+-- a code file has code, as the files hold it
+abbrev pub HasCode : Seen → List ℕ → Type 0
+HasCode s name = (code : Code) × CodeGives s name (Ok code)
+
+-- at most the code file was read more, or it has code and the heap file was read behind it
+abbrev pub ReadsRun : Seen → List ℕ → Option (List ℕ) → Option (List (List ℕ)) → Option (List (List ℕ)) → Type 0
+ReadsRun s code heap before now = ReadsOf (code ∷ []) before now ⊎ (HasCode s code × ReadsOf (code ∷ names_of heap) before now)
+
+abbrev pub ReadsForm : Seen → Form → Option (List (List ℕ)) → Option (List (List ℕ)) → Type 0
+ReadsForm s (go file) = ReadsOf (file ∷ [])
+ReadsForm s (run code heap steps) = ReadsRun s code heap
+
+-- only what the words name was read more, in its order, and a heap file only where the code file has code
+abbrev pub ReadsNamed : List (List ℕ) → Seen → Option (List (List ℕ)) → Option (List (List ℕ)) → Type 0
+ReadsNamed words s before now = ReadsOf [] before now ⊎ ((form : Form) × HasForm words form × ReadsForm s form before now)

@@ -7,7 +7,7 @@ ghost use Rattle.word_loader.specs.Valid.{IsValid};
 ghost use Rattle.command_answers.specs.Answers.{answer_of};
 ghost use Rattle.htt_top.specs.Stages.{CodeGives, HeapGives, LoadGives, RunGives, StartGives, Then, seen};
 ghost use Rattle.htt_top.specs.Views.{ReadsAll, blocks_result};
-ghost use Rattle.htt_top.specs.Words.{ReadsOf, names_of};
+ghost use Rattle.htt_top.specs.Words.{ReadsOf, ReadsRun, names_of};
 
 use crate::read::read_file;
 use code_bytes::{LoadStop, load};
@@ -93,7 +93,7 @@ pub(crate) fn load_and_run<F: Files>(
 ) -> Result<Success, Refusal>
     requires { steps ≤ 1000000000 }
     ensures due { let s = seen (F.held files.old) (F.read_faults files.old) (F.read_faults files.new) in Then (CodeGives s code.now) (λ c. Then (StartGives s (option_map (λ n. n.now) heap.entry)) (λ h. RunGives c h steps)) (answer_of result) }
-    ensures reads { ReadsOf (code.now ∷ names_of (option_map (λ n. n.now) heap.entry)) (F.reads files.old) (F.reads files.new) }
+    ensures reads { ReadsRun (seen (F.held files.old) (F.read_faults files.old) (F.read_faults files.new)) code.now (option_map (λ n. n.now) heap.entry) (F.reads files.old) (F.reads files.new) }
     ensures held { F.held files.new ≡ F.held files.old }
     ensures write_faults { F.write_faults files.new ≡ F.write_faults files.old }
 {

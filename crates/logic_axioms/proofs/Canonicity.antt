@@ -9,7 +9,8 @@ use Rattle.canonical_trees.specs.Canonical.{IsCanonicalMono, IsCanonical, IsCano
 use Rattle.canonical_trees.specs.Folding.{contractum, folding, op_literal}
 use Rattle.canonical_trees.proofs.Renamed.{keeps_suc, mono_renamed, term_renamed}
 use Rattle.logic_axioms.specs.Names.{AxiomName, emp_some, emp_one, join_emp, join_comm, join_assoc, join_fun, join_cancel, join_empty, join_cross, cell_block, cell_one, cell_val, cell_make, block_part, block_sep, block_null, block_emp, block_word, block_place, block_width, add_comm, mul_comm, add_assoc, mul_assoc, add_zero, mul_one, mul_zero, mul_add, sub_add, add_sub, lt_irrefl, lt_zero, lt_trans, lt_total, lt_step, lt_gap, lt_pred, eq_yes, eq_no, bool_or, bool_ne, pair_eta, unit_eta, and_zero, or_zero, xor_self, shl_one}
-use Rattle.logic_axioms.specs.Table.{formula_of, up, up_mono}
+use Rattle.substitution.specs.Closing.{up}
+use Rattle.logic_axioms.specs.Table.{formula_of, up_mono}
 use Rattle.logic_axioms.specs.Laws.{AreCanonicalMonos, AreCanonicalArgs}
 
 mono_up : {g : List Standing} {entry : Standing} {t : MonoTree} → IsCanonicalMono g t → IsCanonicalMono (entry ∷ g) (up_mono t)

@@ -3,6 +3,7 @@ use Rattle.std.proofs.Common.{◌≡◌, ℕ, refl, arith}
 use Rattle.htt_syntax.specs.Trees.{m_word, m_loc, m_unit, m_pair, m_var}
 use Rattle.htt_renaming.specs.Renaming.{rename_mono, rename_term}
 use Rattle.canonical_trees.specs.Folding.{contractum}
+use Rattle.htt_typing.specs.Contexts.{IsComparable}
 use Rattle.logic_axioms.specs.Table.{formula_of, count_of_words, uses_of, SideCondition, SameWidth}
 use Rattle.logic_axioms.specs.Examples.{TheWordInstances, TheHeapInstances, TheSideConditions, TheRefusals}
 
@@ -26,6 +27,9 @@ turned : (index : ℕ) → uses_of index (m_pair (m_var 2) m_word) ≡ uses_of i
 unfolding uses_of
 turned index = omega arith
 
+no_comparison : IsComparable m_unit → ⊥
+no_comparison c = elim c [ ]
+
 pub side_conditions : TheSideConditions
 unfolding formula_of SideCondition count_of_words uses_of
 side_conditions = record {
@@ -33,7 +37,7 @@ side_conditions = record {
   no_word_for_two = λ formula i. no_width i.side_condition;
   changed_places = record { side_condition = record { same_words = refl; same_variables = turned }; row = refl };
   no_other_variable = λ formula i. no_variable i.side_condition;
-  no_eq_at_unit = λ m n formula i. i.side_condition;
+  no_eq_at_unit = λ m n formula i. no_comparison i.side_condition;
 }
 
 pub refusals : TheRefusals

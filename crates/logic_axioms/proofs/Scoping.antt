@@ -7,7 +7,8 @@ use Rattle.htt_renaming.specs.Scoped.{ScopedMono, ScopedTerm, ScopedFormula, in_
 use Rattle.htt_renaming.proofs.Scoping.{mono_scoped, term_scoped}
 use Rattle.canonical_trees.specs.Folding.{contractum, folding, op_literal}
 use Rattle.logic_axioms.specs.Names.{AxiomName, emp_some, emp_one, join_emp, join_comm, join_assoc, join_fun, join_cancel, join_empty, join_cross, cell_block, cell_one, cell_val, cell_make, block_part, block_sep, block_null, block_emp, block_word, block_place, block_width, add_comm, mul_comm, add_assoc, mul_assoc, add_zero, mul_one, mul_zero, mul_add, sub_add, add_sub, lt_irrefl, lt_zero, lt_trans, lt_total, lt_step, lt_gap, lt_pred, eq_yes, eq_no, bool_or, bool_ne, pair_eta, unit_eta, and_zero, or_zero, xor_self, shl_one}
-use Rattle.logic_axioms.specs.Table.{formula_of, up, up_mono}
+use Rattle.substitution.specs.Closing.{up}
+use Rattle.logic_axioms.specs.Table.{formula_of, up_mono}
 use Rattle.logic_axioms.specs.Laws.{AreScopedMonos, AreScopedArgs}
 
 under : {n k : ℕ} → k < n → suc k < suc n

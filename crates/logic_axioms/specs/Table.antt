@@ -5,8 +5,10 @@ use Rattle.std.specs.Prelude.{◌≡◌, ℕ, zero, suc, ◌+◌, List, [], ◌�
 use Rattle.htt_syntax.specs.declared.mono.Op.{Op}
 use Rattle.htt_syntax.specs.declared.mono.Op.TheVariants.{Add, Sub, Mul, And, Or, Xor, Shl, Lt}
 use Rattle.htt_syntax.specs.Trees.{MonoTree, TermTree, FormulaTree, ArgTree, m_word, m_bool, m_loc, m_unit, m_pair, m_var, t_var, t_word, t_bool, t_loc, t_unit, t_pair, t_fst, t_snd, t_bin, t_eq, f_ff, f_and, f_or, f_imp, f_ex_t, f_ex_h, f_emp, f_cell, f_block, f_join, f_same, f_eq, a_heap, a_term}
-use Rattle.htt_renaming.specs.Renaming.{rename_mono, rename_term}
+use Rattle.htt_renaming.specs.Renaming.{rename_mono}
 use Rattle.canonical_trees.specs.Folding.{folding}
+use Rattle.substitution.specs.Closing.{up}
+use Rattle.htt_typing.specs.Contexts.{IsComparable}
 use Rattle.logic_axioms.specs.Names.{AxiomName, emp_some, emp_one, join_emp, join_comm, join_assoc, join_fun, join_cancel, join_empty, join_cross, cell_block, cell_one, cell_val, cell_make, block_part, block_sep, block_null, block_emp, block_word, block_place, block_width, add_comm, mul_comm, add_assoc, mul_assoc, add_zero, mul_one, mul_zero, mul_add, sub_add, add_sub, lt_irrefl, lt_zero, lt_trans, lt_total, lt_step, lt_gap, lt_pred, eq_yes, eq_no, bool_or, bool_ne, pair_eta, unit_eta, and_zero, or_zero, xor_self, shl_one}
 
 infixr 20 ◌⇒◌
@@ -106,17 +108,10 @@ pub record SameWidth (t s : MonoTree) : Type 0 where
   pub same_words : count_of_words t ≡ count_of_words s
   pub same_variables : (index : ℕ) → uses_of index t ≡ uses_of index s
 
--- A monotype that `eq` compares.
-abbrev pub IsCompared : MonoTree → Type 0
-IsCompared m_word = Unit {0}
-IsCompared m_bool = Unit {0}
-IsCompared m_loc = Unit {0}
-IsCompared _ = ⊥
-
 unfoldable pub SideCondition : AxiomName → List MonoTree → Type 0
 SideCondition block_width (t ∷ s ∷ []) = SameWidth t s
-SideCondition eq_yes (t ∷ []) = IsCompared t
-SideCondition eq_no (t ∷ []) = IsCompared t
+SideCondition eq_yes (t ∷ []) = IsComparable t
+SideCondition eq_no (t ∷ []) = IsComparable t
 SideCondition _ _ = Unit {0}
 
 abbrev pub ◌⇒◌ : FormulaTree → FormulaTree → FormulaTree
@@ -142,12 +137,9 @@ equal_words x y = f_eq m_word x y
 abbrev pub less : TermTree → TermTree → Bool → FormulaTree
 less x y truth = f_eq m_bool (op_of Lt x y) (t_bool truth)
 
--- A monotype and a term under one more binder.
+-- A monotype under one more binder.
 abbrev pub up_mono : MonoTree → MonoTree
 up_mono t = rename_mono suc t
-
-abbrev pub up : TermTree → TermTree
-up m = rename_term suc m
 
 -- join_cross has four heaps of its own, of which p is the outermost.
 abbrev pub cross_parts : ℕ → ℕ → ℕ → ℕ → FormulaTree

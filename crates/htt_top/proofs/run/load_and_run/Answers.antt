@@ -1,8 +1,7 @@
-use Rattle.std.proofs.Common.{rules, ◌≡◌, [], ◌∷◌, Err, ap, option_map}
+use Rattle.std.proofs.Common.{rules, ◌≡◌, Err, ap, option_map, inl}
 use Rattle.flat_heap.specs.Blocks.{blocks_of}
 use Rattle.command_answers.specs.Answers.{answer_of}
-use Rattle.htt_top.specs.Words.{names_of}
-use Rattle.htt_top.proofs.ReadLemmas.{reads_first, reads_both}
+use Rattle.htt_top.proofs.ReadLemmas.{reads_run}
 use Rattle.htt_top.proofs.DueLemmas.{due_no_code, due_no_heap, due_run, loaded_is_valid, started_is_low}
 use Rattle.htt_top.proofs.run.load_and_run.Goals as goal
 
@@ -12,7 +11,7 @@ returns-in_err-code-clause-due g c =
     due_no_code _ _ _ c.args.steps c.in_err-code.field-0.0 (answer_of c.from_residual.result) c.in_err-code.ensures.gives (ap answer_of e)
 
 pub returns-in_err-code-clause-reads : goal.returns-in_err-code-clause-reads
-returns-in_err-code-clause-reads g c = reads_first (c.args.code.now ∷ []) (names_of (option_map (λ n. n.now) c.args.heap)) _ _ c.in_err-code.ensures.reads
+returns-in_err-code-clause-reads g c = inl c.in_err-code.ensures.reads
 
 pub returns-in_err-heap-clause-due : goal.returns-in_err-heap-clause-due
 returns-in_err-heap-clause-due g c =
@@ -21,7 +20,9 @@ returns-in_err-heap-clause-due g c =
     c.in_err-heap.field-0.0 (answer_of c.from_residual-in_err-heap.result) c.in_err-heap.ensures.gives (ap answer_of e)
 
 pub returns-in_err-heap-clause-reads : goal.returns-in_err-heap-clause-reads
-returns-in_err-heap-clause-reads g c = reads_both (c.args.code.now ∷ []) (names_of (option_map (λ n. n.now) c.args.heap)) _ _ _ c.in_ok-code.ensures.reads_all c.in_err-heap.ensures.reads
+returns-in_err-heap-clause-reads g c =
+    reads_run _ _ _ _ _ (option_map (λ n. n.now) c.args.heap) c.in_ok-code.code _ _ _
+    c.in_ok-code.ensures.gives c.in_err-heap.ensures.counts c.in_ok-code.ensures.reads_all c.in_err-heap.ensures.reads
 
 pub returns-clause-due : goal.returns-clause-due
 returns-clause-due g c =
@@ -29,7 +30,9 @@ returns-clause-due g c =
     (blocks_of c.in_ok-heap.heap) (answer_of c.run_code.result) c.in_ok-heap.ensures.gives c.run_code.ensures
 
 pub returns-clause-reads : goal.returns-clause-reads
-returns-clause-reads g c = reads_both (c.args.code.now ∷ []) (names_of (option_map (λ n. n.now) c.args.heap)) _ _ _ c.in_ok-code.ensures.reads_all c.in_ok-heap.ensures.reads
+returns-clause-reads g c =
+    reads_run _ _ _ _ _ (option_map (λ n. n.now) c.args.heap) c.in_ok-code.code _ _ _
+    c.in_ok-code.ensures.gives c.in_ok-heap.ensures.counts c.in_ok-code.ensures.reads_all c.in_ok-heap.ensures.reads
 
 pub run_code-requires-clause-valid : goal.run_code-requires-clause-valid
 run_code-requires-clause-valid g c = loaded_is_valid _ _ c.in_ok-code.code c.in_ok-code.ensures.gives
