@@ -4,3 +4,6 @@ pub mod Words
 pub mod Types
 pub mod Refusing
 pub mod Terms
+pub mod Formulas
+pub mod Proofs
+pub mod Files
