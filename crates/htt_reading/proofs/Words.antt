@@ -135,12 +135,12 @@ module _ {lim : Limits} (l : ℕ) (here : Stands lim l) where
 -- ---- monotypes
 
 -- the marks of the brackets that are open, the outermost first, before others
-pub opened : ℕ → List ℕ → List Mark → List Mark
+unfoldable pub opened : ℕ → List ℕ → List Mark → List Mark
 opened l [] ns = ns
 opened l (at ∷ opens) ns = opened l opens (sign_at l OpenParenSign at ⨟ ns)
 
 -- the marks of what stands at the right of a factor
-pub right_marks : ℕ → Option MonoTree → List Mark
+unfoldable pub right_marks : ℕ → Option MonoTree → List Mark
 right_marks l None = []
 right_marks l (Some m) = sign l StarSign ⨟ Grammar.mono (suc l) m
 

@@ -205,6 +205,10 @@ halts_first {A = A} {lim = lim} {round = round} {one = one} {other = other} {mar
     by_test true before ts go carry = yes'.halted before ts go carry
     by_test false before ts go carry = no'.halted before ts go carry
 
+pub halts_measured : {A : Type 0} {lim : Limits} {round : List Mark → List Mark} {r : ℕ → Reader A} {marks : A → List Mark} → ((n : ℕ) → Halts lim round (r n) marks) → Halts lim round (measured r) marks
+unfolding measured
+halts_measured each = record { whole = (each 0).whole; halted = λ before ts go carry. (each (length ts)).halted before ts go carry }
+
 pub ends_measured : {A : Type 0} {lim : Limits} {r : ℕ → Reader A} {marks : A → List Mark} → ((n : ℕ) → Ends lim (r n) marks) → Ends lim (measured r) marks
 unfolding measured
 ends_measured each = record {
