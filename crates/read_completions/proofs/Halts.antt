@@ -311,3 +311,45 @@ halts_deep {lim = lim} begins l one s begun past starts =
       past = subst (λ n. lim.nesting < n) (sym r.deep) past;
       fit = r.fit;
     })
+
+pub whole_start : {A : Type 0} {marks : A → List Mark} {l : ℕ} {kind : Kind} {span : Span} → Start marks l kind span → Whole (λ ns. ns) marks
+whole_start {kind = kind} {span = span} one = record {
+  tree = one.tree;
+  others = one.mark ∷ one.others;
+  tokens = record { kind = kind; from = span.from; to = span.to } ∷ one.tokens;
+  same = sym one.whole;
+  fit = (record { kind = one.same; at = one.at; span = one.there }, one.fit);
+}
+
+-- past the last operand of a chain
+pub halts_past : {A B : Type 0} {lim : Limits} {round : List Mark → List Mark} {ms : A → List Mark} {marks : B → List Mark} (begins : Kind → Bool) (one : Kind) (s : Span) → begins one ≡ true → (k : ℕ) → lim.chain < k → ((k : Kind) (s : Span) → begins k ≡ true → (n : ℕ) × Start ms n k s) → (make : A → B) (ends : List Mark) (tokens : List Token) → AllFit tokens ends → ((x : A) → round (numbered k (ms x) ++ ends) ≡ marks (make x)) → Halts lim round (refuse too_long begins) marks
+halts_past {A = A} {B = B} {lim = lim} {round = round} {ms = ms} {marks = marks} begins one s begun k past starts make ends tokens fit same =
+    halts_refuse too_long begins
+    (record {
+      tree = (reach one s begun).tree;
+      others = (reach one s begun).mark ∷ (reach one s begun).others;
+      tokens = record { kind = one; from = s.from; to = s.to } ∷ (reach one s begun).tokens;
+      same = (reach one s begun).whole;
+      fit = (record { kind = (reach one s begun).same; at = (reach one s begun).at; span = (reach one s begun).there }, (reach one s begun).fit);
+    })
+    reach
+  where
+    reach : (kind : Kind) (span : Span) → begins kind ≡ true → Reach lim too_long round marks kind span
+    reach kind span h =
+        let r = (starts kind span h).1 in
+        record {
+          tree = make r.tree;
+          mark = record r.mark { operand = k };
+          others = r.others ++ ends;
+          tokens = r.tokens ++ tokens;
+          whole = sym (ap (λ ns. round (numbered k ns ++ ends)) r.whole) ∙ same r.tree;
+          same = r.same;
+          at = r.at;
+          there = r.there;
+          past = past;
+          fit = fit_both r.tokens tokens r.others ends r.fit fit;
+        }
+
+pub halts_cond : {A : Type 0} {lim : Limits} {round : List Mark → List Mark} {one other : Reader A} {marks : A → List Mark} (b : Bool) → Halts lim round one marks → Halts lim round other marks → (before ts : List Token) → ((ns : List Mark) (end : List Token) → Spells lim ns ts end → Spells lim (round ns) before end) → ((a b : List Mark) → round a ++ b ≡ round (a ++ b)) → Stopped lim marks before (cond b (one ts) (other ts))
+halts_cond true yes' no' before ts go carry = yes'.halted before ts go carry
+halts_cond false yes' no' before ts go carry = no'.halted before ts go carry

@@ -1,3 +1,4 @@
 pub mod Halts
 pub mod Starts
 pub mod Words
+pub mod Terms
