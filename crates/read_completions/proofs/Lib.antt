@@ -2,3 +2,5 @@ pub mod Halts
 pub mod Starts
 pub mod Words
 pub mod Terms
+pub mod Formulas
+pub mod Proofs
