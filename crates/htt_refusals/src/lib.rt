@@ -1,13 +1,23 @@
-// A library with one function.
+//! Reading stops at the right token, for the right reason: what was read before it begins some tree,
+//! and nothing that begins so goes on with this token. A function without a body states laws by its
+//! contract.
 #![tactic(auto)]
 
-ghost use Rattle.std.specs.Prelude.{◌≡◌};
-ghost use Rattle.htt_refusals.specs.Echo.{echo_of};
+ghost use Rattle.htt_refusals.specs.Laws.{FileIsRefused, FormulaIsEnded, FormulaIsRefused, MonoIsEnded, MonoIsRefused, ProofIsEnded, ProofIsRefused};
 
-// The `ensures` clause is the contract: what `echo` returns is `echo_of` of its argument, a definition
-// in `specs/Echo.antt`, which a caller's clause can cite too.
-pub fn echo(x: usize) -> usize
-    ensures { result ≡ echo_of x }
-{
-    x
-}
+/// The tokens before a refused one begin a tree, within the limits. A token that is refused as
+/// unexpected goes on with no tree that begins so; one that is refused at a limit goes on with one
+/// that is past the limit, and with none that is within all of them.
+pub fn what_is_refused_is_wrong()
+    ensures monotypes { MonoIsRefused }
+    ensures formulas { FormulaIsRefused }
+    ensures proofs { ProofIsRefused }
+    ensures files { FileIsRefused }
+{}
+
+/// Where a whole phrase was read and a token is left, no tree begins with the phrase and this token.
+pub fn what_is_left_goes_on_with_nothing()
+    ensures monotypes { MonoIsEnded }
+    ensures formulas { FormulaIsEnded }
+    ensures proofs { ProofIsEnded }
+{}
