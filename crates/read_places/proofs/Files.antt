@@ -88,19 +88,19 @@ past_last true j h kept = omega (arith, h)
 past_last false j h kept = let no : false ≡ true = kept in cc
 
 module _ {b : Bool} (d d' : Deeper) (trust : Follow b d d') where
-  mono_parameter_follows : {i j : ℕ} → Follows b i j (mono_parameter_at d) (mono_parameter_at d')
+  pub mono_parameter_follows : {i j : ℕ} → Follows b i j (mono_parameter_at d) (mono_parameter_at d')
   unfolding mono_parameter_at
   mono_parameter_follows = follow_then name_follows (λ x. follow_skip _ (λ _. follow_then trust.mono (λ z. follow_give _)))
 
-  mono_parameters_follow : {i j : ℕ} → Follows b i j (mono_parameters_at d) (mono_parameters_at d')
+  pub mono_parameters_follow : {i j : ℕ} → Follows b i j (mono_parameters_at d) (mono_parameters_at d')
   unfolding mono_parameters_at
   mono_parameters_follow = follow_skip _ (λ _. follow_then (follow_first _ (follow_give _) (follow_then mono_parameter_follows (λ p. follow_then (more_follow _ _ (λ i j. mono_parameter_follows)) (λ ps. follow_give _)))) (λ ps. follow_skip _ (λ _. follow_give _)))
 
-  pred_follows : {i j : ℕ} (x : Span) (xs : List Span) → Follows b i j (pred_on d x xs) (pred_on d' x xs)
+  pub pred_follows : {i j : ℕ} (x : Span) (xs : List Span) → Follows b i j (pred_on d x xs) (pred_on d' x xs)
   unfolding pred_on
   pred_follows x xs = follow_then mono_parameters_follow (λ ps. follow_skip _ (λ _. follow_then trust.formula (λ f. follow_give _)))
 
-  induct_follows : {i j : ℕ} (x : Span) → Follows b i j (induct_on d x) (induct_on d' x)
+  pub induct_follows : {i j : ℕ} (x : Span) → Follows b i j (induct_on d x) (induct_on d' x)
   unfolding induct_on
   induct_follows x = follow_then binder_follows (λ y. follow_then mono_parameters_follow (λ ps. follow_skip _ (λ _. follow_skip _ (λ _. follow_then trust.formula (λ f. follow_skip _ (λ _. follow_skip _ (λ _. follow_then trust.formula (λ g. follow_skip _ (λ _. follow_give _)))))))))
 
@@ -113,11 +113,11 @@ module _ {b : Bool} (d d' : Deeper) (trust : Follow b d d') where
   body_cases i j (Keyword AutoWord) s = follow_give _
   body_cases i j _ s = tt
 
-  body_follows : {i j : ℕ} → Follows b i j (body_at d) (body_at d')
+  pub body_follows : {i j : ℕ} → Follows b i j (body_at d) (body_at d')
   unfolding body_at
   body_follows = follow_either _ _ (body_cases _ _) (follow_then trust.proof (λ z. follow_give _))
 
-  typed_follows : {i j : ℕ} (make : Span → TyTree → TermTree → DeclTree) → Follows b i j (typed_on d make) (typed_on d' make)
+  pub typed_follows : {i j : ℕ} (make : Span → TyTree → TermTree → DeclTree) → Follows b i j (typed_on d make) (typed_on d' make)
   unfolding typed_on
   typed_follows make = follow_then name_follows (λ x. follow_skip _ (λ _. follow_then trust.ty (λ a. follow_skip _ (λ _. follow_then trust.term (λ m. follow_give _)))))
 
@@ -129,7 +129,7 @@ module _ {b : Bool} (d d' : Deeper) (trust : Follow b d d') where
   decl_cases i j (Keyword ProofWord) s = follow_then name_follows (λ x. follow_skip _ (λ _. follow_then number_follows (λ v. follow_skip _ (λ _. follow_then body_follows (λ z. follow_give _)))))
   decl_cases i j _ s = tt
 
-  decl_follows : {i j : ℕ} → Follows b i j (decl_at d) (decl_at d')
+  pub decl_follows : {i j : ℕ} → Follows b i j (decl_at d) (decl_at d')
   unfolding decl_at
   decl_follows = follow_either _ _ (decl_cases _ _) follow_stop
 

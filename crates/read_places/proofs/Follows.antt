@@ -215,7 +215,7 @@ follow_that kind then else' = follow_either _ _ (both_that kind then) else'
 pub follow_that_less : {A : Type 0} {b : Bool} {n m : ℕ} {next other rest otherwise : Reader A} (kind : Kind) → Follows b n m next other → Follows b (suc n) (suc m) rest otherwise → Follows b (suc n) (suc m) (either (that kind next) rest) (either (that kind other) otherwise)
 follow_that_less kind then else' = follow_either_less _ _ (both_that kind then) else'
 
-follow_token : {b : Bool} {n m : ℕ} (kind : Kind) → Follows b n m (token kind) (token kind)
+pub follow_token : {b : Bool} {n m : ℕ} (kind : Kind) → Follows b n m (token kind) (token kind)
 unfolding token
 follow_token kind = follow_that kind (follow_give tt) follow_stop
 

@@ -18,7 +18,7 @@ use Rattle.read_places.proofs.Words.{Follow, Chain, chain_less, chain_none, chai
 use Rattle.read_places.proofs.Terms.{more_terms_follow, terms_follow, rel_follows}
 
 module _ {b : Bool} (d d' : Deeper) (trust : Follow b d d') where
-  terms_then_follow : {A : Type 0} (i j : ℕ) (make : TermTrees → A) → Follows b i j (terms_there d >>= (λ ms. token (Sign CloseParenSign) >>= (λ _. give (make ms)))) (terms_there d' >>= (λ ms. token (Sign CloseParenSign) >>= (λ _. give (make ms))))
+  pub terms_then_follow : {A : Type 0} (i j : ℕ) (make : TermTrees → A) → Follows b i j (terms_there d >>= (λ ms. token (Sign CloseParenSign) >>= (λ _. give (make ms)))) (terms_there d' >>= (λ ms. token (Sign CloseParenSign) >>= (λ _. give (make ms))))
   terms_then_follow i j make = follow_then (terms_follow d d' trust) (λ ms. follow_skip _ (λ _. follow_give _))
 
   argument_cases : (i j at : ℕ) (p : Span) (m : TermTree) (k : Kind) (s : Span) → Both b i j s (argument_case d at p m k) (argument_case d' at p m k)
@@ -52,7 +52,7 @@ module _ {b : Bool} (d d' : Deeper) (trust : Follow b d d') where
   relation_cases i j m (Sign PointsToSign) s = follow_then (bracketed_follows d d' trust) (λ t. follow_that _ (follow_give _) (follow_then (rel_follows d d' trust) (λ z. follow_give _)))
   relation_cases i j m _ s = tt
 
-  fatom_follows : {i j : ℕ} → Follows b i j (fatom_at d) (fatom_at d')
+  pub fatom_follows : {i j : ℕ} → Follows b i j (fatom_at d) (fatom_at d')
   unfolding fatom_at
   fatom_follows = follow_either _ _ (fatom_cases _ _) (follow_then (rel_follows d d' trust) (λ m. follow_either _ _ (relation_cases _ _ m) follow_stop))
 
@@ -68,11 +68,11 @@ module _ {b : Bool} (d d' : Deeper) (trust : Follow b d d') where
   unfolding disj_at
   disj_follows = follow_then conj_follows (λ f. follow_that _ (follow_then trust.disj (λ z. follow_give _)) (follow_give _))
 
-  sort_follows : {i j : ℕ} → Follows b i j (sort_at d) (sort_at d')
+  pub sort_follows : {i j : ℕ} → Follows b i j (sort_at d) (sort_at d')
   unfolding sort_at
   sort_follows = follow_that _ (follow_give _) (follow_then (mono_follows d d' trust) (λ z. follow_give _))
 
-  quantified_follows : {i j : ℕ} (make : Binder → SortTree → FormulaTree → FormulaTree) → Follows b i j (quantified d make) (quantified d' make)
+  pub quantified_follows : {i j : ℕ} (make : Binder → SortTree → FormulaTree → FormulaTree) → Follows b i j (quantified d make) (quantified d' make)
   unfolding quantified
   quantified_follows make = follow_then binder_follows (λ x. follow_skip _ (λ _. follow_then sort_follows (λ o. follow_skip _ (λ _. follow_then trust.formula (λ p. follow_give _)))))
 

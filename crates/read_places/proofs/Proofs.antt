@@ -31,55 +31,55 @@ module _ {b : Bool} (d d' : Deeper) (trust : Follow b d d') where
   arg_cases i j (Sign AtSign) s = follow_then heap_follows (λ z. follow_give _)
   arg_cases i j _ s = tt
 
-  arg_follows : {i j : ℕ} → Follows b i j (arg_at d) (arg_at d')
+  pub arg_follows : {i j : ℕ} → Follows b i j (arg_at d) (arg_at d')
   unfolding arg_at
   arg_follows = follow_either _ _ (arg_cases _ _) (follow_then trust.term (λ z. follow_give _))
 
-  more_args_follow : {i j : ℕ} → Follows b i j (more_args d) (more_args d')
+  pub more_args_follow : {i j : ℕ} → Follows b i j (more_args d) (more_args d')
   unfolding more_args
   more_args_follow = more_follow _ _ (λ i j. arg_follows)
 
-  args_follow : {i j : ℕ} → Follows b i j (args_there d) (args_there d')
+  pub args_follow : {i j : ℕ} → Follows b i j (args_there d) (args_there d')
   unfolding args_there
   args_follow = follow_first _ (follow_give _) (follow_then arg_follows (λ a. follow_then more_args_follow (λ z. follow_give _)))
 
-  motive_follows : {i j : ℕ} → Follows b i j (motive_at d) (motive_at d')
+  pub motive_follows : {i j : ℕ} → Follows b i j (motive_at d) (motive_at d')
   unfolding motive_at
   motive_follows = follow_then binder_follows (λ b. follow_skip _ (λ _. follow_skip _ (λ _. follow_then trust.formula (λ f. follow_skip _ (λ _. follow_give _)))))
 
-  args_on_follow : {i j : ℕ} (k l : ℕ) → Chain b k l → Follows b i j (args_on d k) (args_on d' l)
+  pub args_on_follow : {i j : ℕ} (k l : ℕ) → Chain b k l → Follows b i j (args_on d k) (args_on d' l)
   unfolding args_on
   args_on_follow zero zero h = follow_that _ (follow_refuse _ _) (follow_give _)
   args_on_follow zero (suc l) h = follow_that _ (follow_refused _ _ (chain_more b l h) (refuses_then _ (arg_refuses d' trust.refused.term))) (follow_give _)
   args_on_follow (suc k) zero h = absurd (chain_none b k h)
   args_on_follow (suc k) (suc l) h = follow_that _ (follow_then arg_follows (λ a. follow_then (args_on_follow k l (chain_less b k l h)) (λ more. follow_give _))) (follow_give _)
 
-  proofs_on_follow : {i j : ℕ} (k l : ℕ) → Chain b k l → Follows b i j (proofs_on d k) (proofs_on d' l)
+  pub proofs_on_follow : {i j : ℕ} (k l : ℕ) → Chain b k l → Follows b i j (proofs_on d k) (proofs_on d' l)
   unfolding proofs_on
   proofs_on_follow zero zero h = follow_that _ (follow_refuse _ _) (follow_give _)
   proofs_on_follow zero (suc l) h = follow_that _ (follow_refused _ _ (chain_more b l h) (refuses_then _ trust.refused.proof)) (follow_give _)
   proofs_on_follow (suc k) zero h = absurd (chain_none b k h)
   proofs_on_follow (suc k) (suc l) h = follow_that _ (follow_then trust.proof (λ p. follow_then (proofs_on_follow k l (chain_less b k l h)) (λ more. follow_give _))) (follow_give _)
 
-  app_follows : {i j : ℕ} (k l : ℕ) → Chain b k l → (at : ℕ) (p : ProofTree) → Follows b i j (app_more d at k p) (app_more d' at l p)
+  pub app_follows : {i j : ℕ} (k l : ℕ) → Chain b k l → (at : ℕ) (p : ProofTree) → Follows b i j (app_more d at k p) (app_more d' at l p)
   unfolding app_more
   app_follows zero zero h at p = follow_refuse _ _
   app_follows zero (suc l) h at p = follow_refused _ _ (chain_more b l h) (refuses_then _ trust.refused.proof)
   app_follows (suc k) zero h at p = absurd (chain_none b k h)
   app_follows (suc k) (suc l) h at p = follow_then trust.proof (λ q. follow_then (proofs_on_follow k l (chain_less b k l h)) (λ qs. follow_skip _ (λ _. follow_give _)))
 
-  inst_follows : {i j : ℕ} (k l : ℕ) → Chain b k l → (at : ℕ) (p : ProofTree) → Follows b i j (inst_more d at k p) (inst_more d' at l p)
+  pub inst_follows : {i j : ℕ} (k l : ℕ) → Chain b k l → (at : ℕ) (p : ProofTree) → Follows b i j (inst_more d at k p) (inst_more d' at l p)
   unfolding inst_more
   inst_follows zero zero h at p = follow_refuse _ _
   inst_follows zero (suc l) h at p = follow_refused _ _ (chain_more b l h) (refuses_then _ (arg_refuses d' trust.refused.term))
   inst_follows (suc k) zero h at p = absurd (chain_none b k h)
   inst_follows (suc k) (suc l) h at p = follow_then arg_follows (λ a. follow_then (args_on_follow k l (chain_less b k l h)) (λ more. follow_skip _ (λ _. follow_give _)))
 
-  unary_follows : {i j : ℕ} (at : ℕ) (w : UnaryRule) → Follows b i j (unary_at d at w) (unary_at d' at w)
+  pub unary_follows : {i j : ℕ} (at : ℕ) (w : UnaryRule) → Follows b i j (unary_at d at w) (unary_at d' at w)
   unfolding unary_at
   unary_follows at w = follow_skip _ (λ _. follow_then trust.proof (λ p. follow_skip _ (λ _. follow_give _)))
 
-  args_then_follow : {i j : ℕ} (make : List ArgTree → EndTree) → Follows b i j (args_there d >>= (λ more. token (Sign CloseParenSign) >>= (λ _. give (make more)))) (args_there d' >>= (λ more. token (Sign CloseParenSign) >>= (λ _. give (make more))))
+  pub args_then_follow : {i j : ℕ} (make : List ArgTree → EndTree) → Follows b i j (args_there d >>= (λ more. token (Sign CloseParenSign) >>= (λ _. give (make more)))) (args_there d' >>= (λ more. token (Sign CloseParenSign) >>= (λ _. give (make more))))
   args_then_follow make = follow_then args_follow (λ more. follow_skip _ (λ _. follow_give _))
 
   axiom_cases : (i j at : ℕ) (x : Span) (k : Kind) (s : Span) → Both b i j s (axiom_case d at x k) (axiom_case d' at x k)

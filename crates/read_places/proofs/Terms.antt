@@ -108,7 +108,7 @@ module _ {b : Bool} (d d' : Deeper) (trust : Follow b d d') where
   part_cases i j next other more (Sign OpenBracketSign) s = follow_then (mono_follows d d' trust) (λ m. follow_skip _ (λ _. follow_then more (λ ps. follow_give _)))
   part_cases i j next other more _ s = tt
 
-  parts_follow : {i j : ℕ} (k l : ℕ) → Chain b k l → Follows b i j (parts_on d k) (parts_on d' l)
+  pub parts_follow : {i j : ℕ} (k l : ℕ) → Chain b k l → Follows b i j (parts_on d k) (parts_on d' l)
   unfolding parts_on
   parts_follow zero zero h = follow_either _ _ (no_part_cases _ _) (follow_first _ (follow_refuse _ _) (follow_give _))
   parts_follow zero (suc l) h = follow_either _ _ (past_part_cases _ _ (parts_on d' l) (chain_more b l h)) (follow_first _ (follow_refused _ _ (chain_more b l h) (refuses_then _ (atom_refuses d'))) (follow_give _))
@@ -125,25 +125,25 @@ module _ {b : Bool} (d d' : Deeper) (trust : Follow b d d') where
   unfolding appl_at
   appl_follows = follow_either _ _ (unary_cases _ _) (follow_then atom_follows (λ a. follow_then (parts_follow d.further d'.further trust.further) (λ ps. follow_give _)))
 
-  prod_rest_follows : {i j : ℕ} (k l : ℕ) → Chain b k l → Follows b i j (prod_on d k) (prod_on d' l)
+  pub prod_rest_follows : {i j : ℕ} (k l : ℕ) → Chain b k l → Follows b i j (prod_on d k) (prod_on d' l)
   unfolding prod_on
   prod_rest_follows zero zero h = follow_either _ _ (λ k s. of_prod_sign _ _ (λ o. follow_refuse _ _) s (prod_sign_of k)) (follow_give _)
   prod_rest_follows zero (suc l) h = follow_either _ _ (λ k s. of_prod_sign _ _ (λ o. follow_refused _ _ (chain_more b l h) (refuses_then _ (appl_refuses d'))) s (prod_sign_of k)) (follow_give _)
   prod_rest_follows (suc k) zero h = absurd (chain_none b k h)
   prod_rest_follows (suc k) (suc l) h = follow_either _ _ (λ x s. of_prod_sign _ _ (λ o. follow_then appl_follows (λ a. follow_then (prod_rest_follows k l (chain_less b k l h)) (λ rest. follow_give _))) s (prod_sign_of x)) (follow_give _)
 
-  prod_follows : {i j : ℕ} → Follows b i j (prod_at d) (prod_at d')
+  pub prod_follows : {i j : ℕ} → Follows b i j (prod_at d) (prod_at d')
   unfolding prod_at
   prod_follows = follow_then appl_follows (λ a. follow_then (prod_rest_follows d.further d'.further trust.further) (λ rest. follow_give _))
 
-  sum_rest_follows : {i j : ℕ} (k l : ℕ) → Chain b k l → Follows b i j (sum_on d k) (sum_on d' l)
+  pub sum_rest_follows : {i j : ℕ} (k l : ℕ) → Chain b k l → Follows b i j (sum_on d k) (sum_on d' l)
   unfolding sum_on
   sum_rest_follows zero zero h = follow_either _ _ (λ k s. of_sum_sign _ _ (λ o. follow_refuse _ _) s (sum_sign_of k)) (follow_give _)
   sum_rest_follows zero (suc l) h = follow_either _ _ (λ k s. of_sum_sign _ _ (λ o. follow_refused _ _ (chain_more b l h) (refuses_then _ (prod_refuses d'))) s (sum_sign_of k)) (follow_give _)
   sum_rest_follows (suc k) zero h = absurd (chain_none b k h)
   sum_rest_follows (suc k) (suc l) h = follow_either _ _ (λ x s. of_sum_sign _ _ (λ o. follow_then prod_follows (λ a. follow_then (sum_rest_follows k l (chain_less b k l h)) (λ rest. follow_give _))) s (sum_sign_of x)) (follow_give _)
 
-  sum_follows : {i j : ℕ} → Follows b i j (sum_at d) (sum_at d')
+  pub sum_follows : {i j : ℕ} → Follows b i j (sum_at d) (sum_at d')
   unfolding sum_at
   sum_follows = follow_then prod_follows (λ p. follow_then (sum_rest_follows d.further d'.further trust.further) (λ rest. follow_give _))
 
@@ -153,7 +153,7 @@ module _ {b : Bool} (d d' : Deeper) (trust : Follow b d d') where
 
   -- ---- triples and terms
 
-  triple_follows : {i j : ℕ} → Follows b i j (triple_at d) (triple_at d')
+  pub triple_follows : {i j : ℕ} → Follows b i j (triple_at d) (triple_at d')
   unfolding triple_at
   triple_follows = follow_then trust.formula (λ p. follow_skip _ (λ _. follow_then binder_follows (λ b. follow_skip _ (λ _. follow_then (mono_follows d d' trust) (λ m. follow_skip _ (λ _. follow_then trust.formula (λ q. follow_skip _ (λ _. follow_give _))))))))
 
@@ -161,7 +161,7 @@ module _ {b : Bool} (d d' : Deeper) (trust : Follow b d d') where
   unfolding params_on
   params_turn k j next i = follow_that_less _ (follow_then binder_follows (λ b. follow_skip _ (λ _. follow_then trust.ty (λ a. follow_skip _ (λ _. follow_then (next tt) (λ ps. follow_give _)))))) (follow_give _)
 
-  more_params_follow : {i j : ℕ} → Follows b i j (measured (params_on d)) (measured (params_on d'))
+  pub more_params_follow : {i j : ℕ} → Follows b i j (measured (params_on d)) (measured (params_on d'))
   more_params_follow = follow_measured (λ (i : Unit {0}) k. params_on d k) (λ i k. params_on d' k) (Ok (no_params, [])) refl refl (λ i k. no_params_more d k) (λ i k. no_params_more d' k) params_turn tt
 
   term_cases : (i j : ℕ) (k : Kind) (s : Span) → Both b i j s (term_case d k) (term_case d' k)
@@ -185,7 +185,7 @@ module _ {b : Bool} (d d' : Deeper) (trust : Follow b d d') where
   step_cases i j (Keyword ClaimWord) s = follow_skip _ (λ _. follow_then trust.formula (λ p. follow_skip _ (λ _. follow_give _)))
   step_cases i j _ s = tt
 
-  step_follows : {i j : ℕ} → Follows b i j (step_at d) (step_at d')
+  pub step_follows : {i j : ℕ} → Follows b i j (step_at d) (step_at d')
   unfolding step_at
   step_follows = follow_either _ _ (step_cases _ _) (follow_then appl_follows (λ a. follow_give _))
 
@@ -199,7 +199,7 @@ module _ {b : Bool} (d d' : Deeper) (trust : Follow b d d') where
 
   -- ---- types
 
-  behind_colon_follows : {i j : ℕ} (at : ℕ) (x : Binder) → Follows b i j (behind_colon d at x) (behind_colon d' at x)
+  pub behind_colon_follows : {i j : ℕ} (at : ℕ) (x : Binder) → Follows b i j (behind_colon d at x) (behind_colon d' at x)
   behind_colon_follows at x = follow_then trust.ty (λ a. follow_skip _ (λ _. follow_skip _ (λ _. follow_then trust.ty (λ c. follow_give _))))
 
   open_cases : (i j at : ℕ) (k : Kind) (s : Span) → Both b i j s (open_case d at k) (open_case d' at k)

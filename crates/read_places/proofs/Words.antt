@@ -85,7 +85,7 @@ pub number_follows : {b : Bool} {n m : ℕ} → Follows b n m a_number_there a_n
 unfolding a_number_there
 number_follows = follow_either _ _ (number_cases _ _ _) follow_stop
 
-over_follows : {b : Bool} {n m : ℕ} → Follows b n m over_there over_there
+pub over_follows : {b : Bool} {n m : ℕ} → Follows b n m over_there over_there
 unfolding over_there
 over_follows = follow_that _ (follow_then number_follows (λ v. follow_give _)) (follow_give _)
 
@@ -123,6 +123,9 @@ mono_name_cases b n m (Keyword LocWord) s = follow_give _
 mono_name_cases b n m (Keyword UnitWord) s = follow_give _
 mono_name_cases b n m _ s = tt
 
+pub mono_name_follows : {b : Bool} {n m : ℕ} → Follows b n m (either mono_name_case stop) (either mono_name_case stop)
+mono_name_follows = follow_either _ _ (mono_name_cases _ _ _) follow_stop
+
 module _ {b : Bool} (d e : Deeper) (trust : Follow b d e) where
   pub right_follows : {n m : ℕ} → Follows b n m (mono_right d) (mono_right e)
   unfolding mono_right
@@ -133,9 +136,9 @@ module _ {b : Bool} (d e : Deeper) (trust : Follow b d e) where
   closes_follows [] t = follow_give _
   closes_follows (at ∷ opens) t = follow_skip _ (λ _. follow_then right_follows (λ r. closes_follows opens _))
 
-  inside_follows : {n m : ℕ} (opens : List ℕ) → Follows b n m (mono_inside d opens) (mono_inside e opens)
+  pub inside_follows : {n m : ℕ} (opens : List ℕ) → Follows b n m (mono_inside d opens) (mono_inside e opens)
   unfolding mono_inside
-  inside_follows opens = follow_then (follow_either _ _ (mono_name_cases _ _ _) follow_stop) (λ x. follow_then right_follows (λ r. closes_follows opens _))
+  inside_follows opens = follow_then mono_name_follows (λ x. follow_then right_follows (λ r. closes_follows opens _))
 
   opens_turn : (k j : ℕ) → ((opens : List ℕ) → Follows b k j (mono_opens d k opens) (mono_opens e j opens)) → (opens : List ℕ) → Follows b (suc k) (suc j) (mono_opens d (suc k) opens) (mono_opens e (suc j) opens)
   unfolding mono_opens
