@@ -6,15 +6,17 @@ use Rattle.htt_tokens.specs.declared.tokens.Kind.{Kind}
 use Rattle.htt_tokens.specs.declared.tokens.Token.{Token}
 use Rattle.raw_trees.specs.declared.place.Span.{Span}
 use Rattle.htt_grammar.specs.Marks.{Mark, Limits, Given, IsWithin, span_of, ◌⨟◌, numbered}
-use Rattle.htt_grammar.specs.Readers.{Reader, Halt, Why, expected, too_nested, too_long, give, after, ◌>>=◌, stop, refused, refuse, chosen, either, first_is, if_first, measured, same_kind, that}
+use Rattle.htt_grammar.specs.Readers.{Reader, Halt, Why, expected, too_nested, too_long, too_many, give, after, ◌>>=◌, stop, refused, refuse, chosen, either, first_is, if_first, measured, same_kind, that}
 use Rattle.htt_grammar.proofs.Spells.{Spells, Opens, Begins}
 use Rattle.htt_reading.proofs.Tells.{Tells, join, same_kinds}
 use Rattle.read_places.specs.Alike.{Alike}
 use Rattle.read_places.proofs.Follows.{Claimed, Answers, Follows, rest_of, with_rest, alike_self}
 
+-- the reasons that speak of the level or the operand of a mark
 abbrev pub IsLimit : Why → Type 0
-IsLimit expected = ⊥
-IsLimit _ = Unit {0}
+IsLimit too_nested = Unit {0}
+IsLimit too_long = Unit {0}
+IsLimit _ = ⊥
 
 -- the tree begins with what was read before the stop, and goes on past the limits
 pub record Barrier {A : Type 0} (lim : Limits) (marks : A → List Mark) (ts : List Token) (halt : Halt) (tree : A) : Type 0 where
@@ -298,3 +300,20 @@ bars_past {A = A} {B = B} {lim = lim} {round = round} {j = j} {marks = marks} x 
     by_first : (before ts : List Token) → ((ns : List Mark) (end : List Token) → Spells lim ns ts end → Spells lim (round ns) before end) → ((a b : List Mark) → round a ++ b ≡ round (a ++ b)) → (o : Result (A × List Token) Halt) → Held lim marks before (Err (record { why = refused too_long begins ts; rest = ts })) (after o j)
     by_first before ts go carry (Ok read) = by_next before ts go carry read.0 (j read.0 read.1) ((next read.0).forms read.1)
     by_first before ts go carry (Err halt) = tt
+
+-- where no more declarations are read
+pub bars_many : {A : Type 0} {lim : Limits} {q : Reader A} {marks : A → List Mark} (begins : Kind → Bool) → Bars lim (λ ns. ns) (refuse too_many begins) q marks
+unfolding refuse
+bars_many {A = A} {lim = lim} {q = q} {marks = marks} begins = record { form = forms_id; held = λ before ts go carry. held before ts (q ts) }
+  where
+    no_limit : (b : Bool) → IsLimit (cond b too_many expected) → ⊥
+    no_limit true h = h
+    no_limit false h = h
+
+    not_here : (ts : List Token) → IsLimit (refused too_many begins ts) → ⊥
+    not_here [] h = h
+    not_here (t ∷ ts) h = no_limit (begins t.kind) h
+
+    held : (before ts : List Token) (o : Result (A × List Token) Halt) → Held lim marks before (Err (record { why = refused too_many begins ts; rest = ts })) o
+    held before ts (Ok read) = λ limit. absurd (not_here ts limit)
+    held before ts (Err halt) = tt

@@ -1,3 +1,6 @@
 pub mod Bars
 pub mod Words
 pub mod Terms
+pub mod Formulas
+pub mod Proofs
+pub mod Files

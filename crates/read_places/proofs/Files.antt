@@ -92,9 +92,12 @@ module _ {b : Bool} (d d' : Deeper) (trust : Follow b d d') where
   unfolding mono_parameter_at
   mono_parameter_follows = follow_then name_follows (λ x. follow_skip _ (λ _. follow_then trust.mono (λ z. follow_give _)))
 
+  pub some_parameters_follow : {i j : ℕ} → Follows b i j (if_first is_close (give []) (mono_parameter_at d >>= (λ p. measured (after_commas (Sign CommaSign) (mono_parameter_at d)) >>= (λ ps. give (p ∷ ps))))) (if_first is_close (give []) (mono_parameter_at d' >>= (λ p. measured (after_commas (Sign CommaSign) (mono_parameter_at d')) >>= (λ ps. give (p ∷ ps)))))
+  some_parameters_follow = follow_first _ (follow_give _) (follow_then mono_parameter_follows (λ p. follow_then (more_follow _ _ (λ i j. mono_parameter_follows)) (λ ps. follow_give _)))
+
   pub mono_parameters_follow : {i j : ℕ} → Follows b i j (mono_parameters_at d) (mono_parameters_at d')
   unfolding mono_parameters_at
-  mono_parameters_follow = follow_skip _ (λ _. follow_then (follow_first _ (follow_give _) (follow_then mono_parameter_follows (λ p. follow_then (more_follow _ _ (λ i j. mono_parameter_follows)) (λ ps. follow_give _)))) (λ ps. follow_skip _ (λ _. follow_give _)))
+  mono_parameters_follow = follow_skip _ (λ _. follow_then some_parameters_follow (λ ps. follow_skip _ (λ _. follow_give _)))
 
   pub pred_follows : {i j : ℕ} (x : Span) (xs : List Span) → Follows b i j (pred_on d x xs) (pred_on d' x xs)
   unfolding pred_on

@@ -117,9 +117,17 @@ module _ {b : Bool} (d d' : Deeper) (trust : Follow b d d') where
   stmt_cases i j (Keyword HaveWord) s = follow_then name_follows (λ u. follow_skip _ (λ _. follow_skip _ (λ _. follow_then trust.formula (λ f. follow_skip _ (λ _. follow_skip _ (λ _. follow_then trust.proof (λ p. follow_skip _ (λ _. follow_give _))))))))
   stmt_cases i j _ s = tt
 
+  pub end_follows : {i j : ℕ} → Follows b i j (end_at d) (end_at d')
+  unfolding end_at
+  end_follows = follow_either _ _ (end_cases _ _) follow_stop
+
+  pub stmt_follows : {i j : ℕ} → Follows b i j (stmt_at d) (stmt_at d')
+  unfolding stmt_at
+  stmt_follows = follow_either _ _ (stmt_cases _ _) follow_stop
+
   proof_turn : (k j : ℕ) → ((i : Unit {0}) → Follows b k j (proof_on d k) (proof_on d' j)) → (i : Unit {0}) → Follows b (suc k) (suc j) (proof_on d (suc k)) (proof_on d' (suc j))
-  unfolding proof_on stmt_at end_at
-  proof_turn k j next i = follow_first _ (follow_eaten _ _ (stmt_cases _ _) (λ s. follow_then (next tt) (λ p. follow_give _))) (follow_then (follow_either _ _ (end_cases _ _) follow_stop) (λ e. follow_give _))
+  unfolding proof_on stmt_at
+  proof_turn k j next i = follow_first _ (follow_eaten _ _ (stmt_cases _ _) (λ s. follow_then (next tt) (λ p. follow_give _))) (follow_then end_follows (λ e. follow_give _))
 
   pub proof_follows : {i j : ℕ} → Follows b i j (proof_at d) (proof_at d')
   unfolding proof_at
