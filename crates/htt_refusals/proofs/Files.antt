@@ -20,10 +20,11 @@ use Rattle.read_places.proofs.Files.{file_follows}
 use Rattle.read_completions.proofs.Halts.{Completion, Past, fit_both}
 use Rattle.read_completions.proofs.Starts.{starts_decl}
 use Rattle.read_completions.proofs.Files.{Full, FileStop, FileStopped, file_stops}
-use Rattle.htt_refusals.specs.Refusals.{Begins, BeginsWithin, GoesPast, IsTooDeep, IsTooFar, NoneGoesOn, NoneWithin, IsRight, IsRightInFile, FileRefusal}
-use Rattle.htt_refusals.specs.Refusals as refusals
+use Rattle.read_limits.proofs.Bars.{IsLimit}
+use Rattle.read_limits.proofs.Files.{file_bars}
+use Rattle.htt_refusals.specs.Refusals.{Begins, BeginsWithin, GoesPast, IsTooDeep, IsTooFar, NoneGoesOn, NoneWithin, NoFileWithin, IsRight, IsRightInFile, FileRefusal}
 use Rattle.htt_refusals.specs.Laws.{FileIsRefused}
-use Rattle.htt_refusals.proofs.Places.{Parts, parts_of, kept_same, clash, one_more, wider, widest, knows_widest, all_within, follow_widest, knows_outermost, follow_outermost, ending_outermost}
+use Rattle.htt_refusals.proofs.Places.{Parts, parts_of, kept_same, clash, one_more, wider, widest, knows_widest, all_within, follow_widest, knows_outermost, follow_outermost, ending_outermost, bar_widest, stops_again, not_held, fit_whole}
 
 answers_wide : (m k : ℕ) (d : Deeper) → Follow false outermost d → (few : ℕ) (tokens : List Token) (halt : Halt) → file_on outermost m tokens ≡ Err halt → Answers false few (file_on d (m + k)) tokens (Err halt)
 answers_wide m k d follow few tokens halt e = subst (λ o. Answers false few (file_on d (m + k)) tokens o) e ((file_follows outermost d follow {i = length tokens} {j = few} m (m + k) (omega arith)).answers tokens (omega arith))
@@ -68,29 +69,38 @@ module _ (m : ℕ) (tokens : List Token) (halt : Halt) (e : file_on outermost m 
       clash (answers_same m (length (before ++ (t ∷ more))) tokens halt e) before (t ∷ more) parts (subst (λ ts. Alike ts (t ∷ more)) (sym there) refl) (omega arith) (kept_same halt.why) y
       ((file_gets outermost knows_outermost {n = length (before ++ (t ∷ more))} m y count).reads (before ++ (t ∷ more)) [] (omega arith) (spelled the_limits (before ++ (t ∷ more)) (Grammar.file y) fit within) tt)
 
-  none_in_file : m ≡ 10_000 → (t : Token) (rest : List Token) → halt.rest ≡ t ∷ rest → NoneWithin IsFileWithin Grammar.file before t
+  none_here : IsLimit halt.why → (t : Token) (rest : List Token) → halt.rest ≡ t ∷ rest → NoneWithin the_limits Grammar.file before t
+  none_here limit t rest there begins =
+      let y = begins.tree in
+      let us = before ++ (t ∷ begins.more) in
+      let fit : AllFit us (Grammar.file y) = subst (λ ts. AllFit ts (Grammar.file y)) (one_more before t begins.more) (fit_whole (before ++ (t ∷ [])) begins.more begins.first begins.others (Grammar.file y) begins.whole begins.fit begins.goes_on) in
+      not_held (file_bars outermost (widest (Grammar.file y)) (record { level = lit≤ tt; chain = lit≤ tt }) (bar_widest (Grammar.file y)) m (m + length y) (omega arith)) before t begins.more halt.why limit
+      (stops_again (answers_same m (length us) tokens halt e) before (t ∷ begins.more) parts (subst (λ ts. Alike ts (t ∷ begins.more)) (sym there) refl) (omega arith) (kept_same halt.why))
+      y (reads_wide m us y fit) begins.first begins.others begins.whole begins.fit begins.within
+
+  none_in_file : m ≡ 10_000 → (t : Token) (rest : List Token) → halt.rest ≡ t ∷ rest → NoFileWithin before t
   none_in_file ten t rest there y more fit within = none_within t rest there y more fit within.marks (subst (λ n. length y ≤ n) (sym ten) within.count)
 
-  is_right : m ≡ 10_000 → (why : Why) (rest more : List Token) (others : List Mark) (tree : List DeclTree) (first : List Mark) → Grammar.file tree ≡ first ++ others → AllFit before first → AllWithin the_limits first → AllFit more others → halt.why ≡ why → halt.rest ≡ rest → Past the_limits why rest more others → IsRightInFile before why rest
-  is_right ten expected rest more others tree first whole fit within goes_on is there past = (record { tree = tree; first = first; others = others; more = more; whole = whole; fit = fit; within = within; goes_on = goes_on }, none_goes_on is rest there)
-  is_right ten too_nested (t ∷ rest) (u ∷ more) (m ∷ others) tree first whole fit within goes_on is there past =
-      (record { tree = tree; first = first; mark = m; others = others; more = more; whole = whole; fit = fit; within = within; next = subst (λ x. Fits x m) past.0 goes_on.0; past = past.1; goes_on = goes_on.1 }, none_in_file ten t rest there)
-  is_right ten too_long (t ∷ rest) (u ∷ more) (m ∷ others) tree first whole fit within goes_on is there past =
-      (record { tree = tree; first = first; mark = m; others = others; more = more; whole = whole; fit = fit; within = within; next = subst (λ x. Fits x m) past.0 goes_on.0; past = past.1; goes_on = goes_on.1 }, none_in_file ten t rest there)
-  is_right ten _ rest more others tree first whole fit within goes_on is there past = absurd past
+  is_right : (why : Why) (rest more : List Token) (others : List Mark) (tree : List DeclTree) (first : List Mark) → Grammar.file tree ≡ first ++ others → AllFit before first → AllWithin the_limits first → AllFit more others → halt.why ≡ why → halt.rest ≡ rest → Past the_limits why rest more others → IsRightInFile before why rest
+  is_right expected rest more others tree first whole fit within goes_on is there past = (record { tree = tree; first = first; others = others; more = more; whole = whole; fit = fit; within = within; goes_on = goes_on }, none_goes_on is rest there)
+  is_right too_nested (t ∷ rest) (u ∷ more) (m ∷ others) tree first whole fit within goes_on is there past =
+      (record { tree = tree; first = first; mark = m; others = others; more = more; whole = whole; fit = fit; within = within; next = subst (λ x. Fits x m) past.0 goes_on.0; past = past.1; goes_on = goes_on.1 }, none_here (subst IsLimit (sym is) tt) t rest there)
+  is_right too_long (t ∷ rest) (u ∷ more) (m ∷ others) tree first whole fit within goes_on is there past =
+      (record { tree = tree; first = first; mark = m; others = others; more = more; whole = whole; fit = fit; within = within; next = subst (λ x. Fits x m) past.0 goes_on.0; past = past.1; goes_on = goes_on.1 }, none_here (subst IsLimit (sym is) tt) t rest there)
+  is_right _ rest more others tree first whole fit within goes_on is there past = absurd past
 
   is_full : m ≡ 10_000 → (full : Full the_limits m tokens halt.rest) → AllFit before (Grammar.file full.decls) → AllWithin the_limits (Grammar.file full.decls) → IsRightInFile before too_many halt.rest
   is_full ten full fit within =
       subst (λ ts. IsRightInFile before too_many ts) (sym full.next)
       (record { decls = full.decls; count = full.count ∙ ten; fit = fit; within = within; goes_on = begins_another before full.token the_limits m tokens halt.rest full refl fit }, none_in_file ten full.token full.others full.next)
 
-of_completion : (m : ℕ) (tokens : List Token) (halt : Halt) → file_on outermost m tokens ≡ Err halt → m ≡ 10_000 → Completion the_limits Grammar.file tokens halt → FileRefusal tokens halt
-of_completion m tokens halt e ten stop =
+of_completion : (m : ℕ) (tokens : List Token) (halt : Halt) → file_on outermost m tokens ≡ Err halt → Completion the_limits Grammar.file tokens halt → FileRefusal tokens halt
+of_completion m tokens halt e stop =
     let p = parts_of the_limits stop.first tokens halt.rest stop.spelled in
     record {
       before = p.before;
       parts = p.parts;
-      right = is_right m tokens halt e p.before p.parts ten halt.why halt.rest stop.tokens stop.others stop.tree stop.first stop.whole p.fit p.within stop.fit refl refl stop.past;
+      right = is_right m tokens halt e p.before p.parts halt.why halt.rest stop.tokens stop.others stop.tree stop.first stop.whole p.fit p.within stop.fit refl refl stop.past;
     }
 
 by_why : (m : ℕ) (tokens : List Token) (halt : Halt) → file_on outermost m tokens ≡ Err halt → m ≡ 10_000 → (why : Why) → halt.why ≡ why → FileStop the_limits m tokens halt why → FileRefusal tokens halt
@@ -101,9 +111,9 @@ by_why m tokens halt e ten too_many is stop =
       parts = p.parts;
       right = subst (λ w. IsRightInFile p.before w halt.rest) (sym is) (is_full m tokens halt e p.before p.parts ten stop p.fit p.within);
     }
-by_why m tokens halt e ten expected is stop = of_completion m tokens halt e ten stop
-by_why m tokens halt e ten too_nested is stop = of_completion m tokens halt e ten stop
-by_why m tokens halt e ten too_long is stop = of_completion m tokens halt e ten stop
+by_why m tokens halt e ten expected is stop = of_completion m tokens halt e stop
+by_why m tokens halt e ten too_nested is stop = of_completion m tokens halt e stop
+by_why m tokens halt e ten too_long is stop = of_completion m tokens halt e stop
 
 refused : (m : ℕ) → m ≡ 10_000 → (tokens : List Token) (halt : Halt) → file_on outermost m tokens ≡ Err halt → FileRefusal tokens halt
 refused m ten tokens halt e =

@@ -1,4 +1,4 @@
--- Types of monotypes, formulas and proofs: each refusal is right.
+-- Monotypes, formulas and proofs: each refusal is right.
 use Rattle.std.proofs.Common.{◌≡◌, ℕ, ◌<◌, ◌≤◌, List, [], ◌∷◌, ◌++◌, length, refl, sym, ◌∙◌, ap, subst, arith, append-nil}
 use Rattle.std.specs.Prelude.{Bool, true, false, Result, Ok, Err}
 use Rattle.htt_tokens.specs.declared.tokens.Kind.{Kind}
@@ -18,11 +18,13 @@ use Rattle.read_places.proofs.Follows.{Kept, Answers, Follows}
 use Rattle.read_places.proofs.Words.{Follow}
 use Rattle.read_completions.proofs.Halts.{Completion, Past, Ends, Stopped}
 use Rattle.read_completions.proofs.Words.{Ending}
+use Rattle.read_limits.proofs.Bars.{Bars, IsLimit}
+use Rattle.read_limits.proofs.Words.{Bar}
 use Rattle.htt_refusals.specs.Refusals.{Begins, BeginsWithin, GoesPast, IsTooDeep, IsTooFar, NoneGoesOn, NoneWithin, IsRight, Refusal, Ended}
 use Rattle.htt_refusals.specs.Laws.{MonoIsRefused, FormulaIsRefused, ProofIsRefused, MonoIsEnded, FormulaIsEnded, ProofIsEnded}
-use Rattle.htt_refusals.proofs.Places.{Parts, parts_of, kept_same, clash, clash_ended, one_more, wider, widest, knows_widest, all_within, follow_widest, knows_outermost, follow_outermost, ending_outermost}
+use Rattle.htt_refusals.proofs.Places.{Parts, parts_of, kept_same, clash, clash_ended, one_more, wider, widest, knows_widest, all_within, follow_widest, follow_outermost, ending_outermost, bar_widest, stops_again, not_held, fit_whole}
 
-module _ {A : Type 0} (read : Deeper → Reader A) (marks : A → List Mark) (c : Kind → Bool) (gets : (lim : Limits) (d : Deeper) → Knows lim d 1 → (n : ℕ) (x : A) → Gets lim c n (read d) (marks x) x) (follows : (b : Bool) (d e : Deeper) → Follow b d e → (n m : ℕ) → Follows b n m (read d) (read e)) (ends : (lim : Limits) (d : Deeper) → Ending lim d 1 → Ends lim (read d) marks) where
+module _ {A : Type 0} (read : Deeper → Reader A) (marks : A → List Mark) (c : Kind → Bool) (gets : (lim : Limits) (d : Deeper) → Knows lim d 1 → (n : ℕ) (x : A) → Gets lim c n (read d) (marks x) x) (follows : (b : Bool) (d e : Deeper) → Follow b d e → (n m : ℕ) → Follows b n m (read d) (read e)) (ends : (lim : Limits) (d : Deeper) → Ending lim d 1 → Ends lim (read d) marks) (barred : (d : Deeper) → Bar the_limits outermost d 1 → Bars the_limits (λ ns. ns) (read outermost) (read d) marks) where
   outer : Ends the_limits (read outermost) marks
   outer = ends the_limits outermost ending_outermost
 
@@ -41,20 +43,24 @@ module _ {A : Type 0} (read : Deeper → Reader A) (marks : A → List Mark) (c 
     none_goes_on is [] at_end = λ y fit. none_alike is [] (subst (λ ts. Alike ts []) (sym at_end) tt) y (subst (λ ts. AllFit ts (marks y)) (sym (append-nil before)) fit)
     none_goes_on is (t ∷ rest) there = λ begins. none_alike is (t ∷ begins.more) (subst (λ ts. Alike ts (t ∷ begins.more)) (sym there) refl) begins.tree (subst (λ ts. AllFit ts (marks begins.tree)) (one_more before t begins.more) begins.fit)
 
-    none_within : (t : Token) (rest : List Token) → halt.rest ≡ t ∷ rest → NoneWithin (λ y. AllWithin the_limits (marks y)) marks before t
-    none_within t rest there y more fit within =
-        clash (answers true outermost follow_outermost (length (before ++ (t ∷ more))) tokens (Err halt) e) before (t ∷ more) parts (subst (λ ts. Alike ts (t ∷ more)) (sym there) refl) (omega arith) (kept_same halt.why) y
-        ((gets the_limits outermost knows_outermost (length (before ++ (t ∷ more))) y).reads (before ++ (t ∷ more)) [] (omega arith) (spelled the_limits (before ++ (t ∷ more)) (marks y) fit within) tt)
+    none_within : IsLimit halt.why → (t : Token) (rest : List Token) → halt.rest ≡ t ∷ rest → NoneWithin the_limits marks before t
+    none_within limit t rest there begins =
+        let y = begins.tree in
+        let us = before ++ (t ∷ begins.more) in
+        let fit : AllFit us (marks y) = subst (λ ts. AllFit ts (marks y)) (one_more before t begins.more) (fit_whole (before ++ (t ∷ [])) begins.more begins.first begins.others (marks y) begins.whole begins.fit begins.goes_on) in
+        not_held (barred (widest (marks y)) (bar_widest (marks y))) before t begins.more halt.why limit
+        (stops_again (answers true outermost follow_outermost (length us) tokens (Err halt) e) before (t ∷ begins.more) parts (subst (λ ts. Alike ts (t ∷ begins.more)) (sym there) refl) (omega arith) (kept_same halt.why))
+        y (reads_wide us y fit) begins.first begins.others begins.whole begins.fit begins.within
 
-    is_right : (why : Why) (rest more : List Token) (others : List Mark) (tree : A) (first : List Mark) → marks tree ≡ first ++ others → AllFit before first → AllWithin the_limits first → AllFit more others → halt.why ≡ why → halt.rest ≡ rest → Past the_limits why rest more others → IsRight the_limits (λ y. AllWithin the_limits (marks y)) marks before why rest
+    is_right : (why : Why) (rest more : List Token) (others : List Mark) (tree : A) (first : List Mark) → marks tree ≡ first ++ others → AllFit before first → AllWithin the_limits first → AllFit more others → halt.why ≡ why → halt.rest ≡ rest → Past the_limits why rest more others → IsRight the_limits marks before why rest
     is_right expected rest more others tree first whole fit within goes_on is there past = (record { tree = tree; first = first; others = others; more = more; whole = whole; fit = fit; within = within; goes_on = goes_on }, none_goes_on is rest there)
     is_right too_nested (t ∷ rest) (u ∷ more) (m ∷ others) tree first whole fit within goes_on is there past =
-        (record { tree = tree; first = first; mark = m; others = others; more = more; whole = whole; fit = fit; within = within; next = subst (λ x. Fits x m) past.0 goes_on.0; past = past.1; goes_on = goes_on.1 }, none_within t rest there)
+        (record { tree = tree; first = first; mark = m; others = others; more = more; whole = whole; fit = fit; within = within; next = subst (λ x. Fits x m) past.0 goes_on.0; past = past.1; goes_on = goes_on.1 }, none_within (subst IsLimit (sym is) tt) t rest there)
     is_right too_long (t ∷ rest) (u ∷ more) (m ∷ others) tree first whole fit within goes_on is there past =
-        (record { tree = tree; first = first; mark = m; others = others; more = more; whole = whole; fit = fit; within = within; next = subst (λ x. Fits x m) past.0 goes_on.0; past = past.1; goes_on = goes_on.1 }, none_within t rest there)
+        (record { tree = tree; first = first; mark = m; others = others; more = more; whole = whole; fit = fit; within = within; next = subst (λ x. Fits x m) past.0 goes_on.0; past = past.1; goes_on = goes_on.1 }, none_within (subst IsLimit (sym is) tt) t rest there)
     is_right _ rest more others tree first whole fit within goes_on is there past = absurd past
 
-  refusal : (tokens : List Token) (halt : Halt) → read outermost tokens ≡ Err halt → Refusal (λ y. AllWithin the_limits (marks y)) marks tokens halt
+  refusal : (tokens : List Token) (halt : Halt) → read outermost tokens ≡ Err halt → Refusal marks tokens halt
   refusal tokens halt e =
       let stop : Completion the_limits marks tokens halt = subst (λ o. Stopped the_limits marks tokens o) e (outer.halts.halted tokens tokens (λ ns end s. s) (λ a b. refl)) in
       let p = parts_of the_limits stop.first tokens halt.rest stop.spelled in
@@ -79,19 +85,19 @@ module _ {A : Type 0} (read : Deeper → Reader A) (marks : A → List Mark) (c 
 -- ---- the productions
 
 pub mono_is_refused : MonoIsRefused
-mono_is_refused = refusal (λ d. d.mono) (Grammar.mono 1) _ (λ lim d know n x. know.mono x) (λ b d e follow n m. follow.mono) (λ lim d ending. ending.mono)
+mono_is_refused = refusal (λ d. d.mono) (Grammar.mono 1) _ (λ lim d know n x. know.mono x) (λ b d e follow n m. follow.mono) (λ lim d ending. ending.mono) (λ d bar. bar.mono.bars)
 
 pub formula_is_refused : FormulaIsRefused
-formula_is_refused = refusal (λ d. d.formula) (Grammar.formula 1) _ (λ lim d know n x. know.formula x) (λ b d e follow n m. follow.formula) (λ lim d ending. ending.formula)
+formula_is_refused = refusal (λ d. d.formula) (Grammar.formula 1) _ (λ lim d know n x. know.formula x) (λ b d e follow n m. follow.formula) (λ lim d ending. ending.formula) (λ d bar. bar.formula.bars)
 
 pub proof_is_refused : ProofIsRefused
-proof_is_refused = refusal (λ d. d.proof) (Grammar.proof 1) never (λ lim d know n x. know.proof x) (λ b d e follow n m. follow.proof) (λ lim d ending. ending.proof)
+proof_is_refused = refusal (λ d. d.proof) (Grammar.proof 1) never (λ lim d know n x. know.proof x) (λ b d e follow n m. follow.proof) (λ lim d ending. ending.proof) (λ d bar. bar.proof.bars)
 
 pub mono_is_ended : MonoIsEnded
-mono_is_ended = ended (λ d. d.mono) (Grammar.mono 1) _ (λ lim d know n x. know.mono x) (λ b d e follow n m. follow.mono) (λ lim d ending. ending.mono)
+mono_is_ended = ended (λ d. d.mono) (Grammar.mono 1) _ (λ lim d know n x. know.mono x) (λ b d e follow n m. follow.mono) (λ lim d ending. ending.mono) (λ d bar. bar.mono.bars)
 
 pub formula_is_ended : FormulaIsEnded
-formula_is_ended = ended (λ d. d.formula) (Grammar.formula 1) _ (λ lim d know n x. know.formula x) (λ b d e follow n m. follow.formula) (λ lim d ending. ending.formula)
+formula_is_ended = ended (λ d. d.formula) (Grammar.formula 1) _ (λ lim d know n x. know.formula x) (λ b d e follow n m. follow.formula) (λ lim d ending. ending.formula) (λ d bar. bar.formula.bars)
 
 pub proof_is_ended : ProofIsEnded
-proof_is_ended = ended (λ d. d.proof) (Grammar.proof 1) never (λ lim d know n x. know.proof x) (λ b d e follow n m. follow.proof) (λ lim d ending. ending.proof)
+proof_is_ended = ended (λ d. d.proof) (Grammar.proof 1) never (λ lim d know n x. know.proof x) (λ b d e follow n m. follow.proof) (λ lim d ending. ending.proof) (λ d bar. bar.proof.bars)

@@ -11,13 +11,13 @@ use Rattle.htt_refusals.specs.Refusals.{Refusal, FileRefusal, Ended}
 -- ---- a refused token
 
 abbrev pub MonoIsRefused : Type 0
-MonoIsRefused = (tokens : List Token) (halt : Halt) → read_mono tokens ≡ Err halt → Refusal IsMonoWithin (mono 1) tokens halt
+MonoIsRefused = (tokens : List Token) (halt : Halt) → read_mono tokens ≡ Err halt → Refusal (mono 1) tokens halt
 
 abbrev pub FormulaIsRefused : Type 0
-FormulaIsRefused = (tokens : List Token) (halt : Halt) → read_formula tokens ≡ Err halt → Refusal IsFormulaWithin (formula 1) tokens halt
+FormulaIsRefused = (tokens : List Token) (halt : Halt) → read_formula tokens ≡ Err halt → Refusal (formula 1) tokens halt
 
 abbrev pub ProofIsRefused : Type 0
-ProofIsRefused = (tokens : List Token) (halt : Halt) → read_proof tokens ≡ Err halt → Refusal IsProofWithin (proof 1) tokens halt
+ProofIsRefused = (tokens : List Token) (halt : Halt) → read_proof tokens ≡ Err halt → Refusal (proof 1) tokens halt
 
 abbrev pub FileIsRefused : Type 0
 FileIsRefused = (tokens : List Token) (halt : Halt) → read_file tokens ≡ Err halt → FileRefusal tokens halt

@@ -51,23 +51,22 @@ abbrev pub NoneGoesOn : {A : Type 0} → (A → List Mark) → List Token → Li
 NoneGoesOn {A = A} marks tokens [] = (tree : A) → AllFit tokens (marks tree) → ⊥
 NoneGoesOn marks tokens (token ∷ rest) = Begins marks (tokens ++ (token ∷ [])) → ⊥
 
--- no tree within the limits begins with these tokens and this one
-abbrev pub NoneWithin : {A : Type 0} → (A → Type 0) → (A → List Mark) → List Token → Token → Type 0
-NoneWithin {A = A} is_within marks tokens token =
-    (tree : A) (more : List Token) → AllFit (tokens ++ (token ∷ more)) (marks tree) → is_within tree → ⊥
+-- no tree begins with these tokens and this one within the limits
+abbrev pub NoneWithin : {A : Type 0} → Limits → (A → List Mark) → List Token → Token → Type 0
+NoneWithin limits marks tokens token = BeginsWithin limits marks (tokens ++ (token ∷ [])) → ⊥
 
 -- the reason why the first of the rest is refused, behind these tokens
-abbrev pub IsRight : {A : Type 0} → Limits → (A → Type 0) → (A → List Mark) → List Token → Why → List Token → Type 0
-IsRight limits is_within marks before expected rest = BeginsWithin limits marks before × NoneGoesOn marks before rest
-IsRight limits is_within marks before too_nested (token ∷ rest) = GoesPast limits IsTooDeep marks before token × NoneWithin is_within marks before token
-IsRight limits is_within marks before too_long (token ∷ rest) = GoesPast limits IsTooFar marks before token × NoneWithin is_within marks before token
-IsRight limits is_within marks before _ rest = ⊥
+abbrev pub IsRight : {A : Type 0} → Limits → (A → List Mark) → List Token → Why → List Token → Type 0
+IsRight limits marks before expected rest = BeginsWithin limits marks before × NoneGoesOn marks before rest
+IsRight limits marks before too_nested (token ∷ rest) = GoesPast limits IsTooDeep marks before token × NoneWithin limits marks before token
+IsRight limits marks before too_long (token ∷ rest) = GoesPast limits IsTooFar marks before token × NoneWithin limits marks before token
+IsRight limits marks before _ rest = ⊥
 
 -- the tokens before the refused one, and the reason
-pub record Refusal {A : Type 0} (is_within : A → Type 0) (marks : A → List Mark) (tokens : List Token) (halt : Halt) : Type 0 where
+pub record Refusal {A : Type 0} (marks : A → List Mark) (tokens : List Token) (halt : Halt) : Type 0 where
   pub before : List Token
   pub parts : tokens ≡ before ++ halt.rest
-  pub right : IsRight the_limits is_within marks before halt.why halt.rest
+  pub right : IsRight the_limits marks before halt.why halt.rest
 
 -- ---- files
 
@@ -79,9 +78,14 @@ pub record Full (tokens : List Token) (token : Token) : Type 0 where
   pub within : AllWithin the_limits (file decls)
   pub goes_on : Begins file (tokens ++ (token ∷ []))
 
+-- no file within the limits begins with these tokens and this one
+abbrev pub NoFileWithin : List Token → Token → Type 0
+NoFileWithin tokens token =
+    (decls : List DeclTree) (more : List Token) → AllFit (tokens ++ (token ∷ more)) (file decls) → IsFileWithin decls → ⊥
+
 abbrev pub IsRightInFile : List Token → Why → List Token → Type 0
-IsRightInFile before too_many (token ∷ rest) = Full before token × NoneWithin IsFileWithin file before token
-IsRightInFile before why rest = IsRight the_limits IsFileWithin file before why rest
+IsRightInFile before too_many (token ∷ rest) = Full before token × NoFileWithin before token
+IsRightInFile before why rest = IsRight the_limits file before why rest
 
 pub record FileRefusal (tokens : List Token) (halt : Halt) : Type 0 where
   pub before : List Token
