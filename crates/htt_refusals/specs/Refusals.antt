@@ -1,10 +1,10 @@
 -- Which refusals are right: where reading stops, and for what reason.
-use Rattle.std.specs.Prelude.{◌≡◌, ◌<◌, List, [], ◌∷◌, ◌++◌, length}
+use Rattle.std.specs.Prelude.{◌≡◌, ◌<◌, ◌≤◌, List, [], ◌∷◌, ◌++◌, length}
 use Rattle.htt_tokens.specs.declared.tokens.Token.{Token}
 use Rattle.raw_trees.specs.Trees.{DeclTree}
 use Rattle.htt_grammar.specs.Marks.{Mark, Limits, Fits, AllFit, AllWithin}
 use Rattle.htt_grammar.specs.Grammar.{file}
-use Rattle.htt_grammar.specs.Derivations.{the_limits, IsFileWithin}
+use Rattle.htt_grammar.specs.Derivations.{the_limits}
 use Rattle.htt_grammar.specs.Readers.{Why, expected, too_nested, too_long, too_many, Halt}
 
 -- A production is given by the marks of its trees.
@@ -70,6 +70,14 @@ pub record Refusal {A : Type 0} (marks : A → List Mark) (tokens : List Token) 
 
 -- ---- files
 
+-- at most 10,000 declarations
+pub record ShortFile : Type 0 where
+  pub decls : List DeclTree
+  pub count : length decls ≤ 10_000
+
+abbrev pub short_file : ShortFile → List Mark
+short_file f = file f.decls
+
 -- 10,000 declarations within the limits, and behind them a token that begins another
 pub record Full (tokens : List Token) (token : Token) : Type 0 where
   pub decls : List DeclTree
@@ -78,14 +86,12 @@ pub record Full (tokens : List Token) (token : Token) : Type 0 where
   pub within : AllWithin the_limits (file decls)
   pub goes_on : Begins file (tokens ++ (token ∷ []))
 
--- no file within the limits begins with these tokens and this one
-abbrev pub NoFileWithin : List Token → Token → Type 0
-NoFileWithin tokens token =
-    (decls : List DeclTree) (more : List Token) → AllFit (tokens ++ (token ∷ more)) (file decls) → IsFileWithin decls → ⊥
-
 abbrev pub IsRightInFile : List Token → Why → List Token → Type 0
-IsRightInFile before too_many (token ∷ rest) = Full before token × NoFileWithin before token
-IsRightInFile before why rest = IsRight the_limits file before why rest
+IsRightInFile before expected rest = BeginsWithin the_limits short_file before × NoneGoesOn file before rest
+IsRightInFile before too_nested (token ∷ rest) = GoesPast the_limits IsTooDeep short_file before token × NoneWithin the_limits file before token
+IsRightInFile before too_long (token ∷ rest) = GoesPast the_limits IsTooFar short_file before token × NoneWithin the_limits file before token
+IsRightInFile before too_many (token ∷ rest) = Full before token × NoneGoesOn short_file before (token ∷ rest)
+IsRightInFile before _ rest = ⊥
 
 pub record FileRefusal (tokens : List Token) (halt : Halt) : Type 0 where
   pub before : List Token

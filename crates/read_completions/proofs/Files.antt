@@ -134,46 +134,62 @@ pub record Full (lim : Limits) (m : ℕ) (ts rest : List Token) : Type 0 where
   pub next : rest ≡ token ∷ others
   pub begins : begins_decl token.kind ≡ true
 
+-- a file of at most so many declarations that begins with what was read
+pub record Short (lim : Limits) (m : ℕ) (ts : List Token) (halt : Halt) : Type 0 where
+  pub stop : Completion lim Grammar.file ts halt
+  pub few : length stop.tree ≤ m
+
 abbrev pub FileStop : Limits → ℕ → List Token → Halt → Why → Type 0
 FileStop lim m ts halt too_many = Full lim m ts halt.rest
-FileStop lim m ts halt _ = Completion lim Grammar.file ts halt
+FileStop lim m ts halt _ = Short lim m ts halt
 
 abbrev pub FileStopped : Limits → ℕ → List Token → Result (List DeclTree × List Token) Halt → Type 0
 FileStopped lim m ts (Ok read) = Unit {0}
 FileStopped lim m ts (Err halt) = FileStop lim m ts halt halt.why
 
+one_few : (m : ℕ) → 1 ≤ suc m
+one_few m = omega arith
+
+more_few : (n m : ℕ) → n ≤ m → suc n ≤ suc m
+more_few n m h = omega (arith, h)
+
 no_decl_here : (lim : Limits) (t : Token) (us : List Token) (b : Bool) → begins_decl t.kind ≡ b → FileStop lim 0 (t ∷ us) (record { why = cond b too_many expected; rest = t ∷ us }) (cond b too_many expected)
 no_decl_here lim t us true e = record { decls = []; count = refl; spelled = refl; token = t; others = us; next = refl; begins = e }
-no_decl_here lim t us false e = record { tree = []; first = []; others = []; tokens = []; whole = refl; spelled = refl; fit = tt; past = tt }
+no_decl_here lim t us false e = record { stop = record { tree = []; first = []; others = []; tokens = []; whole = refl; spelled = refl; fit = tt; past = tt }; few = omega arith }
 
-of_first : (lim : Limits) (ts : List Token) (halt : Halt) → Completion lim Grammar.decl ts halt → Completion lim Grammar.file ts halt
+of_first : (lim : Limits) (m : ℕ) (ts : List Token) (halt : Halt) → Completion lim Grammar.decl ts halt → Short lim (suc m) ts halt
 unfolding ◌⨟◌
-of_first lim ts halt c = record { tree = c.tree ∷ []; first = c.first; others = c.others; tokens = c.tokens; whole = append-nil (Grammar.decl c.tree) ∙ c.whole; spelled = c.spelled; fit = c.fit; past = c.past }
+of_first lim m ts halt c = record { stop = record { tree = c.tree ∷ []; first = c.first; others = c.others; tokens = c.tokens; whole = append-nil (Grammar.decl c.tree) ∙ c.whole; spelled = c.spelled; fit = c.fit; past = c.past }; few = one_few m }
 
-first_stop : (lim : Limits) (m : ℕ) (ts : List Token) (halt : Halt) (why : Why) → halt.why ≡ why → Completion lim Grammar.decl ts halt → FileStop lim m ts halt why
+first_stop : (lim : Limits) (m : ℕ) (ts : List Token) (halt : Halt) (why : Why) → halt.why ≡ why → Completion lim Grammar.decl ts halt → FileStop lim (suc m) ts halt why
 first_stop lim m ts halt too_many e c = absurd (subst (λ w. Past lim w halt.rest c.tokens c.others) e c.past)
-first_stop lim m ts halt expected e c = of_first lim ts halt c
-first_stop lim m ts halt too_nested e c = of_first lim ts halt c
-first_stop lim m ts halt too_long e c = of_first lim ts halt c
+first_stop lim m ts halt expected e c = of_first lim m ts halt c
+first_stop lim m ts halt too_nested e c = of_first lim m ts halt c
+first_stop lim m ts halt too_long e c = of_first lim m ts halt c
 
-behind_one : (lim : Limits) (x : DeclTree) (ts mid : List Token) (halt : Halt) → Spells lim (Grammar.decl x) ts mid → Completion lim Grammar.file mid halt → Completion lim Grammar.file ts halt
+behind_one : (lim : Limits) (m : ℕ) (x : DeclTree) (ts mid : List Token) (halt : Halt) → Spells lim (Grammar.decl x) ts mid → Short lim m mid halt → Short lim (suc m) ts halt
 unfolding ◌⨟◌
-behind_one lim x ts mid halt s c = record {
-  tree = x ∷ c.tree;
-  first = Grammar.decl x ++ c.first;
-  others = c.others;
-  tokens = c.tokens;
-  whole = ap (λ ns. Grammar.decl x ++ ns) c.whole ∙ sym (append_assoc (Grammar.decl x) c.first c.others);
-  spelled = join lim (Grammar.decl x) c.first ts mid halt.rest s c.spelled;
-  fit = c.fit;
-  past = c.past;
-}
+behind_one lim m x ts mid halt s short =
+    let c = short.stop in
+    record {
+      stop = record {
+        tree = x ∷ c.tree;
+        first = Grammar.decl x ++ c.first;
+        others = c.others;
+        tokens = c.tokens;
+        whole = ap (λ ns. Grammar.decl x ++ ns) c.whole ∙ sym (append_assoc (Grammar.decl x) c.first c.others);
+        spelled = join lim (Grammar.decl x) c.first ts mid halt.rest s c.spelled;
+        fit = c.fit;
+        past = c.past;
+      };
+      few = more_few (length c.tree) m short.few;
+    }
 
 later_stop : (lim : Limits) (m : ℕ) (x : DeclTree) (ts mid : List Token) (halt : Halt) (why : Why) → Spells lim (Grammar.decl x) ts mid → FileStop lim m mid halt why → FileStop lim (suc m) ts halt why
 later_stop lim m x ts mid halt too_many s c = record { decls = x ∷ c.decls; count = ap (λ n. suc n) c.count; spelled = join lim (Grammar.decl x) (Grammar.file c.decls) ts mid halt.rest s c.spelled; token = c.token; others = c.others; next = c.next; begins = c.begins }
-later_stop lim m x ts mid halt expected s c = behind_one lim x ts mid halt s c
-later_stop lim m x ts mid halt too_nested s c = behind_one lim x ts mid halt s c
-later_stop lim m x ts mid halt too_long s c = behind_one lim x ts mid halt s c
+later_stop lim m x ts mid halt expected s c = behind_one lim m x ts mid halt s c
+later_stop lim m x ts mid halt too_nested s c = behind_one lim m x ts mid halt s c
+later_stop lim m x ts mid halt too_long s c = behind_one lim m x ts mid halt s c
 
 module _ {lim : Limits} (d : Deeper) (here : Stands lim 0) (trust : Ending lim d 1) where
   pub file_stops : (m : ℕ) (ts : List Token) → FileStopped lim m ts (file_on d m ts)
@@ -189,4 +205,4 @@ module _ {lim : Limits} (d : Deeper) (here : Stands lim 0) (trust : Ending lim d
 
       by_first : (m : ℕ) (ts : List Token) (o : Result (DeclTree × List Token) Halt) → decl_at d ts ≡ o → Stopped lim Grammar.decl ts o → ((mid : List Token) → FileStopped lim m mid (file_on d m mid)) → FileStopped lim (suc m) ts (after o (λ x. file_on d m >>= (λ xs. give (x ∷ xs))))
       by_first m ts (Ok read) e stopped rest = by_rest m read.0 ts read.1 (file_on d m read.1) ((decl_ends d here trust).tells.tells ts read.0 read.1 e) (rest read.1)
-      by_first m ts (Err halt) e stopped rest = first_stop lim (suc m) ts halt halt.why refl stopped
+      by_first m ts (Err halt) e stopped rest = first_stop lim m ts halt halt.why refl stopped
