@@ -1,3 +1,4 @@
 pub mod Places
 pub mod Phrases
 pub mod Files
+pub mod One

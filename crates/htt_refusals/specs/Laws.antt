@@ -2,6 +2,7 @@
 use Rattle.std.specs.Prelude.{◌≡◌, List, ◌∷◌, Ok, Err}
 use Rattle.htt_tokens.specs.declared.tokens.Token.{Token}
 use Rattle.raw_trees.specs.Trees.{MonoTree, FormulaTree, ProofTree}
+use Rattle.htt_grammar.specs.Marks.{Mark}
 use Rattle.htt_grammar.specs.Grammar.{mono, formula, proof}
 use Rattle.htt_grammar.specs.Derivations.{IsFormulaWithin, IsProofWithin}
 use Rattle.htt_grammar.specs.Readers.{Halt}
@@ -32,3 +33,20 @@ FormulaIsEnded = (tokens : List Token) (tree : FormulaTree) (token : Token) (res
 
 abbrev pub ProofIsEnded : Type 0
 ProofIsEnded = (tokens : List Token) (tree : ProofTree) (token : Token) (rest : List Token) → read_proof tokens ≡ Ok (tree, token ∷ rest) → Ended IsProofWithin (proof 1) tokens tree token rest
+
+-- ---- a right refusal has one place
+
+abbrev pub OnePlace : {A : Type 0} → (A → List Mark) → Type 0
+OnePlace marks = (tokens : List Token) (halt other : Halt) → Refusal marks tokens halt → Refusal marks tokens other → halt.rest ≡ other.rest
+
+abbrev pub MonoHasOnePlace : Type 0
+MonoHasOnePlace = OnePlace (mono 1)
+
+abbrev pub FormulaHasOnePlace : Type 0
+FormulaHasOnePlace = OnePlace (formula 1)
+
+abbrev pub ProofHasOnePlace : Type 0
+ProofHasOnePlace = OnePlace (proof 1)
+
+abbrev pub FileHasOnePlace : Type 0
+FileHasOnePlace = (tokens : List Token) (halt other : Halt) → FileRefusal tokens halt → FileRefusal tokens other → halt.rest ≡ other.rest

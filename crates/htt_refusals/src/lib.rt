@@ -3,7 +3,7 @@
 //! contract.
 #![tactic(auto)]
 
-ghost use Rattle.htt_refusals.specs.Laws.{FileIsRefused, FormulaIsEnded, FormulaIsRefused, MonoIsEnded, MonoIsRefused, ProofIsEnded, ProofIsRefused};
+ghost use Rattle.htt_refusals.specs.Laws.{FileHasOnePlace, FileIsRefused, FormulaHasOnePlace, FormulaIsEnded, FormulaIsRefused, MonoHasOnePlace, MonoIsEnded, MonoIsRefused, ProofHasOnePlace, ProofIsEnded, ProofIsRefused};
 
 /// The tokens before a refused one begin a tree, within the limits. A token that is refused as
 /// unexpected goes on with no tree that begins so; one that is refused at a limit goes on with one
@@ -20,4 +20,12 @@ pub fn what_is_left_goes_on_with_nothing()
     ensures monotypes { MonoIsEnded }
     ensures formulas { FormulaIsEnded }
     ensures proofs { ProofIsEnded }
+{}
+
+/// No two places are right for the same tokens.
+pub fn refusals_have_one_place()
+    ensures monotypes { MonoHasOnePlace }
+    ensures formulas { FormulaHasOnePlace }
+    ensures proofs { ProofHasOnePlace }
+    ensures files { FileHasOnePlace }
 {}
