@@ -9,14 +9,8 @@ use Rattle.htt_grammar.specs.Marks.{Mark, Limits, Given, IsWithin, span_of, ◌�
 use Rattle.htt_grammar.specs.Readers.{Reader, Halt, Why, expected, too_nested, too_long, too_many, give, after, ◌>>=◌, stop, refused, refuse, chosen, either, first_is, if_first, measured, same_kind, that}
 use Rattle.htt_grammar.proofs.Spells.{Spells, Opens, Begins}
 use Rattle.htt_reading.proofs.Tells.{Tells, join, same_kinds}
-use Rattle.read_places.specs.Alike.{Alike}
+use Rattle.read_limits.specs.Limits.{IsLimit}
 use Rattle.read_places.proofs.Follows.{Claimed, Answers, Follows, rest_of, with_rest, alike_self}
-
--- the reasons that speak of the level or the operand of a mark
-abbrev pub IsLimit : Why → Type 0
-IsLimit too_nested = Unit {0}
-IsLimit too_long = Unit {0}
-IsLimit _ = ⊥
 
 -- the tree begins with what was read before the stop, and goes on past the limits
 pub record Barrier {A : Type 0} (lim : Limits) (marks : A → List Mark) (ts : List Token) (halt : Halt) (tree : A) : Type 0 where

@@ -16,7 +16,7 @@ use Rattle.htt_reading.proofs.Tells.{Tells, list_in_brackets, renumber}
 use Rattle.htt_reading.proofs.Words.{Trusts, Stands, numbered_tells}
 use Rattle.htt_reading.proofs.Words as told
 use Rattle.read_places.proofs.Follows.{Follows}
-use Rattle.read_limits.proofs.Bars.{Held, Barrier, Form, Formed, Forms, Bars, Barred, Takes, Case, IsLimit, SameOk, same_ok, forms_id, forms_then, forms_last, forms_give, bars_then, bars_last, bars_give, bars_stop, bars_refuse, bars_reround, bars_either, bars_cond, bars_first, bars_measured, bars_that, bars_deep, bars_past}
+use Rattle.read_limits.proofs.Bars.{Held, Barrier, Form, Formed, Forms, Bars, Barred, Takes, Case, SameOk, same_ok, forms_id, forms_then, forms_last, forms_give, bars_then, bars_last, bars_give, bars_stop, bars_refuse, bars_reround, bars_either, bars_cond, bars_first, bars_measured, bars_that, bars_deep, bars_past}
 use Rattle.read_limits.proofs.Words.{Bar, numbered_barred, at_word, at_sign, at_number, a_word, a_sign', a_name', or_sign, or_word, skip, binder_barred, name_barred, number_barred, heap_barred, more_barred, mono_barred, bracketed_barred, more_monos_barred}
 use Rattle.htt_reading.proofs.Formulas as told_here
 use Rattle.read_places.proofs.Formulas as places

@@ -4,3 +4,4 @@ pub mod Terms
 pub mod Formulas
 pub mod Proofs
 pub mod Files
+pub mod Laws
