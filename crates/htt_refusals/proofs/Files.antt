@@ -22,11 +22,14 @@ use Rattle.read_places.proofs.Files.{decl_follows, file_follows}
 use Rattle.read_completions.proofs.Halts.{Completion, Past, Stopped, fit_both}
 use Rattle.read_completions.proofs.Starts.{starts_decl}
 use Rattle.read_completions.proofs.Files.{Full, Short, FileStop, FileStopped, decl_ends, file_stops}
-use Rattle.read_limits.proofs.Bars.{IsLimit, SameOk, same_ok}
+use Rattle.read_limits.proofs.Bars.{SameOk, same_ok}
 use Rattle.read_limits.proofs.Files.{file_bars}
+use Rattle.read_places.proofs.Laws.{kept_same, answers_alike}
+use Rattle.read_limits.specs.Limits.{IsLimit}
+use Rattle.read_limits.proofs.Laws.{parts_of}
 use Rattle.htt_refusals.specs.Refusals.{Begins, BeginsWithin, GoesPast, IsTooDeep, IsTooFar, NoneGoesOn, NoneWithin, ShortFile, short_file, IsRightInFile, FileRefusal}
 use Rattle.htt_refusals.specs.Laws.{FileIsRefused}
-use Rattle.htt_refusals.proofs.Places.{Parts, parts_of, kept_same, clash, one_more, wider, widest, knows_widest, all_within, follow_widest, knows_outermost, follow_outermost, ending_outermost, bar_widest, stops_again, not_held, fit_whole}
+use Rattle.htt_refusals.proofs.Places.{clash, one_more, wider, widest, knows_widest, all_within, follow_widest, knows_outermost, follow_outermost, ending_outermost, bar_widest, not_past, fit_whole}
 
 stands : Stands the_limits 0
 stands = record { level = lit≤ tt; chain = lit≤ tt }
@@ -138,8 +141,8 @@ module _ (m : ℕ) (tokens : List Token) (halt : Halt) (e : file_on outermost m 
       let y = begins.tree in
       let us = before ++ (t ∷ begins.more) in
       let fit : AllFit us (Grammar.file y) = subst (λ ts. AllFit ts (Grammar.file y)) (one_more before t begins.more) (fit_whole (before ++ (t ∷ [])) begins.more begins.first begins.others (Grammar.file y) begins.whole begins.fit begins.goes_on) in
-      not_held (file_bars outermost (widest (Grammar.file y)) stands (bar_widest (Grammar.file y)) m (m + length y) (omega arith)) before t begins.more halt.why limit
-      (stops_again (answers_same m (length us) tokens halt e) before (t ∷ begins.more) parts (subst (λ ts. Alike ts (t ∷ begins.more)) (sym there) refl) (omega arith) (kept_same halt.why))
+      not_past (file_bars outermost (widest (Grammar.file y)) stands (bar_widest (Grammar.file y)) m (m + length y) (omega arith)) before t begins.more halt.why limit
+      (answers_alike (answers_same m (length us) tokens halt e) before (t ∷ begins.more) parts (subst (λ ts. Alike ts (t ∷ begins.more)) (sym there) refl) (omega arith) (kept_same halt.why))
       y (reads_wide m us y fit) begins.first begins.others begins.whole begins.fit begins.within
 
   no_short_file : m ≡ 10_000 → halt.why ≡ too_many → (t : Token) (rest : List Token) → halt.rest ≡ t ∷ rest → NoneGoesOn short_file before (t ∷ rest)
@@ -149,7 +152,7 @@ module _ (m : ℕ) (tokens : List Token) (halt : Halt) (e : file_on outermost m 
       let fit : AllFit us (Grammar.file y) = subst (λ ts. AllFit ts (Grammar.file y)) (one_more before t begins.more) begins.fit in
       too_few m (length y) 10_000 ten begins.tree.count
       (many_there m (m + length y) (widest (Grammar.file y)) (follow_widest (Grammar.file y)) us y (record { why = halt.why; rest = t ∷ begins.more })
-      (stops_again (answers_same m (length us) tokens halt e) before (t ∷ begins.more) parts (subst (λ ts. Alike ts (t ∷ begins.more)) (sym there) refl) (omega arith) (kept_same halt.why))
+      (answers_alike (answers_same m (length us) tokens halt e) before (t ∷ begins.more) parts (subst (λ ts. Alike ts (t ∷ begins.more)) (sym there) refl) (omega arith) (kept_same halt.why))
       (reads_wide m us y fit) is)
 
   is_right : m ≡ 10_000 → (why : Why) (rest more : List Token) (others : List Mark) (tree : List DeclTree) (first : List Mark) → length tree ≤ m → Grammar.file tree ≡ first ++ others → AllFit before first → AllWithin the_limits first → AllFit more others → halt.why ≡ why → halt.rest ≡ rest → Past the_limits why rest more others → IsRightInFile before why rest

@@ -18,11 +18,14 @@ use Rattle.read_places.proofs.Follows.{Kept, Answers, Follows}
 use Rattle.read_places.proofs.Words.{Follow}
 use Rattle.read_completions.proofs.Halts.{Completion, Past, Ends, Stopped}
 use Rattle.read_completions.proofs.Words.{Ending}
-use Rattle.read_limits.proofs.Bars.{Bars, IsLimit}
+use Rattle.read_limits.proofs.Bars.{Bars}
 use Rattle.read_limits.proofs.Words.{Bar}
+use Rattle.read_places.proofs.Laws.{kept_same, answers_alike}
+use Rattle.read_limits.specs.Limits.{IsLimit}
+use Rattle.read_limits.proofs.Laws.{parts_of}
 use Rattle.htt_refusals.specs.Refusals.{Begins, BeginsWithin, GoesPast, IsTooDeep, IsTooFar, NoneGoesOn, NoneWithin, IsRight, Refusal, Ended}
 use Rattle.htt_refusals.specs.Laws.{MonoIsRefused, FormulaIsRefused, ProofIsRefused, MonoIsEnded, FormulaIsEnded, ProofIsEnded}
-use Rattle.htt_refusals.proofs.Places.{Parts, parts_of, kept_same, clash, clash_ended, one_more, wider, widest, knows_widest, all_within, follow_widest, follow_outermost, ending_outermost, bar_widest, stops_again, not_held, fit_whole}
+use Rattle.htt_refusals.proofs.Places.{clash, clash_ended, one_more, wider, widest, knows_widest, all_within, follow_widest, follow_outermost, ending_outermost, bar_widest, not_past, fit_whole}
 
 module _ {A : Type 0} (read : Deeper → Reader A) (marks : A → List Mark) (c : Kind → Bool) (gets : (lim : Limits) (d : Deeper) → Knows lim d 1 → (n : ℕ) (x : A) → Gets lim c n (read d) (marks x) x) (follows : (b : Bool) (d e : Deeper) → Follow b d e → (n m : ℕ) → Follows b n m (read d) (read e)) (ends : (lim : Limits) (d : Deeper) → Ending lim d 1 → Ends lim (read d) marks) (barred : (d : Deeper) → Bar the_limits outermost d 1 → Bars the_limits (λ ns. ns) (read outermost) (read d) marks) where
   outer : Ends the_limits (read outermost) marks
@@ -48,8 +51,8 @@ module _ {A : Type 0} (read : Deeper → Reader A) (marks : A → List Mark) (c 
         let y = begins.tree in
         let us = before ++ (t ∷ begins.more) in
         let fit : AllFit us (marks y) = subst (λ ts. AllFit ts (marks y)) (one_more before t begins.more) (fit_whole (before ++ (t ∷ [])) begins.more begins.first begins.others (marks y) begins.whole begins.fit begins.goes_on) in
-        not_held (barred (widest (marks y)) (bar_widest (marks y))) before t begins.more halt.why limit
-        (stops_again (answers true outermost follow_outermost (length us) tokens (Err halt) e) before (t ∷ begins.more) parts (subst (λ ts. Alike ts (t ∷ begins.more)) (sym there) refl) (omega arith) (kept_same halt.why))
+        not_past (barred (widest (marks y)) (bar_widest (marks y))) before t begins.more halt.why limit
+        (answers_alike (answers true outermost follow_outermost (length us) tokens (Err halt) e) before (t ∷ begins.more) parts (subst (λ ts. Alike ts (t ∷ begins.more)) (sym there) refl) (omega arith) (kept_same halt.why))
         y (reads_wide us y fit) begins.first begins.others begins.whole begins.fit begins.within
 
     is_right : (why : Why) (rest more : List Token) (others : List Mark) (tree : A) (first : List Mark) → marks tree ≡ first ++ others → AllFit before first → AllWithin the_limits first → AllFit more others → halt.why ≡ why → halt.rest ≡ rest → Past the_limits why rest more others → IsRight the_limits marks before why rest

@@ -23,45 +23,26 @@ use Rattle.read_places.proofs.Files.{follow_self, follow_greater}
 use Rattle.read_completions.proofs.Halts.{fit_both}
 use Rattle.read_completions.proofs.Words.{Ending}
 use Rattle.read_completions.proofs.Files.{ending}
-use Rattle.read_limits.proofs.Bars.{Barrier, Bars, Held, IsLimit}
+use Rattle.read_places.proofs.Laws.{answers_alike}
+use Rattle.read_limits.specs.Limits.{IsLimit}
+use Rattle.read_limits.proofs.Bars.{Bars}
+use Rattle.read_limits.proofs.Laws.{stops_past}
 use Rattle.read_limits.proofs.Words.{Bar}
 use Rattle.read_limits.proofs.Files.{bar}
 use Rattle.htt_refusals.specs.Refusals.{Begins, BeginsWithin, GoesPast, IsTooDeep, IsTooFar, NoneGoesOn, NoneWithin}
 
--- ---- what was read, as tokens and marks
-
-pub record Parts (lim : Limits) (ms : List Mark) (ts rest : List Token) : Type 0 where
-  pub before : List Token
-  pub parts : ts ≡ before ++ rest
-  pub fit : AllFit before ms
-  pub within : AllWithin lim ms
-
-pub parts_of : (lim : Limits) (ms : List Mark) (ts rest : List Token) → Spells lim ms ts rest → Parts lim ms ts rest
-parts_of lim [] ts rest s = record { before = []; parts = s; fit = tt; within = tt }
-parts_of lim (m ∷ ms) ts rest s =
-    let others = parts_of lim ms s.1 rest s.5 in
-    record { before = s.0 ∷ others.before; parts = s.2 ∙ ap (λ us. s.0 ∷ us) others.parts; fit = (s.3, others.fit); within = (s.4, others.within) }
-
 -- ---- a reader that follows doesn't read on to the end
 
-pub kept_same : (why : Why) → Kept true why
-kept_same expected = tt
-kept_same _ = refl
-
 pub clash : {A : Type 0} {b : Bool} {m : ℕ} {q : Reader A} {us : List Token} {halt : Halt} → Answers b m q us (Err halt) → (before other : List Token) → us ≡ before ++ halt.rest → Alike halt.rest other → length (before ++ other) ≤ m → Kept b halt.why → (y : A) → q (before ++ other) ≡ Ok (y, []) → ⊥
-clash {m = m} {q = q} {halt = halt} got before other parts alike fits kept y read =
-    let same : got.before ≡ before = append_cancel_right got.before before halt.rest (sym got.parts ∙ parts) in
-    let stops = got.same other alike (subst (λ ts. length (ts ++ other) ≤ m) (sym same) fits) kept in
-    let stops' = subst (λ ts. q (ts ++ other) ≡ Err (record { why = halt.why; rest = other })) same stops in
-    cc (sym read ∙ stops')
+clash got before other parts alike fits kept y read =
+    let stops = answers_alike got before other parts alike fits kept in
+    cc (sym read ∙ stops)
 
 pub clash_ended : {A : Type 0} {b : Bool} {m : ℕ} {q : Reader A} {us : List Token} {x : A} {token : Token} {rest : List Token} → Answers b m q us (Ok (x, token ∷ rest)) → (before other : List Token) → us ≡ before ++ (token ∷ rest) → length (before ++ (token ∷ other)) ≤ m → (y : A) → q (before ++ (token ∷ other)) ≡ Ok (y, []) → ⊥
 unfolding left_of
-clash_ended {m = m} {q = q} {x = x} {token = token} {rest = rest} got before other parts fits y read =
-    let same : got.before ≡ before = append_cancel_right got.before before (token ∷ rest) (sym got.parts ∙ parts) in
-    let stops = got.same (token ∷ other) refl (subst (λ ts. length (ts ++ (token ∷ other)) ≤ m) (sym same) fits) tt in
-    let stops' = subst (λ ts. q (ts ++ (token ∷ other)) ≡ Ok (x, token ∷ other)) same stops in
-    let no : [] ≡ token ∷ other = ap (left_of []) (sym read ∙ stops') in
+clash_ended {token = token} got before other parts fits y read =
+    let ends = answers_alike got before (token ∷ other) parts refl fits tt in
+    let no : [] ≡ token ∷ other = ap (left_of []) (sym read ∙ ends) in
     cc
 
 pub one_more : (before : List Token) (t : Token) (more : List Token) → before ++ (t ∷ []) ++ more ≡ before ++ (t ∷ more)
@@ -117,23 +98,12 @@ stands_within lim (b ∷ before) t [] m others all rest fit fits same within = a
 stands_within lim (b ∷ before) t (f ∷ first) m others [] rest fit fits same within = absurd fits
 stands_within lim (b ∷ before) t (f ∷ first) m others (a ∷ all) rest fit fits same within = stands_within lim before t first m others all rest fit.1 fits.1 (same_tail a f (all ++ rest) (first ++ (m ∷ others)) same) within.1
 
--- the reader stops there again, whatever follows
-pub stops_again : {A : Type 0} {b : Bool} {m : ℕ} {q : Reader A} {us : List Token} {halt : Halt} → Answers b m q us (Err halt) → (before other : List Token) → us ≡ before ++ halt.rest → Alike halt.rest other → length (before ++ other) ≤ m → Kept b halt.why → q (before ++ other) ≡ Err (record { why = halt.why; rest = other })
-stops_again {m = m} {q = q} {halt = halt} got before other parts alike fits kept =
-    let same : got.before ≡ before = append_cancel_right got.before before halt.rest (sym got.parts ∙ parts) in
-    let stops = got.same other alike (subst (λ ts. length (ts ++ other) ≤ m) (sym same) fits) kept in
-    subst (λ ts. q (ts ++ other) ≡ Err (record { why = halt.why; rest = other })) same stops
-
--- a reader that is held at a limit, where another reads a tree whose marks up to there are within it
-pub not_held : {A : Type 0} {r q : Reader A} {marks : A → List Mark} → Bars the_limits (λ ns. ns) r q marks → (before : List Token) (t : Token) (more : List Token) (why : Why) → IsLimit why → r (before ++ (t ∷ more)) ≡ Err (record { why = why; rest = t ∷ more }) → (y : A) → q (before ++ (t ∷ more)) ≡ Ok (y, []) → (all rest : List Mark) → marks y ≡ all ++ rest → AllFit (before ++ (t ∷ [])) all → AllWithin the_limits all → ⊥
-not_held {r = r} {q = q} {marks = marks} bars before t more why limit stops y reads all rest whole fits within =
-    let us = before ++ (t ∷ more) in
-    let held : Held the_limits marks us (r us) (q us) = bars.held us us (λ ns end s. s) (λ a b. refl) in
-    let there : Held the_limits marks us (Err (record { why = why; rest = t ∷ more })) (q us) = subst (λ o. Held the_limits marks us o (q us)) stops held in
-    let barrier : Barrier the_limits marks us (record { why = why; rest = t ∷ more }) y = subst (λ o. Held the_limits marks us (Err (record { why = why; rest = t ∷ more })) o) reads there limit in
-    let p = parts_of the_limits barrier.first us (t ∷ more) barrier.spelled in
+-- a reader that stops at a limit, where another reads a tree whose marks up to there are within it
+pub not_past : {A : Type 0} {r q : Reader A} {marks : A → List Mark} → Bars the_limits (λ ns. ns) r q marks → (before : List Token) (t : Token) (more : List Token) (why : Why) → IsLimit why → r (before ++ (t ∷ more)) ≡ Err (record { why = why; rest = t ∷ more }) → (y : A) → q (before ++ (t ∷ more)) ≡ Ok (y, []) → (all rest : List Mark) → marks y ≡ all ++ rest → AllFit (before ++ (t ∷ [])) all → AllWithin the_limits all → ⊥
+not_past bars before t more why limit stops y reads all rest whole fits within =
+    let p = stops_past bars (before ++ (t ∷ more)) (record { why = why; rest = t ∷ more }) y [] stops limit reads in
     let same : p.before ≡ before = append_cancel_right p.before before (t ∷ more) (sym p.parts) in
-    barrier.over (stands_within the_limits before t barrier.first barrier.mark barrier.others all rest (subst (λ ts. AllFit ts barrier.first) same p.fit) fits (sym whole ∙ barrier.whole) within)
+    p.past (stands_within the_limits before t p.first p.mark p.others all rest (subst (λ ts. AllFit ts p.first) same p.fit) fits (sym whole ∙ p.whole) within)
 
 -- tokens that fit the marks of a tree, put together
 pub fit_whole : (tokens more : List Token) (first others ms : List Mark) → ms ≡ first ++ others → AllFit tokens first → AllFit more others → AllFit (tokens ++ more) ms
