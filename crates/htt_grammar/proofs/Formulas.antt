@@ -1,6 +1,6 @@
 -- The readers of types and formulas get what is spelled.
 use Rattle.std.proofs.Common.{◌≡◌, ℕ, suc, List, [], ◌∷◌, refl, ◌∙◌, ap}
-use Rattle.std.specs.Prelude.{Bool, true, false, ◌&&◌, None, cond}
+use Rattle.std.specs.Prelude.{Bool, true, false, ◌&&◌, ◌||◌, None, cond}
 use Rattle.htt_tokens.specs.declared.tokens.Kind.{Kind}
 use Rattle.htt_tokens.specs.declared.tokens.Kind.TheVariants.{Name, Keyword, Sign}
 use Rattle.htt_tokens.specs.declared.tokens.Token.{Token}
@@ -14,8 +14,8 @@ use Rattle.raw_trees.specs.Trees.{MonoTree, m_name, m_brackets, m_factor, m_pair
 use Rattle.htt_grammar.specs.Marks.{Mark, Limits, ◌⨟◌, sign, sign_at}
 use Rattle.htt_grammar.specs.Grammar
 use Rattle.htt_grammar.specs.Readers.{give, ◌>>=◌, stop, either, first_is, that, same_kind}
-use Rattle.htt_grammar.specs.Beginnings.{begins_binder, begins_mono, begins_mono_name, begins_appl, begins_fatom, goes_on_mono, goes_on_rel, goes_on_star, goes_on_conj, goes_on_disj, goes_on_formula}
-use Rattle.htt_grammar.specs.Phrases.{Deeper, mono_at, is_colon, binder_and_colon, starts_function, function_case, ty_case, ty_at, sort_at, quantified, argument_case, fatom_case, fatom_at, star_at, conj_at, disj_at, quantifier_case, formula_at}
+use Rattle.htt_grammar.specs.Beginnings.{begins_mono, begins_mono_name, begins_appl, begins_fatom, goes_on_mono, goes_on_rel, goes_on_star, goes_on_conj, goes_on_disj, goes_on_formula}
+use Rattle.htt_grammar.specs.Phrases.{Deeper, mono_at, is_colon, function_binder, starts_function, function_case, ty_case, ty_at, sort_at, quantified, argument_case, fatom_case, fatom_at, star_at, conj_at, disj_at, quantifier_case, formula_at}
 use Rattle.htt_grammar.proofs.Spells.{Spells, Leads, leads_of, leads_then, split, first_token}
 use Rattle.htt_grammar.proofs.Gets.{Gets, giving, then, then_any, until, until_last, then_nothing, last, taken, taken_at, taken_alone, passed, ended, or_left, or_right, regroup, regroup_in, empty_gone, nothing_first, that_not, skip, skip_last}
 use Rattle.htt_grammar.proofs.Opens.{opens_mono, opens_rel, opens_disj}
@@ -27,8 +27,8 @@ use Rattle.htt_grammar.proofs.Terms.{not_that, no_type_sign, term_leads, before_
 -- what begins with a bracket, a binder and a colon is the type of a function
 function_starts : (lim : Limits) (l : ℕ) (b : Binder) (m o : Mark) (ns : List Mark) (ts rest : List Token) → m.kind ≡ Sign OpenParenSign → o.kind ≡ Sign ColonSign → Spells lim ((m ∷ []) ⨟ (Grammar.binder l b ⨟ ((o ∷ []) ⨟ ns))) ts rest → starts_function ts ≡ true
 unfolding ◌⨟◌
-function_starts lim l (binders.Name x) m o ns ts rest first third s = ap starts_function (s.2 ∙ ap (λ us. s.0 ∷ us) (s.5.2 ∙ ap (λ us. s.5.0 ∷ us) s.5.5.2)) ∙ (λ i. same_kind ((s.3.kind ∙ first) i) (Sign OpenParenSign) && (begins_binder (s.5.3.kind i) && same_kind ((s.5.5.3.kind ∙ third) i) (Sign ColonSign)))
-function_starts lim l binders.Blank m o ns ts rest first third s = ap starts_function (s.2 ∙ ap (λ us. s.0 ∷ us) (s.5.2 ∙ ap (λ us. s.5.0 ∷ us) s.5.5.2)) ∙ (λ i. same_kind ((s.3.kind ∙ first) i) (Sign OpenParenSign) && (begins_binder (s.5.3.kind i) && same_kind ((s.5.5.3.kind ∙ third) i) (Sign ColonSign)))
+function_starts lim l (binders.Name x) m o ns ts rest first third s = ap starts_function (s.2 ∙ ap (λ us. s.0 ∷ us) (s.5.2 ∙ ap (λ us. s.5.0 ∷ us) s.5.5.2)) ∙ (λ i. same_kind ((s.3.kind ∙ first) i) (Sign OpenParenSign) && (same_kind (s.5.3.kind i) (Sign UnderscoreSign) || (same_kind (s.5.3.kind i) Name && same_kind ((s.5.5.3.kind ∙ third) i) (Sign ColonSign))))
+function_starts lim l binders.Blank m o ns ts rest first third s = ap starts_function (s.2 ∙ ap (λ us. s.0 ∷ us) (s.5.2 ∙ ap (λ us. s.5.0 ∷ us) s.5.5.2)) ∙ (λ i. same_kind ((s.3.kind ∙ first) i) (Sign OpenParenSign) && (same_kind (s.5.3.kind i) (Sign UnderscoreSign) || (same_kind (s.5.3.kind i) Name && same_kind ((s.5.5.3.kind ∙ third) i) (Sign ColonSign))))
 
 and_false : (b c : Bool) → c ≡ false → (b && c) ≡ false
 and_false true c h = h
@@ -37,6 +37,13 @@ and_false false c h = refl
 false_and : (b c : Bool) → b ≡ false → (b && c) ≡ false
 false_and true c h = absurd (let no : true ≡ false = h in cc)
 false_and false c h = refl
+
+or_false : (b c : Bool) → b ≡ false → c ≡ false → (b || c) ≡ false
+or_false true c h e = h
+or_false false c h e = e
+
+no_binder : (k : Kind) (colon : Bool) → same_kind k (Sign UnderscoreSign) ≡ false → colon ≡ false → (same_kind k (Sign UnderscoreSign) || (same_kind k Name && colon)) ≡ false
+no_binder k colon h e = or_false (same_kind k (Sign UnderscoreSign)) (same_kind k Name && colon) h (and_false (same_kind k Name) colon e)
 
 -- what follows the name that stands first in brackets
 ends_name : Kind → Bool
@@ -56,43 +63,43 @@ first_no_colon (t ∷ ts) h = name_no_colon t.kind h
 is_open : Kind → Bool
 is_open k = same_kind k (Sign OpenParenSign)
 
-open_no_binder : (k : Kind) → is_open k ≡ true → begins_binder k ≡ false
+open_no_binder : (k : Kind) (colon : Bool) → is_open k ≡ true → (same_kind k (Sign UnderscoreSign) || (same_kind k Name && colon)) ≡ false
 unfolding is_open
-open_no_binder Name h = absurd (let no : false ≡ true = h in cc)
-open_no_binder (Sign UnderscoreSign) h = absurd (let no : false ≡ true = h in cc)
-open_no_binder _ h = refl
+open_no_binder Name colon h = absurd (let no : false ≡ true = h in cc)
+open_no_binder (Sign UnderscoreSign) colon h = absurd (let no : false ≡ true = h in cc)
+open_no_binder _ colon h = refl
 
 name_no_open : (k : Kind) → begins_mono_name k ≡ true → same_kind k (Sign OpenParenSign) ≡ false
 name_no_open (Sign OpenParenSign) h = absurd (let no : false ≡ true = h in cc)
 name_no_open _ h = refl
 
-bracket_first : (ts : List Token) → first_is is_open ts ≡ true → binder_and_colon ts ≡ false
+bracket_first : (ts : List Token) → first_is is_open ts ≡ true → function_binder ts ≡ false
 bracket_first [] h = refl
-bracket_first (t ∷ ts) h = false_and (begins_binder t.kind) (first_is is_colon ts) (open_no_binder t.kind h)
+bracket_first (t ∷ ts) h = open_no_binder t.kind (first_is is_colon ts) h
 
 name_first : (ts : List Token) → first_is begins_mono_name ts ≡ true → starts_function ts ≡ false
 name_first [] h = refl
-name_first (t ∷ ts) h = false_and (same_kind t.kind (Sign OpenParenSign)) (binder_and_colon ts) (name_no_open t.kind h)
+name_first (t ∷ ts) h = false_and (same_kind t.kind (Sign OpenParenSign)) (function_binder ts) (name_no_open t.kind h)
 
-one_name : (lim : Limits) (l : ℕ) (x : MonoName) (ts mid : List Token) → Spells lim (Grammar.mono_name l x) ts mid → (t : Token) × (ts ≡ t ∷ mid)
-one_name lim l (mono_names.Word at) ts mid s = (s.0, s.2 ∙ ap (λ us. s.0 ∷ us) s.5)
-one_name lim l (mono_names.Bool at) ts mid s = (s.0, s.2 ∙ ap (λ us. s.0 ∷ us) s.5)
-one_name lim l (mono_names.Loc at) ts mid s = (s.0, s.2 ∙ ap (λ us. s.0 ∷ us) s.5)
-one_name lim l (mono_names.Unit at) ts mid s = (s.0, s.2 ∙ ap (λ us. s.0 ∷ us) s.5)
-one_name lim l (mono_names.Name span) ts mid s = (s.0, s.2 ∙ ap (λ us. s.0 ∷ us) s.5)
+one_name : (lim : Limits) (l : ℕ) (x : MonoName) (ts mid : List Token) → Spells lim (Grammar.mono_name l x) ts mid → (t : Token) × (ts ≡ t ∷ mid) × (same_kind t.kind (Sign UnderscoreSign) ≡ false)
+one_name lim l (mono_names.Word at) ts mid s = (s.0, s.2 ∙ ap (λ us. s.0 ∷ us) s.5, ap (λ k. same_kind k (Sign UnderscoreSign)) s.3.kind)
+one_name lim l (mono_names.Bool at) ts mid s = (s.0, s.2 ∙ ap (λ us. s.0 ∷ us) s.5, ap (λ k. same_kind k (Sign UnderscoreSign)) s.3.kind)
+one_name lim l (mono_names.Loc at) ts mid s = (s.0, s.2 ∙ ap (λ us. s.0 ∷ us) s.5, ap (λ k. same_kind k (Sign UnderscoreSign)) s.3.kind)
+one_name lim l (mono_names.Unit at) ts mid s = (s.0, s.2 ∙ ap (λ us. s.0 ∷ us) s.5, ap (λ k. same_kind k (Sign UnderscoreSign)) s.3.kind)
+one_name lim l (mono_names.Name span) ts mid s = (s.0, s.2 ∙ ap (λ us. s.0 ∷ us) s.5, ap (λ k. same_kind k (Sign UnderscoreSign)) s.3.kind)
 
 -- no colon follows the binder with which brackets seem to begin
-inside_no_colon : (lim : Limits) (l : ℕ) (m : MonoTree) (ns : List Mark) (ts rest : List Token) → Leads ends_name ns → Spells lim (Grammar.mono l m ⨟ ns) ts rest → binder_and_colon ts ≡ false
+inside_no_colon : (lim : Limits) (l : ℕ) (m : MonoTree) (ns : List Mark) (ts rest : List Token) → Leads ends_name ns → Spells lim (Grammar.mono l m ⨟ ns) ts rest → function_binder ts ≡ false
 unfolding Grammar.mono ends_name is_open
 inside_no_colon lim l (m_factor (m_name x)) ns ts rest leads s =
     let parts = split lim (Grammar.mono_name l x) ns ts rest s in
     let one = one_name lim l x ts parts.0 parts.1 in
-    ap binder_and_colon one.1 ∙ and_false (begins_binder one.0.kind) (first_is is_colon parts.0) (first_no_colon parts.0 (first_token lim ends_name ns parts.0 rest leads parts.2))
+    ap function_binder one.1 ∙ no_binder one.0.kind (first_is is_colon parts.0) one.2 (first_no_colon parts.0 (first_token lim ends_name ns parts.0 rest leads parts.2))
 inside_no_colon lim l (m_pair (m_name x) r) ns ts rest leads s =
     let whole = split lim (Grammar.mono_name l x ⨟ (sign l StarSign ⨟ Grammar.mono (suc l) r)) ns ts rest s in
     let parts = split lim (Grammar.mono_name l x) (sign l StarSign ⨟ Grammar.mono (suc l) r) ts whole.0 whole.1 in
     let one = one_name lim l x ts parts.0 parts.1 in
-    ap binder_and_colon one.1 ∙ and_false (begins_binder one.0.kind) (first_is is_colon parts.0) (first_no_colon parts.0 (first_token lim ends_name (sign l StarSign ⨟ Grammar.mono (suc l) r) parts.0 whole.0 (leads_mark ends_name _ _ refl) parts.2))
+    ap function_binder one.1 ∙ no_binder one.0.kind (first_is is_colon parts.0) one.2 (first_no_colon parts.0 (first_token lim ends_name (sign l StarSign ⨟ Grammar.mono (suc l) r) parts.0 whole.0 (leads_mark ends_name _ _ refl) parts.2))
 inside_no_colon lim l (m_factor (m_brackets at m)) ns ts rest leads s =
     bracket_first ts (first_token lim is_open _ ts rest (leads_then is_open _ ns (leads_mark is_open _ _ refl)) s)
 inside_no_colon lim l (m_pair (m_brackets at m) r) ns ts rest leads s =
@@ -101,7 +108,7 @@ inside_no_colon lim l (m_pair (m_brackets at m) r) ns ts rest leads s =
 bracketed_no_function : (lim : Limits) (l at : ℕ) (m : MonoTree) (ts rest : List Token) → Spells lim (sign_at l OpenParenSign at ⨟ (Grammar.mono l m ⨟ sign l CloseParenSign)) ts rest → starts_function ts ≡ false
 unfolding ◌⨟◌ ends_name
 bracketed_no_function lim l at m ts rest s =
-    ap starts_function s.2 ∙ and_false (same_kind s.0.kind (Sign OpenParenSign)) (binder_and_colon s.1) (inside_no_colon lim l m (sign l CloseParenSign) s.1 rest refl s.5)
+    ap starts_function s.2 ∙ and_false (same_kind s.0.kind (Sign OpenParenSign)) (function_binder s.1) (inside_no_colon lim l m (sign l CloseParenSign) s.1 rest refl s.5)
 
 -- a monotype isn't taken for the type of a function
 mono_no_function : (lim : Limits) (l : ℕ) (m : MonoTree) (ts rest : List Token) → Spells lim (Grammar.mono l m) ts rest → starts_function ts ≡ false
@@ -124,7 +131,7 @@ of_other d starts gets = record { reads = λ ts rest short s stops. ap (λ b. co
 
 other_first : (lim : Limits) (m : Mark) (ns : List Mark) (ts rest : List Token) → same_kind m.kind (Sign OpenParenSign) ≡ false → Spells lim ((m ∷ []) ⨟ ns) ts rest → starts_function ts ≡ false
 unfolding ◌⨟◌
-other_first lim m ns ts rest other s = ap starts_function s.2 ∙ false_and (same_kind s.0.kind (Sign OpenParenSign)) (binder_and_colon s.1) (ap (λ k. same_kind k (Sign OpenParenSign)) s.3.kind ∙ other)
+other_first lim m ns ts rest other s = ap starts_function s.2 ∙ false_and (same_kind s.0.kind (Sign OpenParenSign)) (function_binder s.1) (ap (λ k. same_kind k (Sign OpenParenSign)) s.3.kind ∙ other)
 
 -- ---- which first tokens are not chosen
 

@@ -18,15 +18,15 @@ use Rattle.htt_grammar.proofs.Files.{knows, file_gets}
 
 -- ---- limits that are wide enough
 
-levels : List Mark → ℕ
+pub levels : List Mark → ℕ
 levels [] = 0
 levels (m ∷ ms) = m.level + levels ms
 
-operands : List Mark → ℕ
+pub operands : List Mark → ℕ
 operands [] = 0
 operands (m ∷ ms) = m.operand + operands ms
 
-within : (ms : List Mark) (lim : Limits) → levels ms ≤ lim.nesting → operands ms ≤ lim.chain → AllWithin lim ms
+pub within : (ms : List Mark) (lim : Limits) → levels ms ≤ lim.nesting → operands ms ≤ lim.chain → AllWithin lim ms
 unfolding levels operands
 within [] lim deep far = tt
 within (m ∷ ms) lim deep far = (record { level = omega (arith, deep); operand = omega (arith, far) }, within ms lim (omega (arith, deep)) (omega (arith, far)))

@@ -1,6 +1,6 @@
 -- The readers of types, terms, computations and formulas. Each takes the readers of the phrases one
 -- level deeper.
-use Rattle.std.specs.Prelude.{ℕ, zero, suc, List, [], ◌∷◌, Bool, false, ◌&&◌, Option, Some, None, cond}
+use Rattle.std.specs.Prelude.{ℕ, zero, suc, List, [], ◌∷◌, Bool, false, ◌&&◌, ◌||◌, Option, Some, None, cond}
 use Rattle.htt_tokens.specs.declared.tokens.Kind.{Kind}
 use Rattle.htt_tokens.specs.declared.tokens.Kind.TheVariants.{Name, Number, Keyword, Sign}
 use Rattle.htt_tokens.specs.declared.tokens.Token.{Token}
@@ -17,7 +17,7 @@ use Rattle.raw_trees.specs.declared.tree.RawHeap.{RawHeap}
 use Rattle.raw_trees.specs.declared.tree.RawHeap.TheVariants as heaps
 use Rattle.raw_trees.specs.Trees.{with_right, ProdSign, SumSign, MonoTree, m_name, m_brackets, TyTree, TripleTree, TermTree, ParamTrees, RelTree, SumTree, SumRestTree, ProdTree, ProdRestTree, ApplTree, PartTrees, AtomTree, CompTree, StepTree, FormulaTree, SortTree, DisjTree, ConjTree, StarTree, FatomTree, TermTrees, ProofTree, y_fun, y_all, y_hoare, y_mono, triple_of, t_fun, t_fun_mono, t_do, t_fix, t_rel, no_params, more_params, r_sum, r_less, s_sum, s_end, s_more, x_prod, x_end, x_more, l_unary, l_apply, no_parts, atom_part, mono_part, a_name, a_number, a_true, a_false, a_null, a_place, a_eq, a_sel, a_unit, a_brackets, a_pair, a_annotated, c_ret, c_step, s_alloc, s_get, s_set, s_free, s_if, s_claim, s_run, f_all, f_ex, f_disj, f_implies, over_mono, over_heap, d_conj, d_or, j_star, j_and, k_fatom, k_times, g_tt, g_ff, g_emp, g_brackets, g_at_heap, g_emp_of, g_same, g_join, g_cell, g_block, g_use, g_use_at, g_use_at_heap, g_eq, g_points, g_points_any, no_terms, more_terms}
 use Rattle.htt_grammar.specs.Readers.{Reader, too_long, give, ◌>>=◌, refuse, stop, either, first_is, if_first, measured, same_kind, that, token, after_commas}
-use Rattle.htt_grammar.specs.Beginnings.{begins_binder, begins_mono, begins_atom, begins_appl, sum_sign_of, prod_sign_of}
+use Rattle.htt_grammar.specs.Beginnings.{begins_mono, begins_atom, begins_appl, sum_sign_of, prod_sign_of}
 
 -- how the phrases one level deeper are read, and how many operands a chain may have after the first
 pub record Deeper : Type 0 where
@@ -257,17 +257,17 @@ term_at d = either (term_case d) (rel_term_on d)
 
 -- ---- types
 
--- a type that begins with `(`, a name or `_`, and `:` is that of a function
+-- a type that begins with `(` and `_`, or with `(`, a name and `:`, is that of a function
 abbrev pub is_colon : Kind → Bool
 is_colon k = same_kind k (Sign ColonSign)
 
-abbrev pub binder_and_colon : List Token → Bool
-binder_and_colon [] = false
-binder_and_colon (b ∷ tokens) = begins_binder b.kind && first_is is_colon tokens
+abbrev pub function_binder : List Token → Bool
+function_binder [] = false
+function_binder (b ∷ tokens) = same_kind b.kind (Sign UnderscoreSign) || (same_kind b.kind Name && first_is is_colon tokens)
 
 abbrev pub starts_function : List Token → Bool
 starts_function [] = false
-starts_function (a ∷ tokens) = same_kind a.kind (Sign OpenParenSign) && binder_and_colon tokens
+starts_function (a ∷ tokens) = same_kind a.kind (Sign OpenParenSign) && function_binder tokens
 
 abbrev pub function_on : Deeper → ℕ → Reader TyTree
 function_on d at = a_binder >>= (λ b. token (Sign ColonSign) >>= (λ _. d.ty >>= (λ a. token (Sign CloseParenSign) >>= (λ _. token (Sign ArrowSign) >>= (λ _. d.ty >>= (λ c. give (y_fun at b a c)))))))

@@ -49,14 +49,14 @@ trusts lim further (suc n) l chain room =
     }
 
 module _ {lim : Limits} (d : Deeper) (here : Stands lim 0) (trust : Trusts lim d 1) where
-  mono_parameter_tells : Tells lim (mono_parameter_at d) Grammar.mono_parameter
+  pub mono_parameter_tells : Tells lim (mono_parameter_at d) Grammar.mono_parameter
   unfolding mono_parameter_at ◌⨟◌
   mono_parameter_tells = alone (told_then _ (name_tells 0 here) (λ x. skip 0 here ColonSign _ (told_last (mono_param x) trust.mono (λ m. refl))))
 
-  some_parameters_tell : Tells lim (if_first is_close (give []) (mono_parameter_at d >>= (λ p. measured (after_commas (Sign CommaSign) (mono_parameter_at d)) >>= (λ ps. give (p ∷ ps))))) (separated (sign 0 CommaSign) Grammar.mono_parameter)
+  pub some_parameters_tell : Tells lim (if_first is_close (give []) (mono_parameter_at d >>= (λ p. measured (after_commas (Sign CommaSign) (mono_parameter_at d)) >>= (λ ps. give (p ∷ ps))))) (separated (sign 0 CommaSign) Grammar.mono_parameter)
   some_parameters_tell = alone (told_first _ (told_give _ refl) (told_then _ mono_parameter_tells (λ p. told_last (λ ps. p ∷ ps) (more_tell 0 here (mono_parameter_at d) Grammar.mono_parameter mono_parameter_tells) (λ ps. refl))))
 
-  mono_parameters_tell : Tells lim (mono_parameters_at d) Grammar.mono_parameters
+  pub mono_parameters_tell : Tells lim (mono_parameters_at d) Grammar.mono_parameters
   unfolding mono_parameters_at ◌⨟◌
   mono_parameters_tell = alone (skip 0 here OpenParenSign _ (told_then _ some_parameters_tell (λ ps. skip 0 here CloseParenSign _ (told_give ps refl))))
 
@@ -80,7 +80,7 @@ module _ {lim : Limits} (d : Deeper) (here : Stands lim 0) (trust : Trusts lim d
   body_told (Keyword AutoWord) s = at_word 0 here AutoWord s _ (told_give _ refl)
   body_told _ s = tt
 
-  body_tells : Tells lim (body_at d) Grammar.body
+  pub body_tells : Tells lim (body_at d) Grammar.body
   unfolding body_at
   body_tells = alone (told_either _ body_told (told_last body_proof trust.proof (λ p. refl)))
 
@@ -97,7 +97,7 @@ module _ {lim : Limits} (d : Deeper) (here : Stands lim 0) (trust : Trusts lim d
   decl_told (Keyword ProofWord) s = at_word 0 here ProofWord s _ (told_then _ (name_tells 0 here) (λ x. skip 0 here DotSign _ (told_then _ (number_tells 0 here) (λ v. skip 0 here EqualSign _ (told_last (decl_proof s.from x v) body_tells (λ b. refl))))))
   decl_told _ s = tt
 
-  decl_tells : Tells lim (decl_at d) Grammar.decl
+  pub decl_tells : Tells lim (decl_at d) Grammar.decl
   unfolding decl_at
   decl_tells = alone (told_either _ decl_told told_stop)
 

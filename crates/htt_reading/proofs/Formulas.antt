@@ -57,7 +57,7 @@ module _ {lim : Limits} (d : Deeper) (l : ℕ) (here : Stands lim l) (trust : Tr
   relation_told m (Sign PointsToSign) s = a_sign' l here PointsToSign s _ (told_then _ (bracketed_tells d l here trust) (λ t. or_sign l here UnderscoreSign _ _ (told_give _ refl) (told_last (g_points m t) (rel_tells d l here trust) (λ n. refl))))
   relation_told m _ s = tt
 
-  fatom_tells : Tells lim (fatom_at d) (Grammar.fatom l)
+  pub fatom_tells : Tells lim (fatom_at d) (Grammar.fatom l)
   unfolding fatom_at
   fatom_tells = alone (told_either _ fatom_told (told_then _ (rel_tells d l here trust) (λ m. told_either _ (relation_told m) told_stop)))
 
@@ -73,7 +73,7 @@ module _ {lim : Limits} (d : Deeper) (l : ℕ) (here : Stands lim l) (trust : Tr
   unfolding disj_at Grammar.term ◌⨟◌
   disj_tells = alone (told_then _ conj_tells (λ f. or_sign l here OrSign _ _ (told_last (d_or f) trust.disj (λ s. refl)) (told_give _ (append-nil (Grammar.conj l f)))))
 
-  sort_tells : Tells lim (sort_at d) (Grammar.sort l)
+  pub sort_tells : Tells lim (sort_at d) (Grammar.sort l)
   unfolding sort_at Grammar.term ◌⨟◌
   sort_tells = alone (or_word l here HeapWord _ _ (told_give _ refl) (told_last over_mono (mono_tells d l here trust) (λ m. refl)))
 

@@ -22,28 +22,28 @@ module _ {lim : Limits} (d : Deeper) (l : ℕ) (here : Stands lim l) (trust : Tr
   arg_told (Sign AtSign) s = at_sign l here AtSign s _ (told_last (arg_heap s.from) (heap_tells l here) (λ h. refl))
   arg_told _ s = tt
 
-  arg_tells : Tells lim (arg_at d) (Grammar.arg l)
+  pub arg_tells : Tells lim (arg_at d) (Grammar.arg l)
   unfolding arg_at
   arg_tells = alone (told_either _ arg_told (told_last arg_term trust.term (λ m. refl)))
 
-  more_args_tell : Tells lim (more_args d) (each_after (sign l CommaSign) (Grammar.arg l))
+  pub more_args_tell : Tells lim (more_args d) (each_after (sign l CommaSign) (Grammar.arg l))
   unfolding more_args
   more_args_tell = more_tell l here (arg_at d) (Grammar.arg l) arg_tells
 
-  args_tell : Tells lim (args_there d) (Grammar.args l)
+  pub args_tell : Tells lim (args_there d) (Grammar.args l)
   unfolding args_there
   args_tell = alone (told_first _ (told_give _ refl) (told_then _ arg_tells (λ a. told_last (λ more. a ∷ more) more_args_tell (λ more. refl))))
 
-  motive_tells : Tells lim (motive_at d) (Grammar.motive l)
+  pub motive_tells : Tells lim (motive_at d) (Grammar.motive l)
   unfolding motive_at ◌⨟◌
   motive_tells = alone (told_then _ (binder_tells l here) (λ b. skip l here DotSign _ (skip l here OpenBracketSign _ (told_then _ trust.formula (λ f. skip l here CloseBracketSign _ (told_give _ refl))))))
 
-  args_on_tell : (m k : ℕ) → k + m ≤ suc lim.chain → Tells lim (args_on d m) (Grammar.args_after l k)
+  pub args_on_tell : (m k : ℕ) → k + m ≤ suc lim.chain → Tells lim (args_on d m) (Grammar.args_after l k)
   unfolding args_on ◌⨟◌
   args_on_tell zero k room = alone (or_sign l here CommaSign _ _ (told_refuse _ _) (told_give _ refl))
   args_on_tell (suc m) k room = alone (or_sign l here CommaSign _ _ (told_then _ (numbered_tells k (chain_now k m lim.chain room) arg_tells) (λ a. told_last (λ more. a ∷ more) (args_on_tell m (suc k) (chain_next k m lim.chain room)) (λ more. refl))) (told_give _ refl))
 
-  proofs_on_tell : (m k : ℕ) → k + m ≤ suc lim.chain → Tells lim (proofs_on d m) (Grammar.proofs_after l k)
+  pub proofs_on_tell : (m k : ℕ) → k + m ≤ suc lim.chain → Tells lim (proofs_on d m) (Grammar.proofs_after l k)
   unfolding proofs_on Grammar.proof ◌⨟◌
   proofs_on_tell zero k room = alone (or_sign l here CommaSign _ _ (told_refuse _ _) (told_give _ refl))
   proofs_on_tell (suc m) k room = alone (or_sign l here CommaSign _ _ (told_then _ (numbered_tells k (chain_now k m lim.chain room) trust.proof) (λ a. told_last (more_proofs a) (proofs_on_tell m (suc k) (chain_next k m lim.chain room)) (λ more. refl))) (told_give _ refl))
@@ -109,10 +109,18 @@ module _ {lim : Limits} (d : Deeper) (l : ℕ) (here : Stands lim l) (trust : Tr
   stmt_told (Keyword HaveWord) s = at_word l here HaveWord s _ (told_then _ (name_tells l here) (λ u. skip l here ColonSign _ (skip l here OpenBracketSign _ (told_then _ trust.formula (λ f. skip l here CloseBracketSign _ (skip l here EqualSign _ (told_then _ trust.proof (λ p. skip l here SemicolonSign _ (told_give _ refl)))))))))
   stmt_told _ s = tt
 
-  proof_on_tells : (n : ℕ) → Tells lim (proof_on d n) (Grammar.proof l)
-  unfolding proof_on stmt_at end_at Grammar.proof
+  pub end_tells : Tells lim (end_at d) (Grammar.ending l)
+  unfolding end_at
+  end_tells = alone (told_either _ end_told told_stop)
+
+  pub stmt_tells : Tells lim (stmt_at d) (Grammar.stmt l)
+  unfolding stmt_at
+  stmt_tells = alone (told_either _ stmt_told told_stop)
+
+  pub proof_on_tells : (n : ℕ) → Tells lim (proof_on d n) (Grammar.proof l)
+  unfolding proof_on Grammar.proof
   proof_on_tells zero = alone told_stop
-  proof_on_tells (suc n) = alone (told_first _ (told_then _ (alone (told_either _ stmt_told told_stop)) (λ s. told_last (p_step s) (proof_on_tells n) (λ p. refl))) (told_last p_end (alone (told_either _ end_told told_stop)) (λ e. refl)))
+  proof_on_tells (suc n) = alone (told_first _ (told_then _ stmt_tells (λ s. told_last (p_step s) (proof_on_tells n) (λ p. refl))) (told_last p_end end_tells (λ e. refl)))
 
   pub proof_tells : Tells lim (proof_at d) (Grammar.proof l)
   unfolding proof_at

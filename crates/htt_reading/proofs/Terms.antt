@@ -28,7 +28,7 @@ chain_now k m chain h = omega (arith, h)
 module _ {lim : Limits} (d : Deeper) (l : ℕ) (here : Stands lim l) (trust : Trusts lim d (suc l)) where
   -- ---- lists of terms
 
-  terms_on_tell : (n : ℕ) → Tells lim (terms_on d n) (Grammar.terms_after l)
+  pub terms_on_tell : (n : ℕ) → Tells lim (terms_on d n) (Grammar.terms_after l)
   unfolding terms_on Grammar.term ◌⨟◌
   terms_on_tell zero = alone (told_give _ refl)
   terms_on_tell (suc n) = alone (or_sign l here CommaSign _ _ (told_then _ trust.term (λ m. told_last (more_terms m) (terms_on_tell n) (λ ms. refl))) (told_give _ refl))
@@ -77,7 +77,7 @@ module _ {lim : Limits} (d : Deeper) (l : ℕ) (here : Stands lim l) (trust : Tr
   part_told n next within more (Sign OpenBracketSign) s = a_sign' l here OpenBracketSign s _ (told_then _ (numbered_tells n within (mono_tells d l here trust)) (λ m. skip l here CloseBracketSign _ (told_last (mono_part m) more (λ ps. refl))))
   part_told n next within more _ s = tt
 
-  parts_tell : (m k : ℕ) → k + m ≤ suc lim.chain → Tells lim (parts_on d m) (Grammar.parts l k)
+  pub parts_tell : (m k : ℕ) → k + m ≤ suc lim.chain → Tells lim (parts_on d m) (Grammar.parts l k)
   unfolding parts_on Grammar.term ◌⨟◌
   parts_tell zero k room = alone (told_either _ (no_part_told k) (told_first _ (told_refuse _ _) (told_give _ refl)))
   parts_tell (suc m) k room =
@@ -106,12 +106,12 @@ module _ {lim : Limits} (d : Deeper) (l : ℕ) (here : Stands lim l) (trust : Tr
   prod_sign_told n next told (Sign ShiftRightSign) s = a_sign' l here ShiftRightSign s _ (told shift_right)
   prod_sign_told n next told _ s = tt
 
-  prod_rest_tells : (m k : ℕ) → k + m ≤ suc lim.chain → Tells lim (prod_on d m) (Grammar.prod_rest l k)
+  pub prod_rest_tells : (m k : ℕ) → k + m ≤ suc lim.chain → Tells lim (prod_on d m) (Grammar.prod_rest l k)
   unfolding prod_on Grammar.term ◌⨟◌
   prod_rest_tells zero k room = alone (told_either _ (prod_sign_told k _ (λ o. told_refuse _ _)) (told_give _ refl))
   prod_rest_tells (suc m) k room = alone (told_either _ (prod_sign_told k _ (λ o. told_then _ (numbered_tells k (chain_now k m lim.chain room) appl_tells) (λ a. told_last (x_more o a) (prod_rest_tells m (suc k) (chain_next k m lim.chain room)) (λ rest. refl)))) (told_give _ refl))
 
-  prod_tells : Tells lim (prod_at d) (Grammar.prod l)
+  pub prod_tells : Tells lim (prod_at d) (Grammar.prod l)
   unfolding prod_at Grammar.term
   prod_tells = alone (told_then _ appl_tells (λ a. told_last (x_prod a) (prod_rest_tells d.further 2 all_room) (λ rest. refl)))
 
@@ -122,12 +122,12 @@ module _ {lim : Limits} (d : Deeper) (l : ℕ) (here : Stands lim l) (trust : Tr
   sum_sign_told n next told (Sign CaretSign) s = a_sign' l here CaretSign s _ (told caret)
   sum_sign_told n next told _ s = tt
 
-  sum_rest_tells : (m k : ℕ) → k + m ≤ suc lim.chain → Tells lim (sum_on d m) (Grammar.sum_rest l k)
+  pub sum_rest_tells : (m k : ℕ) → k + m ≤ suc lim.chain → Tells lim (sum_on d m) (Grammar.sum_rest l k)
   unfolding sum_on Grammar.term ◌⨟◌
   sum_rest_tells zero k room = alone (told_either _ (sum_sign_told k _ (λ o. told_refuse _ _)) (told_give _ refl))
   sum_rest_tells (suc m) k room = alone (told_either _ (sum_sign_told k _ (λ o. told_then _ (numbered_tells k (chain_now k m lim.chain room) prod_tells) (λ a. told_last (s_more o a) (sum_rest_tells m (suc k) (chain_next k m lim.chain room)) (λ rest. refl)))) (told_give _ refl))
 
-  sum_tells : Tells lim (sum_at d) (Grammar.sum l)
+  pub sum_tells : Tells lim (sum_at d) (Grammar.sum l)
   unfolding sum_at Grammar.term
   sum_tells = alone (told_then _ prod_tells (λ a. told_last (s_sum a) (sum_rest_tells d.further 2 all_room) (λ rest. refl)))
 
@@ -141,7 +141,7 @@ module _ {lim : Limits} (d : Deeper) (l : ℕ) (here : Stands lim l) (trust : Tr
   unfolding triple_at Grammar.term ◌⨟◌
   triple_tells = alone (told_then _ trust.formula (λ p. skip l here CloseBraceSign _ (told_then _ (binder_tells l here) (λ b. skip l here ColonSign _ (told_then _ (mono_tells d l here trust) (λ m. skip l here OpenBraceSign _ (told_then _ trust.formula (λ q. skip l here CloseBraceSign _ (told_give _ refl)))))))))
 
-  params_tell : (n : ℕ) → Tells lim (params_on d n) (Grammar.params l)
+  pub params_tell : (n : ℕ) → Tells lim (params_on d n) (Grammar.params l)
   unfolding params_on Grammar.term ◌⨟◌
   params_tell zero = alone (told_give _ refl)
   params_tell (suc n) = alone (or_sign l here OpenParenSign _ _ (told_then _ (binder_tells l here) (λ b. skip l here ColonSign _ (told_then _ trust.ty (λ a. skip l here CloseParenSign _ (told_last (more_params b a) (params_tell n) (λ ps. refl)))))) (told_give _ refl))
@@ -171,11 +171,11 @@ module _ {lim : Limits} (d : Deeper) (l : ℕ) (here : Stands lim l) (trust : Tr
   step_told (Keyword ClaimWord) s = a_word l here ClaimWord s _ (skip l here OpenBraceSign _ (told_then _ trust.formula (λ p. skip l here CloseBraceSign _ (told_give _ refl))))
   step_told _ s = tt
 
-  step_tells : Tells lim (step_at d) (Grammar.step l)
+  pub step_tells : Tells lim (step_at d) (Grammar.step l)
   unfolding step_at Grammar.term
   step_tells = alone (told_either _ step_told (told_last s_run appl_tells (λ a. refl)))
 
-  comp_on_tells : (n : ℕ) → Tells lim (comp_on d n) (Grammar.comp l)
+  pub comp_on_tells : (n : ℕ) → Tells lim (comp_on d n) (Grammar.comp l)
   unfolding comp_on Grammar.term ◌⨟◌
   comp_on_tells zero = alone told_stop
   comp_on_tells (suc n) = alone (or_word l here RetWord _ _ (told_last c_ret trust.term (λ m. refl)) (told_then _ (binder_tells l here) (λ b. skip l here LeftArrowSign _ (told_then _ step_tells (λ s. skip l here SemicolonSign _ (told_last (c_step b s) (comp_on_tells n) (λ e. refl)))))))

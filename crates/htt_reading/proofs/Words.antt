@@ -70,7 +70,7 @@ module _ {lim : Limits} (l : ℕ) (here : Stands lim l) where
     pub or_word : (w : a_keyword.Keyword) (next otherwise : Reader A) → Told lim (λ ns. round (word l w ⨟ ns)) next marks → Told lim round otherwise marks → Told lim round (either (that (Keyword w) next) otherwise) marks
     or_word w next otherwise then other = told_that (record { kind = Keyword w; at = None; span = None; level = l; operand = 1 }) refl refl (within_here _ refl refl) next otherwise then other
 
-  token_tells : (w : a_sign.Sign) → Tells lim (token (Sign w)) (λ _. sign l w)
+  pub token_tells : (w : a_sign.Sign) → Tells lim (token (Sign w)) (λ _. sign l w)
   unfolding token ◌⨟◌
   token_tells w = alone (or_sign w (give tt) stop (told_give tt refl) told_stop)
 
@@ -108,7 +108,7 @@ module _ {lim : Limits} (l : ℕ) (here : Stands lim l) where
       cases (Number v) s = a_number' v s _ (told_give _ refl)
       cases _ s = tt
 
-  over_tells : Tells lim over_there (Grammar.over l)
+  pub over_tells : Tells lim over_there (Grammar.over l)
   unfolding over_there ◌⨟◌
   over_tells = alone (or_sign CaretSign _ _ (told_last Some number_tells (λ x. refl)) (told_give _ refl))
 
@@ -124,7 +124,7 @@ module _ {lim : Limits} (l : ℕ) (here : Stands lim l) where
 
   -- ---- lists with commas
 
-  commas_tell : {A : Type 0} (r : Reader A) (marks : A → List Mark) → Tells lim r marks → (n : ℕ) → Tells lim (after_commas (Sign CommaSign) r n) (each_after (sign l CommaSign) marks)
+  pub commas_tell : {A : Type 0} (r : Reader A) (marks : A → List Mark) → Tells lim r marks → (n : ℕ) → Tells lim (after_commas (Sign CommaSign) r n) (each_after (sign l CommaSign) marks)
   unfolding after_commas each_after ◌⨟◌
   commas_tell r marks item zero = alone (told_give _ refl)
   commas_tell r marks item (suc n) = alone (or_sign CommaSign _ _ (told_then _ item (λ x. told_last (λ xs. x ∷ xs) (commas_tell r marks item n) (λ xs. refl))) (told_give _ refl))
@@ -135,27 +135,27 @@ module _ {lim : Limits} (l : ℕ) (here : Stands lim l) where
 -- ---- monotypes
 
 -- the marks of the brackets that are open, the outermost first, before others
-opened : ℕ → List ℕ → List Mark → List Mark
+unfoldable pub opened : ℕ → List ℕ → List Mark → List Mark
 opened l [] ns = ns
 opened l (at ∷ opens) ns = opened l opens (sign_at l OpenParenSign at ⨟ ns)
 
 -- the marks of what stands at the right of a factor
-right_marks : ℕ → Option MonoTree → List Mark
+unfoldable pub right_marks : ℕ → Option MonoTree → List Mark
 right_marks l None = []
 right_marks l (Some m) = sign l StarSign ⨟ Grammar.mono (suc l) m
 
-with_right_marks : (l : ℕ) (f : FactorTree) (r : Option MonoTree) → Grammar.mono l (with_right f r) ≡ Grammar.factor l f ⨟ right_marks l r
+pub with_right_marks : (l : ℕ) (f : FactorTree) (r : Option MonoTree) → Grammar.mono l (with_right f r) ≡ Grammar.factor l f ⨟ right_marks l r
 unfolding right_marks Grammar.mono ◌⨟◌
 with_right_marks l f None = sym (append-nil (Grammar.factor l f))
 with_right_marks l f (Some m) = refl
 
-in_brackets_again : (l at : ℕ) (m : MonoTree) (r : Option MonoTree) (ns : List Mark) → Grammar.mono l (with_right (m_brackets at m) r) ⨟ ns ≡ sign_at l OpenParenSign at ⨟ (Grammar.mono l m ⨟ (sign l CloseParenSign ⨟ (right_marks l r ⨟ ns)))
+pub in_brackets_again : (l at : ℕ) (m : MonoTree) (r : Option MonoTree) (ns : List Mark) → Grammar.mono l (with_right (m_brackets at m) r) ⨟ ns ≡ sign_at l OpenParenSign at ⨟ (Grammar.mono l m ⨟ (sign l CloseParenSign ⨟ (right_marks l r ⨟ ns)))
 unfolding Grammar.factor ◌⨟◌
 in_brackets_again l at m r ns =
     ap (λ ms. ms ++ ns) (with_right_marks l (m_brackets at m) r)
     ∙ ap (λ ms. sign_at l OpenParenSign at ++ ms) (append_assoc (Grammar.mono l m ++ sign l CloseParenSign) (right_marks l r) ns ∙ append_assoc (Grammar.mono l m) (sign l CloseParenSign) (right_marks l r ++ ns))
 
-after_name : (l : ℕ) (x : MonoName) (r : Option MonoTree) (ns : List Mark) → Grammar.mono l (with_right (m_name x) r) ⨟ ns ≡ Grammar.mono_name l x ⨟ (right_marks l r ⨟ ns)
+pub after_name : (l : ℕ) (x : MonoName) (r : Option MonoTree) (ns : List Mark) → Grammar.mono l (with_right (m_name x) r) ⨟ ns ≡ Grammar.mono_name l x ⨟ (right_marks l r ⨟ ns)
 unfolding Grammar.factor ◌⨟◌
 after_name l x r ns = ap (λ ms. ms ++ ns) (with_right_marks l (m_name x) r) ∙ append_assoc (Grammar.mono_name l x) (right_marks l r) ns
 
@@ -169,10 +169,10 @@ module _ {lim : Limits} (d : Deeper) (l : ℕ) (here : Stands lim l) (trust : Tr
   mono_name_told (Keyword UnitWord) s = at_word l here UnitWord s _ (told_give _ refl)
   mono_name_told _ s = tt
 
-  mono_name_tells : Tells lim (either mono_name_case stop) (Grammar.mono_name l)
+  pub mono_name_tells : Tells lim (either mono_name_case stop) (Grammar.mono_name l)
   mono_name_tells = alone (told_either _ mono_name_told told_stop)
 
-  right_tells : Tells lim (mono_right d) (right_marks l)
+  pub right_tells : Tells lim (mono_right d) (right_marks l)
   unfolding mono_right right_marks ◌⨟◌
   right_tells = alone (or_sign l here StarSign _ _ (told_last Some trust.mono (λ m. refl)) (told_give None refl))
 

@@ -1,0 +1,4 @@
+pub mod Places
+pub mod Phrases
+pub mod Files
+pub mod One

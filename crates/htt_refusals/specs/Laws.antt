@@ -1,0 +1,52 @@
+-- A reader stops at the first token with which what was read can't go on, for the right reason.
+use Rattle.std.specs.Prelude.{◌≡◌, List, ◌∷◌, Ok, Err}
+use Rattle.htt_tokens.specs.declared.tokens.Token.{Token}
+use Rattle.raw_trees.specs.Trees.{MonoTree, FormulaTree, ProofTree}
+use Rattle.htt_grammar.specs.Marks.{Mark}
+use Rattle.htt_grammar.specs.Grammar.{mono, formula, proof}
+use Rattle.htt_grammar.specs.Derivations.{IsFormulaWithin, IsProofWithin}
+use Rattle.htt_grammar.specs.Readers.{Halt}
+use Rattle.htt_reading.specs.Laws.{read_mono, read_formula, read_proof, read_file, IsMonoWithin}
+use Rattle.htt_refusals.specs.Refusals.{Refusal, FileRefusal, Ended}
+
+-- ---- a refused token
+
+abbrev pub MonoIsRefused : Type 0
+MonoIsRefused = (tokens : List Token) (halt : Halt) → read_mono tokens ≡ Err halt → Refusal (mono 1) tokens halt
+
+abbrev pub FormulaIsRefused : Type 0
+FormulaIsRefused = (tokens : List Token) (halt : Halt) → read_formula tokens ≡ Err halt → Refusal (formula 1) tokens halt
+
+abbrev pub ProofIsRefused : Type 0
+ProofIsRefused = (tokens : List Token) (halt : Halt) → read_proof tokens ≡ Err halt → Refusal (proof 1) tokens halt
+
+abbrev pub FileIsRefused : Type 0
+FileIsRefused = (tokens : List Token) (halt : Halt) → read_file tokens ≡ Err halt → FileRefusal tokens halt
+
+-- ---- a token behind a whole phrase
+
+abbrev pub MonoIsEnded : Type 0
+MonoIsEnded = (tokens : List Token) (tree : MonoTree) (token : Token) (rest : List Token) → read_mono tokens ≡ Ok (tree, token ∷ rest) → Ended IsMonoWithin (mono 1) tokens tree token rest
+
+abbrev pub FormulaIsEnded : Type 0
+FormulaIsEnded = (tokens : List Token) (tree : FormulaTree) (token : Token) (rest : List Token) → read_formula tokens ≡ Ok (tree, token ∷ rest) → Ended IsFormulaWithin (formula 1) tokens tree token rest
+
+abbrev pub ProofIsEnded : Type 0
+ProofIsEnded = (tokens : List Token) (tree : ProofTree) (token : Token) (rest : List Token) → read_proof tokens ≡ Ok (tree, token ∷ rest) → Ended IsProofWithin (proof 1) tokens tree token rest
+
+-- ---- a right refusal has one place
+
+abbrev pub OnePlace : {A : Type 0} → (A → List Mark) → Type 0
+OnePlace marks = (tokens : List Token) (halt other : Halt) → Refusal marks tokens halt → Refusal marks tokens other → halt.rest ≡ other.rest
+
+abbrev pub MonoHasOnePlace : Type 0
+MonoHasOnePlace = OnePlace (mono 1)
+
+abbrev pub FormulaHasOnePlace : Type 0
+FormulaHasOnePlace = OnePlace (formula 1)
+
+abbrev pub ProofHasOnePlace : Type 0
+ProofHasOnePlace = OnePlace (proof 1)
+
+abbrev pub FileHasOnePlace : Type 0
+FileHasOnePlace = (tokens : List Token) (halt other : Halt) → FileRefusal tokens halt → FileRefusal tokens other → halt.rest ≡ other.rest

@@ -1,0 +1,8 @@
+pub mod Halts
+pub mod Starts
+pub mod Words
+pub mod Terms
+pub mod Formulas
+pub mod Proofs
+pub mod Files
+pub mod Laws

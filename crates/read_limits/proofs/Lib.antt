@@ -1,0 +1,7 @@
+pub mod Bars
+pub mod Words
+pub mod Terms
+pub mod Formulas
+pub mod Proofs
+pub mod Files
+pub mod Laws

@@ -1,0 +1,144 @@
+-- The readers at every level, and those of declarations and files, follow one another.
+use Rattle.std.proofs.Common.{◌≡◌, ℕ, zero, suc, ◌+◌, ◌≤◌, List, [], ◌∷◌, ◌++◌, refl, sym, ◌∙◌, subst, arith}
+use Rattle.std.specs.Prelude.{Bool, true, false, Option, Some, None, Result, Ok, Err}
+use Rattle.htt_tokens.specs.declared.tokens.Kind.{Kind}
+use Rattle.htt_tokens.specs.declared.tokens.Kind.TheVariants.{Keyword, Sign}
+use Rattle.htt_tokens.specs.declared.tokens.Keyword.TheVariants.{TypeWord, PredWord, DefWord, ValWord, ProofWord, AutoWord, InductWord}
+use Rattle.htt_tokens.specs.declared.tokens.Sign.TheVariants.{OpenParenSign, CloseParenSign, OpenBracketSign, CloseBracketSign, OpenBraceSign, CloseBraceSign, CommaSign, ColonSign, DotSign, EqualSign}
+use Rattle.raw_trees.specs.declared.place.Span.{Span}
+use Rattle.raw_trees.specs.Trees.{TyTree, TermTree, mono_param, body_proof, DeclTree, decl_type, decl_pred, decl_def, decl_val, decl_proof}
+use Rattle.htt_grammar.specs.Marks.{Mark, Limits, ◌⨟◌, sign, word, name, separated, each_after}
+use Rattle.htt_grammar.specs.Readers.{measured, give, ◌>>=◌, if_first, after_commas}
+use Rattle.htt_grammar.specs.Phrases.{Deeper, a_name_there, is_close}
+use Rattle.htt_grammar.specs.Reading.{at_level, deeper, mono_parameter_at, mono_parameters_at, pred_on, induct_on, pred_case, body_case, body_at, typed_on, decl_case, decl_at, file_on}
+use Rattle.htt_grammar.specs.Readers.{Reader, Halt, expected, too_nested, too_long, too_many, measured, stop, either, refuse, if_first, after_commas}
+use Rattle.read_places.proofs.Follows.{Kept, Answers, Follows, Both, with_rest, follow_give, follow_stop, follow_refuse, follow_then, follow_either, follow_either_less, follow_eaten, follow_that, follow_that_less, follow_skip, follow_first, follow_measured}
+use Rattle.read_places.proofs.Refuses.{refuses_then, follow_refused}
+use Rattle.read_places.proofs.Words.{Refused, Follow, Chain, chain_less, chain_none, chain_more, binder_cases, binder_follows, name_follows, number_follows, heap_follows, mono_follows, more_follow, bracketed_follows, more_monos_follow}
+use Rattle.htt_grammar.specs.Reading.{too_deep}
+use Rattle.read_places.proofs.Refusing.{refused, decl_refuses}
+use Rattle.read_places.proofs.Terms.{term_follows, comp_follows, ty_follows}
+use Rattle.read_places.proofs.Formulas.{formula_follows, disj_follows, conj_follows, star_follows}
+use Rattle.read_places.proofs.Proofs.{proof_follows}
+
+one_level : {b : Bool} (d d' : Deeper) → Refused (at_level d') → Follow b d d' → Follow b (at_level d) (at_level d')
+one_level d d' refused trust = record {
+  further = trust.further;
+  refused = refused;
+  ty = ty_follows d d' trust;
+  term = term_follows d d' trust;
+  comp = comp_follows d d' trust;
+  formula = formula_follows d d' trust;
+  disj = disj_follows d d' trust;
+  conj = conj_follows d d' trust;
+  star = star_follows d d' trust;
+  mono = mono_follows d d' trust;
+  proof = proof_follows d d' trust;
+}
+
+-- where the limits are the same
+pub follow_self : (further n : ℕ) → Follow true (deeper further n) (deeper further n)
+unfolding deeper
+follow_self further zero = record {
+  further = refl;
+  refused = refused further zero;
+  ty = follow_refuse _ _;
+  term = follow_refuse _ _;
+  comp = follow_refuse _ _;
+  formula = follow_refuse _ _;
+  disj = follow_refuse _ _;
+  conj = follow_refuse _ _;
+  star = follow_refuse _ _;
+  mono = follow_refuse _ _;
+  proof = follow_refuse _ _;
+}
+follow_self further (suc n) = one_level (deeper further n) (deeper further n) (refused further (suc n)) (follow_self further n)
+
+same_further : (more m : ℕ) → (deeper more m).further ≡ more
+unfolding deeper
+same_further more zero = refl
+same_further more (suc m) = same_further more m
+
+not_kept : Kept false too_nested → ⊥
+not_kept kept = let no : false ≡ true = kept in cc
+
+-- where the second may read deeper and further
+pub follow_greater : (further more n m : ℕ) → further ≤ more → n ≤ m → Follow false (deeper further n) (deeper more m)
+unfolding deeper
+follow_greater further more zero m wide deep =
+    let refused' = refused more m in
+    record {
+      further = subst (λ x. further ≤ x) (sym (same_further more m)) wide;
+      refused = refused';
+      ty = follow_refused _ _ not_kept refused'.ty;
+      term = follow_refused _ _ not_kept refused'.term;
+      comp = follow_refused _ _ not_kept refused'.comp;
+      formula = follow_refused _ _ not_kept refused'.formula;
+      disj = follow_refused _ _ not_kept refused'.disj;
+      conj = follow_refused _ _ not_kept refused'.conj;
+      star = follow_refused _ _ not_kept refused'.star;
+      mono = follow_refused _ _ not_kept refused'.mono;
+      proof = follow_refused _ _ not_kept refused'.proof;
+    }
+follow_greater further more (suc n) zero wide deep = absurd (let no : ⊥ = omega (arith, deep) in no)
+follow_greater further more (suc n) (suc m) wide deep = one_level (deeper further n) (deeper more m) (refused more (suc m)) (follow_greater further more n m wide (omega (arith, deep)))
+
+past_last : (b : Bool) (j : ℕ) → Chain b zero (suc j) → Kept b too_many → ⊥
+past_last true j h kept = omega (arith, h)
+past_last false j h kept = let no : false ≡ true = kept in cc
+
+module _ {b : Bool} (d d' : Deeper) (trust : Follow b d d') where
+  pub mono_parameter_follows : {i j : ℕ} → Follows b i j (mono_parameter_at d) (mono_parameter_at d')
+  unfolding mono_parameter_at
+  mono_parameter_follows = follow_then name_follows (λ x. follow_skip _ (λ _. follow_then trust.mono (λ z. follow_give _)))
+
+  pub some_parameters_follow : {i j : ℕ} → Follows b i j (if_first is_close (give []) (mono_parameter_at d >>= (λ p. measured (after_commas (Sign CommaSign) (mono_parameter_at d)) >>= (λ ps. give (p ∷ ps))))) (if_first is_close (give []) (mono_parameter_at d' >>= (λ p. measured (after_commas (Sign CommaSign) (mono_parameter_at d')) >>= (λ ps. give (p ∷ ps)))))
+  some_parameters_follow = follow_first _ (follow_give _) (follow_then mono_parameter_follows (λ p. follow_then (more_follow _ _ (λ i j. mono_parameter_follows)) (λ ps. follow_give _)))
+
+  pub mono_parameters_follow : {i j : ℕ} → Follows b i j (mono_parameters_at d) (mono_parameters_at d')
+  unfolding mono_parameters_at
+  mono_parameters_follow = follow_skip _ (λ _. follow_then some_parameters_follow (λ ps. follow_skip _ (λ _. follow_give _)))
+
+  pub pred_follows : {i j : ℕ} (x : Span) (xs : List Span) → Follows b i j (pred_on d x xs) (pred_on d' x xs)
+  unfolding pred_on
+  pred_follows x xs = follow_then mono_parameters_follow (λ ps. follow_skip _ (λ _. follow_then trust.formula (λ f. follow_give _)))
+
+  pub induct_follows : {i j : ℕ} (x : Span) → Follows b i j (induct_on d x) (induct_on d' x)
+  unfolding induct_on
+  induct_follows x = follow_then binder_follows (λ y. follow_then mono_parameters_follow (λ ps. follow_skip _ (λ _. follow_skip _ (λ _. follow_then trust.formula (λ f. follow_skip _ (λ _. follow_skip _ (λ _. follow_then trust.formula (λ g. follow_skip _ (λ _. follow_give _)))))))))
+
+  pred_cases : (i j : ℕ) (x : Span) (k : Kind) (s : Span) → Both b i j s (pred_case d x k) (pred_case d' x k)
+  pred_cases i j x (Keyword InductWord) s = induct_follows x
+  pred_cases i j x (Sign OpenBracketSign) s = follow_then name_follows (λ a. follow_then (more_follow _ _ (λ i j. name_follows)) (λ xs. follow_skip _ (λ _. pred_follows x (a ∷ xs))))
+  pred_cases i j x _ s = tt
+
+  body_cases : (i j : ℕ) (k : Kind) (s : Span) → Both b i j s (body_case k) (body_case k)
+  body_cases i j (Keyword AutoWord) s = follow_give _
+  body_cases i j _ s = tt
+
+  pub body_follows : {i j : ℕ} → Follows b i j (body_at d) (body_at d')
+  unfolding body_at
+  body_follows = follow_either _ _ (body_cases _ _) (follow_then trust.proof (λ z. follow_give _))
+
+  pub typed_follows : {i j : ℕ} (make : Span → TyTree → TermTree → DeclTree) → Follows b i j (typed_on d make) (typed_on d' make)
+  unfolding typed_on
+  typed_follows make = follow_then name_follows (λ x. follow_skip _ (λ _. follow_then trust.ty (λ a. follow_skip _ (λ _. follow_then trust.term (λ m. follow_give _)))))
+
+  decl_cases : (i j : ℕ) (k : Kind) (s : Span) → Both b i j s (decl_case d k) (decl_case d' k)
+  decl_cases i j (Keyword TypeWord) s = follow_then name_follows (λ x. follow_skip _ (λ _. follow_then trust.mono (λ z. follow_give _)))
+  decl_cases i j (Keyword PredWord) s = follow_then name_follows (λ x. follow_either _ _ (pred_cases _ _ x) (pred_follows x []))
+  decl_cases i j (Keyword DefWord) s = typed_follows _
+  decl_cases i j (Keyword ValWord) s = typed_follows _
+  decl_cases i j (Keyword ProofWord) s = follow_then name_follows (λ x. follow_skip _ (λ _. follow_then number_follows (λ v. follow_skip _ (λ _. follow_then body_follows (λ z. follow_give _)))))
+  decl_cases i j _ s = tt
+
+  pub decl_follows : {i j : ℕ} → Follows b i j (decl_at d) (decl_at d')
+  unfolding decl_at
+  decl_follows = follow_either _ _ (decl_cases _ _) follow_stop
+
+  pub file_follows : {i j : ℕ} (k l : ℕ) → Chain b k l → Follows b i j (file_on d k) (file_on d' l)
+  unfolding file_on
+  file_follows zero zero h = follow_first _ (follow_refuse _ _) (follow_give _)
+  file_follows zero (suc l) h = follow_first _ (follow_refused _ _ (past_last b l h) (refuses_then _ (decl_refuses d'))) (follow_give _)
+  file_follows (suc k) zero h = absurd (chain_none b k h)
+  file_follows (suc k) (suc l) h = follow_first _ (follow_then decl_follows (λ x. follow_then (file_follows k l (chain_less b k l h)) (λ xs. follow_give _))) (follow_give _)

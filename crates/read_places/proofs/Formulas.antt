@@ -1,0 +1,86 @@
+-- The readers of formulas follow one another.
+use Rattle.std.proofs.Common.{◌≡◌, ℕ, zero, suc, ◌+◌, ◌≤◌, List, [], ◌∷◌, ◌++◌, refl, sym, ◌∙◌, subst, arith}
+use Rattle.std.specs.Prelude.{Bool, true, false, Option, Some, None, Result, Ok, Err}
+use Rattle.htt_tokens.specs.declared.tokens.Kind.{Kind}
+use Rattle.htt_tokens.specs.declared.tokens.Kind.TheVariants.{Keyword, Sign}
+use Rattle.htt_tokens.specs.declared.tokens.Keyword.TheVariants.{HeapWord, EmpWord, TtWord, FfWord, AllWord, ExWord, CapitalEmpWord, CellWord, BlockWord, JoinWord, SameWord}
+use Rattle.htt_tokens.specs.declared.tokens.Sign.TheVariants.{OpenParenSign, CloseParenSign, OpenBracketSign, CloseBracketSign, CommaSign, SemicolonSign, ColonSign, DotSign, EqualSign, ImpliesSign, PointsToSign, UnderscoreSign, DoubleStarSign, AndSign, OrSign, AtSign, BangSign}
+use Rattle.raw_trees.specs.declared.place.Span.{Span}
+use Rattle.raw_trees.specs.declared.place.Binder.{Binder}
+use Rattle.raw_trees.specs.Trees.{TermTree, RelTree, FormulaTree, SortTree, TermTrees, f_all, f_ex, f_implies, over_mono, d_or, j_and, k_times, g_use, g_use_at, g_use_at_heap, g_eq, g_points}
+use Rattle.htt_grammar.specs.Marks.{Mark, Limits, ◌⨟◌, sign, name, sign_at, word_at, each_after}
+use Rattle.htt_grammar.specs.Readers.{give, ◌>>=◌, token}
+use Rattle.htt_grammar.specs.Phrases.{Deeper, terms_there, sort_at, quantified, argument_case, use_case, fatom_case, relation_case, fatom_at, star_at, conj_at, disj_at, quantifier_case, formula_at}
+use Rattle.htt_grammar.specs.Readers.{Reader, Halt, expected, too_nested, too_long, too_many, measured, stop, either, refuse, if_first, after_commas}
+use Rattle.read_places.proofs.Follows.{Kept, Answers, Follows, Both, with_rest, follow_give, follow_stop, follow_refuse, follow_then, follow_either, follow_either_less, follow_eaten, follow_that, follow_that_less, follow_skip, follow_first, follow_measured}
+use Rattle.read_places.proofs.Refuses.{refuses_then, follow_refused}
+use Rattle.read_places.proofs.Words.{Follow, Chain, chain_less, chain_none, chain_more, binder_cases, binder_follows, name_follows, number_follows, heap_follows, mono_follows, more_follow, bracketed_follows, more_monos_follow}
+use Rattle.read_places.proofs.Terms.{more_terms_follow, terms_follow, rel_follows}
+
+module _ {b : Bool} (d d' : Deeper) (trust : Follow b d d') where
+  pub terms_then_follow : {A : Type 0} (i j : ℕ) (make : TermTrees → A) → Follows b i j (terms_there d >>= (λ ms. token (Sign CloseParenSign) >>= (λ _. give (make ms)))) (terms_there d' >>= (λ ms. token (Sign CloseParenSign) >>= (λ _. give (make ms))))
+  terms_then_follow i j make = follow_then (terms_follow d d' trust) (λ ms. follow_skip _ (λ _. follow_give _))
+
+  argument_cases : (i j at : ℕ) (p : Span) (m : TermTree) (k : Kind) (s : Span) → Both b i j s (argument_case d at p m k) (argument_case d' at p m k)
+  argument_cases i j at p m (Sign SemicolonSign) s = terms_then_follow _ _ _
+  argument_cases i j at p m (Sign CommaSign) s = follow_then trust.term (λ n. follow_then (more_terms_follow d d' trust) (λ ms. follow_skip _ (λ _. follow_give _)))
+  argument_cases i j at p m (Sign CloseParenSign) s = follow_give _
+  argument_cases i j at p m _ s = tt
+
+  use_cases : (i j at : ℕ) (p : Span) (k : Kind) (s : Span) → Both b i j s (use_case d at p k) (use_case d' at p k)
+  use_cases i j at p (Sign OpenBracketSign) s = follow_then (mono_follows d d' trust) (λ t. follow_then (more_monos_follow d d' trust) (λ ts. follow_skip _ (λ _. follow_skip _ (λ _. terms_then_follow _ _ _))))
+  use_cases i j at p (Sign AtSign) s = follow_then heap_follows (λ h. follow_skip _ (λ _. follow_then trust.term (λ m. follow_skip _ (λ _. terms_then_follow _ _ _))))
+  use_cases i j at p (Sign OpenParenSign) s = follow_that _ (follow_give _) (follow_then trust.term (λ m. follow_either _ _ (argument_cases _ _ at p m) follow_stop))
+  use_cases i j at p _ s = tt
+
+  fatom_cases : (i j : ℕ) (k : Kind) (s : Span) → Both b i j s (fatom_case d k) (fatom_case d' k)
+  fatom_cases i j (Keyword TtWord) s = follow_give _
+  fatom_cases i j (Keyword FfWord) s = follow_give _
+  fatom_cases i j (Keyword EmpWord) s = follow_give _
+  fatom_cases i j (Keyword CapitalEmpWord) s = follow_skip _ (λ _. follow_then heap_follows (λ h. follow_skip _ (λ _. follow_give _)))
+  fatom_cases i j (Keyword SameWord) s = follow_skip _ (λ _. follow_then heap_follows (λ h. follow_skip _ (λ _. follow_then heap_follows (λ k. follow_skip _ (λ _. follow_give _)))))
+  fatom_cases i j (Keyword JoinWord) s = follow_skip _ (λ _. follow_then heap_follows (λ h. follow_skip _ (λ _. follow_then heap_follows (λ j. follow_skip _ (λ _. follow_then heap_follows (λ k. follow_skip _ (λ _. follow_give _)))))))
+  fatom_cases i j (Keyword CellWord) s = follow_then (bracketed_follows d d' trust) (λ t. follow_skip _ (λ _. follow_then heap_follows (λ h. follow_skip _ (λ _. follow_then trust.term (λ m. follow_skip _ (λ _. follow_then trust.term (λ n. follow_skip _ (λ _. follow_give _))))))))
+  fatom_cases i j (Keyword BlockWord) s = follow_then (bracketed_follows d d' trust) (λ t. follow_skip _ (λ _. follow_then heap_follows (λ h. follow_skip _ (λ _. follow_then trust.term (λ m. follow_skip _ (λ _. follow_give _))))))
+  fatom_cases i j (Sign OpenBracketSign) s = follow_then trust.formula (λ p. follow_skip _ (λ _. follow_give _))
+  fatom_cases i j (Sign AtSign) s = follow_then heap_follows (λ h. follow_skip _ (λ _. follow_then trust.formula (λ p. follow_skip _ (λ _. follow_give _))))
+  fatom_cases i j (Sign BangSign) s = follow_then name_follows (λ p. follow_either _ _ (use_cases _ _ s.from p) follow_stop)
+  fatom_cases i j _ s = tt
+
+  relation_cases : (i j : ℕ) (m : RelTree) (k : Kind) (s : Span) → Both b i j s (relation_case d m k) (relation_case d' m k)
+  relation_cases i j m (Sign EqualSign) s = follow_then (bracketed_follows d d' trust) (λ t. follow_then (rel_follows d d' trust) (λ z. follow_give _))
+  relation_cases i j m (Sign PointsToSign) s = follow_then (bracketed_follows d d' trust) (λ t. follow_that _ (follow_give _) (follow_then (rel_follows d d' trust) (λ z. follow_give _)))
+  relation_cases i j m _ s = tt
+
+  pub fatom_follows : {i j : ℕ} → Follows b i j (fatom_at d) (fatom_at d')
+  unfolding fatom_at
+  fatom_follows = follow_either _ _ (fatom_cases _ _) (follow_then (rel_follows d d' trust) (λ m. follow_either _ _ (relation_cases _ _ m) follow_stop))
+
+  pub star_follows : {i j : ℕ} → Follows b i j (star_at d) (star_at d')
+  unfolding star_at
+  star_follows = follow_then fatom_follows (λ f. follow_that _ (follow_then trust.star (λ z. follow_give _)) (follow_give _))
+
+  pub conj_follows : {i j : ℕ} → Follows b i j (conj_at d) (conj_at d')
+  unfolding conj_at
+  conj_follows = follow_then star_follows (λ f. follow_that _ (follow_then trust.conj (λ z. follow_give _)) (follow_give _))
+
+  pub disj_follows : {i j : ℕ} → Follows b i j (disj_at d) (disj_at d')
+  unfolding disj_at
+  disj_follows = follow_then conj_follows (λ f. follow_that _ (follow_then trust.disj (λ z. follow_give _)) (follow_give _))
+
+  pub sort_follows : {i j : ℕ} → Follows b i j (sort_at d) (sort_at d')
+  unfolding sort_at
+  sort_follows = follow_that _ (follow_give _) (follow_then (mono_follows d d' trust) (λ z. follow_give _))
+
+  pub quantified_follows : {i j : ℕ} (make : Binder → SortTree → FormulaTree → FormulaTree) → Follows b i j (quantified d make) (quantified d' make)
+  unfolding quantified
+  quantified_follows make = follow_then binder_follows (λ x. follow_skip _ (λ _. follow_then sort_follows (λ o. follow_skip _ (λ _. follow_then trust.formula (λ p. follow_give _)))))
+
+  quantifier_cases : (i j : ℕ) (k : Kind) (s : Span) → Both b i j s (quantifier_case d k) (quantifier_case d' k)
+  quantifier_cases i j (Keyword AllWord) s = quantified_follows _
+  quantifier_cases i j (Keyword ExWord) s = quantified_follows _
+  quantifier_cases i j _ s = tt
+
+  pub formula_follows : {i j : ℕ} → Follows b i j (formula_at d) (formula_at d')
+  unfolding formula_at
+  formula_follows = follow_either _ _ (quantifier_cases _ _) (follow_then disj_follows (λ e. follow_that _ (follow_then trust.formula (λ z. follow_give _)) (follow_give _)))

@@ -1,0 +1,10 @@
+pub mod Follows
+pub mod Refuses
+pub mod Words
+pub mod Types
+pub mod Refusing
+pub mod Terms
+pub mod Formulas
+pub mod Proofs
+pub mod Files
+pub mod Laws
