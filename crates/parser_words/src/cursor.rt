@@ -1,6 +1,6 @@
 //! The tokens of a text with the places among them, and why reading stops.
 
-ghost use Rattle.std.specs.Prelude.{◌≡◌, ◌<◌, ◌-◌, ◌^◌, true, drop};
+ghost use Rattle.std.specs.Prelude.{◌≡◌, ◌<◌, ◌-◌, ◌^◌, true, drop, IsSome};
 ghost use Rattle.htt_tokens.specs.declared.tokens.Kind.TheVariants as kinds;
 ghost use Rattle.htt_grammar.specs.Readers.{first_is, same_kind};
 ghost use Rattle.parser_words.specs.declared.cursor.Halted.TheVariants.{NoMemory};
@@ -53,7 +53,8 @@ pub struct Cursor<'a> {
 impl Cursor<'_> {
     /// The token at a place.
     pub fn token(&self, at: usize) -> Option<Token>
-        ensures { IsThere self.now.tokens.now at result }
+        ensures is { IsThere self.now.tokens.now at result }
+        ensures there { IsSome result → at < 2 ^ 64 - 1 }
     {
         self.tokens.get(at).copied()
     }

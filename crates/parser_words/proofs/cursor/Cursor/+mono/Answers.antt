@@ -94,14 +94,14 @@ pub mono_right-returns-in_err-mono-in-Some : goal.mono_right-returns-in_err-mono
 mono_right-returns-in_err-mono-in-Some n c =
     let d = deeper 63 c.args.left in
     let same : same_kind c.in-Some.token.kind (Sign StarSign) ≡ true = search rules in
-    let p = err_from_is_err_and c.from_residual.result c.from_residual.ensures.1 in rw (p.1, p.2) (err_along _ _ _ _ (right_star d _ c.in-Some.token _ c.in-Some.ensures same) (bind_err _ d.mono _ _ _ c.in_err-mono-in-Some.ensures))
+    let p = err_from_is_err_and c.from_residual.result c.from_residual.ensures.1 in rw (p.1, p.2) (err_along _ _ _ _ (right_star d _ c.in-Some.token _ c.in-Some.ensures.is same) (bind_err _ d.mono _ _ _ c.in_err-mono-in-Some.ensures))
 
 pub mono_right-returns-in_ok-new-in-Some : goal.mono_right-returns-in_ok-new-in-Some
 mono_right-returns-in_ok-new-in-Some n c =
     let d = deeper 63 c.args.left in
     let same : same_kind c.in-Some.token.kind (Sign StarSign) ≡ true = search rules in
     let boxed : c.in_ok-new-in-Some.field-0 ≡ c.in_ok-mono-in-Some.mono = search rules in
-    right_star d _ c.in-Some.token _ c.in-Some.ensures same ∙ bind_ok d.mono _ _ _ _ c.in_ok-mono-in-Some.ensures ∙ given _ _
+    right_star d _ c.in-Some.token _ c.in-Some.ensures.is same ∙ bind_ok d.mono _ _ _ _ c.in_ok-mono-in-Some.ensures ∙ given _ _
     ∙ ap (λ r. Ok (r, drop c.in_ok-mono-in-Some.at c.args.self.now.tokens.now)) (sym (ap (λ x. right_tree (vright.Times x)) boxed ∙ right_times c.in_ok-mono-in-Some.mono))
 
 pub mono_right-returns-in_default : goal.mono_right-returns-in_default
@@ -111,6 +111,6 @@ mono_right-returns-in_default n c =
     elim c.in_default.branch [
       | mono_right-in_default-via-in-Some+else-eq w ↦
           let other : same_kind w.in-Some.token.kind (Sign StarSign) ≡ false = search rules in
-          right_other d us w.in-Some.token _ w.in-Some.ensures other ∙ ap (λ r. Ok (r, us)) (sym right_nothing)
-      | mono_right-in_default-via-in_default w ↦ right_end d us w.in_default.ensures ∙ ap (λ r. Ok (r, us)) (sym right_nothing)
+          right_other d us w.in-Some.token _ w.in-Some.ensures.is other ∙ ap (λ r. Ok (r, us)) (sym right_nothing)
+      | mono_right-in_default-via-in_default w ↦ right_end d us w.in_default.ensures.is ∙ ap (λ r. Ok (r, us)) (sym right_nothing)
     ]

@@ -11,7 +11,7 @@ pub loop-token-preserved : goal.loop-token-preserved
 loop-token-preserved c =
     let same : same_kind c.in-Some.token.kind (Sign OpenParenSign) ≡ true = search rules in
     let items : c.push.new.self.items ≡ c.loop-token.opens.items ++ c.in-Some.token.from ∷ [] = search rules in
-    c.loop-token.invariant ∙ opened_step c.loop-token.opens.items c.args.self.now.tokens.now c.loop-token.next c.in-Some.token _ c.in-Some.ensures same
+    c.loop-token.invariant ∙ opened_step c.loop-token.opens.items c.args.self.now.tokens.now c.loop-token.next c.in-Some.token _ c.in-Some.ensures.is same
     ∙ ap (λ os. opened (reverse os) (drop (c.loop-token.next + 1) c.args.self.now.tokens.now)) (sym items)
 
 pub returns : goal.returns
@@ -19,6 +19,6 @@ returns c =
     elim c.match-token.branch [
       | in-Some+then-ne w ↦
           let other : same_kind w.in-Some.token.kind (Sign OpenParenSign) ≡ false = search rules in
-          sym (c.loop-token.invariant ∙ opened_other (reverse c.loop-token.opens.items) c.args.self.now.tokens.now c.loop-token.next w.in-Some.token _ w.in-Some.ensures other)
-      | in_default w ↦ sym (c.loop-token.invariant ∙ opened_end (reverse c.loop-token.opens.items) c.args.self.now.tokens.now c.loop-token.next w.in_default.ensures)
+          sym (c.loop-token.invariant ∙ opened_other (reverse c.loop-token.opens.items) c.args.self.now.tokens.now c.loop-token.next w.in-Some.token _ w.in-Some.ensures.is other)
+      | in_default w ↦ sym (c.loop-token.invariant ∙ opened_end (reverse c.loop-token.opens.items) c.args.self.now.tokens.now c.loop-token.next w.in_default.ensures.is)
     ]
