@@ -58,3 +58,21 @@ loop_stops ts halts.NoMemory put xs next i told end counter below so_far h = tt
 loop_stops ts (halts.At reason at) put xs next i told end counter below so_far h =
     let left : end - counter ≡ suc (end - suc counter) = omega (arith, below) in
     so_far ∙ ap (λ m. mapped (onto put xs) (next m (drop i ts))) left ∙ ap (mapped (onto put xs)) (h (end - suc counter))
+
+-- ---- chains, whose members take room
+
+pub chain_more : {X T : Type 0} (ts : List Token) (put : X → T → T) (nothing : T) (next : ℕ → Reader T) (told : Result (T × List Token) Halt) (xs items : List X) (r : Option (X × ℕ)) (x : X) (room at after_at : ℕ) → told ≡ mapped (onto put xs) (next room (drop at ts)) → GivesMore ts put nothing (Ok r) (next room) (next (room - 1)) at → r ≡ Some (x, after_at) → items ≡ xs ++ x ∷ [] → told ≡ mapped (onto put items) (next (room - 1) (drop after_at ts))
+chain_more ts put nothing next told xs items r x room at after_at so_far more some is =
+    let one : next room (drop at ts) ≡ mapped (put x) (next (room - 1) (drop after_at ts)) = subst (λ (q : Option _). GivesMore ts put nothing (Ok q) (next room) (next (room - 1)) at) some more in
+    so_far ∙ ap (mapped (onto put xs)) one ∙ put_last put xs x (next (room - 1) (drop after_at ts)) ∙ ap (λ ys. mapped (onto put ys) (next (room - 1) (drop after_at ts))) (sym is)
+
+pub chain_ends : {X T : Type 0} (ts : List Token) (put : X → T → T) (nothing : T) (next : ℕ → Reader T) (told : Result (T × List Token) Halt) (xs : List X) (r : Option (X × ℕ)) (room at : ℕ) → told ≡ mapped (onto put xs) (next room (drop at ts)) → GivesMore ts put nothing (Ok r) (next room) (next (room - 1)) at → r ≡ None → told ≡ Ok (onto put xs nothing, drop at ts)
+unfolding give
+chain_ends ts put nothing next told xs r room at so_far more none =
+    let last : next room (drop at ts) ≡ Ok (nothing, drop at ts) = subst (λ (q : Option _). GivesMore ts put nothing (Ok q) (next room) (next (room - 1)) at) none more in
+    so_far ∙ ap (mapped (onto put xs)) last
+
+pub chain_stops : {X T : Type 0} (ts : List Token) (e : Halted) (put : X → T → T) (xs : List X) (o told : Result (T × List Token) Halt) → told ≡ mapped (onto put xs) o → StopsAs ts e o → StopsAs ts e told
+unfolding give
+chain_stops ts halts.NoMemory put xs o told so_far h = tt
+chain_stops ts (halts.At reason at) put xs o told so_far h = so_far ∙ ap (mapped (onto put xs)) h
