@@ -1,11 +1,11 @@
 -- At most one place is right.
-use Rattle.std.proofs.Common.{◌≡◌, ℕ, ◌≤◌, List, [], ◌∷◌, ◌++◌, length, refl, sym, ◌∙◌, ap, subst, arith, append_assoc, append-nil}
+use Rattle.std.proofs.Common.{◌≡◌, ◌≤◌, List, [], ◌∷◌, ◌++◌, length, refl, sym, ◌∙◌, ap, subst, arith, append_assoc, append-nil}
 use Rattle.htt_tokens.specs.declared.tokens.Token.{Token}
 use Rattle.htt_grammar.specs.Marks.{Mark, Limits, AllFit, AllWithin}
 use Rattle.htt_grammar.specs.Grammar
 use Rattle.htt_grammar.specs.Derivations.{the_limits}
-use Rattle.htt_grammar.specs.Readers.{Halt, Why, expected, too_nested, too_long, too_many}
-use Rattle.htt_refusals.specs.Refusals.{Begins, BeginsWithin, GoesPast, NoneGoesOn, NoneWithin, IsRight, Refusal, ShortFile, short_file, Full, IsRightInFile, FileRefusal}
+use Rattle.htt_grammar.specs.Readers.{Why, expected, too_nested, too_long, too_many}
+use Rattle.htt_refusals.specs.Refusals.{Begins, BeginsWithin, GoesPast, NoneGoesOn, NoneWithin, IsRight, short_file, Full, IsRightInFile}
 use Rattle.htt_refusals.specs.Laws.{OnePlace, MonoHasOnePlace, FormulaHasOnePlace, ProofHasOnePlace, FileHasOnePlace}
 use Rattle.htt_refusals.proofs.Places.{one_more, fit_whole}
 

@@ -1,5 +1,5 @@
 -- Monotypes, formulas and proofs: each refusal is right.
-use Rattle.std.proofs.Common.{◌≡◌, ℕ, ◌<◌, ◌≤◌, List, [], ◌∷◌, ◌++◌, length, refl, sym, ◌∙◌, ap, subst, arith, append-nil}
+use Rattle.std.proofs.Common.{◌≡◌, ℕ, List, [], ◌∷◌, ◌++◌, length, refl, sym, subst, arith, append-nil}
 use Rattle.std.specs.Prelude.{Bool, true, false, Result, Ok, Err}
 use Rattle.htt_tokens.specs.declared.tokens.Kind.{Kind}
 use Rattle.htt_tokens.specs.declared.tokens.Token.{Token}
@@ -7,9 +7,9 @@ use Rattle.htt_grammar.specs.Marks.{Mark, Limits, Fits, AllFit, AllWithin}
 use Rattle.htt_grammar.specs.Grammar
 use Rattle.htt_grammar.specs.Derivations.{the_limits}
 use Rattle.htt_grammar.specs.Beginnings.{never}
-use Rattle.htt_grammar.specs.Readers.{Reader, Halt, Why, expected, too_nested, too_long, too_many}
+use Rattle.htt_grammar.specs.Readers.{Reader, Halt, Why, expected, too_nested, too_long}
 use Rattle.htt_grammar.specs.Phrases.{Deeper}
-use Rattle.htt_grammar.proofs.Spells.{Spells, spelled}
+use Rattle.htt_grammar.proofs.Spells.{spelled}
 use Rattle.htt_grammar.proofs.Gets.{Gets}
 use Rattle.htt_grammar.proofs.Monotypes.{Knows}
 use Rattle.htt_reading.specs.Laws.{outermost}
@@ -23,7 +23,7 @@ use Rattle.read_limits.proofs.Words.{Bar}
 use Rattle.read_places.proofs.Laws.{kept_same, answers_alike}
 use Rattle.read_limits.specs.Limits.{IsLimit}
 use Rattle.read_limits.proofs.Laws.{parts_of}
-use Rattle.htt_refusals.specs.Refusals.{Begins, BeginsWithin, GoesPast, IsTooDeep, IsTooFar, NoneGoesOn, NoneWithin, IsRight, Refusal, Ended}
+use Rattle.htt_refusals.specs.Refusals.{NoneGoesOn, NoneWithin, IsRight, Refusal, Ended}
 use Rattle.htt_refusals.specs.Laws.{MonoIsRefused, FormulaIsRefused, ProofIsRefused, MonoIsEnded, FormulaIsEnded, ProofIsEnded}
 use Rattle.htt_refusals.proofs.Places.{clash, clash_ended, one_more, wider, widest, knows_widest, all_within, follow_widest, follow_outermost, ending_outermost, bar_widest, not_past, fit_whole}
 
