@@ -3,7 +3,7 @@
 //! contract.
 #![tactic(auto)]
 
-ghost use Rattle.htt_refusals.specs.Laws.{FileHasOnePlace, FileIsRefused, FormulaHasOnePlace, FormulaIsEnded, FormulaIsRefused, MonoHasOnePlace, MonoIsEnded, MonoIsRefused, ProofHasOnePlace, ProofIsEnded, ProofIsRefused};
+ghost use Rattle.htt_refusals.specs.Laws.{FileHasOnePlace, FileIsRefused, FormulaHasOnePlace, FormulaIsEnded, FormulaIsRefused, MonoHasOnePlace, MonoIsEnded, MonoIsRefused, ProofHasOnePlace, ProofIsEnded, ProofIsRefused, WholeFormulaIsRefused, WholeMonoIsRefused, WholeProofIsRefused};
 
 /// The tokens before a refused one begin a tree, within the limits. A token that is refused as
 /// unexpected goes on with no tree that begins so; one that is refused at a limit goes on with one
@@ -20,6 +20,13 @@ pub fn what_is_left_goes_on_with_nothing()
     ensures monotypes { MonoIsEnded }
     ensures formulas { FormulaIsEnded }
     ensures proofs { ProofIsEnded }
+{}
+
+/// So a phrase that is read to the end of the tokens is refused rightly, wherever reading stops.
+pub fn what_is_refused_to_the_end_is_wrong()
+    ensures monotypes { WholeMonoIsRefused }
+    ensures formulas { WholeFormulaIsRefused }
+    ensures proofs { WholeProofIsRefused }
 {}
 
 /// No two places are right for the same tokens.
