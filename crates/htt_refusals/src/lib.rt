@@ -8,7 +8,7 @@ ghost use Rattle.htt_refusals.specs.Laws.{FileHasOnePlace, FileIsRefused, Formul
 /// The tokens before a refused one begin a tree, within the limits. A token that is refused as
 /// unexpected goes on with no tree that begins so; one that is refused at a limit goes on with one
 /// that is past the limit, and with none that is within all of them.
-pub fn what_is_refused_is_wrong()
+pub fn refusals_are_right()
     ensures monotypes { MonoIsRefused }
     ensures formulas { FormulaIsRefused }
     ensures proofs { ProofIsRefused }
@@ -23,7 +23,7 @@ pub fn what_is_left_goes_on_with_nothing()
 {}
 
 /// So a phrase that is read to the end of the tokens is refused rightly, wherever reading stops.
-pub fn what_is_refused_to_the_end_is_wrong()
+pub fn refusals_to_the_end_are_right()
     ensures monotypes { WholeMonoIsRefused }
     ensures formulas { WholeFormulaIsRefused }
     ensures proofs { WholeProofIsRefused }

@@ -1,5 +1,5 @@
 use Rattle.htt_refusals.proofs.Phrases.{whole_mono_is_refused, whole_formula_is_refused, whole_proof_is_refused}
-use Rattle.htt_refusals.proofs.what_is_refused_to_the_end_is_wrong.Goals as goal
+use Rattle.htt_refusals.proofs.refusals_to_the_end_are_right.Goals as goal
 
 pub returns-clause-monotypes : goal.returns-clause-monotypes
 returns-clause-monotypes c = whole_mono_is_refused
