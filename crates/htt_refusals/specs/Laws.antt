@@ -1,10 +1,10 @@
 -- A reader stops at the first token with which what was read can't go on, for the right reason.
 use Rattle.std.specs.Prelude.{◌≡◌, List, [], ◌∷◌, Result, Ok, Err}
 use Rattle.htt_tokens.specs.declared.tokens.Token.{Token}
-use Rattle.raw_trees.specs.Trees.{MonoTree, FormulaTree, ProofTree}
-use Rattle.htt_grammar.specs.Marks.{Mark}
+use Rattle.raw_trees.specs.Trees.{MonoTree, FormulaTree, ProofTree, DeclTree}
+use Rattle.htt_grammar.specs.Marks.{Mark, AllFit, AllWithin}
 use Rattle.htt_grammar.specs.Grammar.{mono, formula, proof}
-use Rattle.htt_grammar.specs.Derivations.{IsFormulaWithin, IsProofWithin}
+use Rattle.htt_grammar.specs.Derivations.{the_limits, IsFile, IsFormulaWithin, IsProofWithin, IsFileWithin}
 use Rattle.htt_grammar.specs.Readers.{Halt, expected}
 use Rattle.htt_reading.specs.Laws.{read_mono, read_formula, read_proof, read_file, IsMonoWithin}
 use Rattle.htt_refusals.specs.Refusals.{Refusal, FileRefusal, Ended}
@@ -53,6 +53,23 @@ WholeFormulaIsRefused = (tokens : List Token) (halt : Halt) → to_end (read_for
 
 abbrev pub WholeProofIsRefused : Type 0
 WholeProofIsRefused = (tokens : List Token) (halt : Halt) → to_end (read_proof tokens) ≡ Err halt → Refusal (proof 1) tokens halt
+
+-- ---- what is refused rightly isn't derived within the limits
+
+abbrev pub NotDerived : {A : Type 0} → (A → List Mark) → Type 0
+NotDerived {A = A} marks = (tokens : List Token) (halt : Halt) (tree : A) → Refusal marks tokens halt → AllFit tokens (marks tree) → AllWithin the_limits (marks tree) → ⊥
+
+abbrev pub RefusedMonoIsNotDerived : Type 0
+RefusedMonoIsNotDerived = NotDerived (mono 1)
+
+abbrev pub RefusedFormulaIsNotDerived : Type 0
+RefusedFormulaIsNotDerived = NotDerived (formula 1)
+
+abbrev pub RefusedProofIsNotDerived : Type 0
+RefusedProofIsNotDerived = NotDerived (proof 1)
+
+abbrev pub RefusedFileIsNotDerived : Type 0
+RefusedFileIsNotDerived = (tokens : List Token) (halt : Halt) (decls : List DeclTree) → FileRefusal tokens halt → IsFile tokens decls → IsFileWithin decls → ⊥
 
 -- ---- a right refusal has one place
 

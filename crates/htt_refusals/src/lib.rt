@@ -3,7 +3,7 @@
 //! contract.
 #![tactic(auto)]
 
-ghost use Rattle.htt_refusals.specs.Laws.{FileHasOnePlace, FileIsRefused, FormulaHasOnePlace, FormulaIsEnded, FormulaIsRefused, MonoHasOnePlace, MonoIsEnded, MonoIsRefused, ProofHasOnePlace, ProofIsEnded, ProofIsRefused, WholeFormulaIsRefused, WholeMonoIsRefused, WholeProofIsRefused};
+ghost use Rattle.htt_refusals.specs.Laws.{FileHasOnePlace, FileIsRefused, FormulaHasOnePlace, FormulaIsEnded, FormulaIsRefused, MonoHasOnePlace, MonoIsEnded, MonoIsRefused, ProofHasOnePlace, ProofIsEnded, ProofIsRefused, RefusedFileIsNotDerived, RefusedFormulaIsNotDerived, RefusedMonoIsNotDerived, RefusedProofIsNotDerived, WholeFormulaIsRefused, WholeMonoIsRefused, WholeProofIsRefused};
 
 /// The tokens before a refused one begin a tree, within the limits. A token that is refused as
 /// unexpected goes on with no tree that begins so; one that is refused at a limit goes on with one
@@ -27,6 +27,14 @@ pub fn refusals_to_the_end_are_right()
     ensures monotypes { WholeMonoIsRefused }
     ensures formulas { WholeFormulaIsRefused }
     ensures proofs { WholeProofIsRefused }
+{}
+
+/// What is refused rightly isn't derived within the limits.
+pub fn what_is_refused_is_not_derived()
+    ensures monotypes { RefusedMonoIsNotDerived }
+    ensures formulas { RefusedFormulaIsNotDerived }
+    ensures proofs { RefusedProofIsNotDerived }
+    ensures files { RefusedFileIsNotDerived }
 {}
 
 /// No two places are right for the same tokens.
