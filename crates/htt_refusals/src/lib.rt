@@ -3,6 +3,7 @@
 //! contract.
 #![tactic(auto)]
 
+ghost use Rattle.htt_refusals.specs.Examples.{WorkedRefusals};
 ghost use Rattle.htt_refusals.specs.Laws.{FileHasOnePlace, FileIsRefused, FormulaHasOnePlace, FormulaIsEnded, FormulaIsRefused, MonoHasOnePlace, MonoIsEnded, MonoIsRefused, ProofHasOnePlace, ProofIsEnded, ProofIsRefused, RefusedFileIsNotDerived, RefusedFormulaIsNotDerived, RefusedMonoIsNotDerived, RefusedProofIsNotDerived, WholeFormulaIsRefused, WholeMonoIsRefused, WholeProofIsRefused};
 
 /// The tokens before a refused one begin a tree, within the limits. A token that is refused as
@@ -43,4 +44,9 @@ pub fn refusals_have_one_place()
     ensures formulas { FormulaHasOnePlace }
     ensures proofs { ProofHasOnePlace }
     ensures files { FileHasOnePlace }
+{}
+
+/// Stops that were worked out by hand.
+pub fn worked_refusals()
+    ensures { WorkedRefusals }
 {}
