@@ -1,25 +1,24 @@
 -- Each refusal of a file is right.
 use Rattle.std.proofs.Common.{◌≡◌, ℕ, zero, suc, ◌+◌, ◌<◌, ◌≤◌, List, [], ◌∷◌, ◌++◌, length, refl, sym, ◌∙◌, ap, subst, arith, lit≤, append_assoc, append-nil}
-use Rattle.std.specs.Prelude.{Bool, true, false, Result, Ok, Err}
-use Rattle.htt_tokens.specs.declared.tokens.Kind.{Kind}
+use Rattle.std.specs.Prelude.{true, false, Result, Ok, Err}
 use Rattle.htt_tokens.specs.declared.tokens.Token.{Token}
 use Rattle.raw_trees.specs.Trees.{DeclTree}
 use Rattle.htt_grammar.specs.Marks.{Mark, Limits, Fits, AllFit, AllWithin, span_of, ◌⨟◌}
 use Rattle.htt_grammar.specs.Grammar
 use Rattle.htt_grammar.specs.Derivations.{the_limits}
-use Rattle.htt_grammar.specs.Readers.{Reader, Halt, Why, expected, too_nested, too_long, too_many, give, after, ◌>>=◌, refused, refuse, if_first}
+use Rattle.htt_grammar.specs.Readers.{Halt, Why, expected, too_nested, too_long, too_many, give, after, ◌>>=◌, refused, refuse, if_first}
 use Rattle.htt_grammar.specs.Beginnings.{begins_decl}
 use Rattle.htt_grammar.specs.Phrases.{Deeper}
 use Rattle.htt_grammar.specs.Reading.{decl_at, file_on}
-use Rattle.htt_grammar.proofs.Spells.{Spells, spelled}
+use Rattle.htt_grammar.proofs.Spells.{spelled}
 use Rattle.htt_grammar.proofs.Files.{file_gets}
-use Rattle.htt_reading.specs.Laws.{outermost, read_file}
+use Rattle.htt_reading.specs.Laws.{outermost}
 use Rattle.htt_reading.proofs.Words.{Stands}
 use Rattle.read_places.specs.Alike.{Alike}
-use Rattle.read_places.proofs.Follows.{Kept, Answers, Follows}
+use Rattle.read_places.proofs.Follows.{Kept, Answers}
 use Rattle.read_places.proofs.Words.{Follow}
 use Rattle.read_places.proofs.Files.{decl_follows, file_follows}
-use Rattle.read_completions.proofs.Halts.{Completion, Past, Stopped, fit_both}
+use Rattle.read_completions.proofs.Halts.{Past, Stopped, fit_both}
 use Rattle.read_completions.proofs.Starts.{starts_decl}
 use Rattle.read_completions.proofs.Files.{Full, Short, FileStop, FileStopped, decl_ends, file_stops}
 use Rattle.read_limits.proofs.Bars.{SameOk, same_ok}
@@ -27,9 +26,9 @@ use Rattle.read_limits.proofs.Files.{file_bars}
 use Rattle.read_places.proofs.Laws.{kept_same, answers_alike}
 use Rattle.read_limits.specs.Limits.{IsLimit}
 use Rattle.read_limits.proofs.Laws.{parts_of}
-use Rattle.htt_refusals.specs.Refusals.{Begins, BeginsWithin, GoesPast, IsTooDeep, IsTooFar, NoneGoesOn, NoneWithin, ShortFile, short_file, IsRightInFile, FileRefusal}
+use Rattle.htt_refusals.specs.Refusals.{Begins, NoneGoesOn, NoneWithin, ShortFile, short_file, IsRightInFile, FileRefusal}
 use Rattle.htt_refusals.specs.Laws.{FileIsRefused}
-use Rattle.htt_refusals.proofs.Places.{clash, one_more, wider, widest, knows_widest, all_within, follow_widest, knows_outermost, follow_outermost, ending_outermost, bar_widest, not_past, fit_whole}
+use Rattle.htt_refusals.proofs.Places.{clash, one_more, wider, widest, knows_widest, all_within, follow_widest, follow_outermost, ending_outermost, bar_widest, not_past, fit_whole}
 
 stands : Stands the_limits 0
 stands = record { level = lit≤ tt; chain = lit≤ tt }

@@ -1,12 +1,12 @@
--- At most one place is right.
-use Rattle.std.proofs.Common.{◌≡◌, ℕ, ◌≤◌, List, [], ◌∷◌, ◌++◌, length, refl, sym, ◌∙◌, ap, subst, arith, append_assoc, append-nil}
+-- What is refused rightly isn't derived within the limits, and at most one place is right.
+use Rattle.std.proofs.Common.{◌≡◌, ◌≤◌, List, [], ◌∷◌, ◌++◌, length, refl, sym, ◌∙◌, ap, subst, arith, append_assoc, append-nil}
 use Rattle.htt_tokens.specs.declared.tokens.Token.{Token}
 use Rattle.htt_grammar.specs.Marks.{Mark, Limits, AllFit, AllWithin}
 use Rattle.htt_grammar.specs.Grammar
 use Rattle.htt_grammar.specs.Derivations.{the_limits}
-use Rattle.htt_grammar.specs.Readers.{Halt, Why, expected, too_nested, too_long, too_many}
-use Rattle.htt_refusals.specs.Refusals.{Begins, BeginsWithin, GoesPast, NoneGoesOn, NoneWithin, IsRight, Refusal, ShortFile, short_file, Full, IsRightInFile, FileRefusal}
-use Rattle.htt_refusals.specs.Laws.{OnePlace, MonoHasOnePlace, FormulaHasOnePlace, ProofHasOnePlace, FileHasOnePlace}
+use Rattle.htt_grammar.specs.Readers.{Why, expected, too_nested, too_long, too_many}
+use Rattle.htt_refusals.specs.Refusals.{Begins, BeginsWithin, GoesPast, NoneGoesOn, NoneWithin, IsRight, short_file, Full, IsRightInFile}
+use Rattle.htt_refusals.specs.Laws.{OnePlace, MonoHasOnePlace, FormulaHasOnePlace, ProofHasOnePlace, FileHasOnePlace, NotDerived, RefusedMonoIsNotDerived, RefusedFormulaIsNotDerived, RefusedProofIsNotDerived, RefusedFileIsNotDerived}
 use Rattle.htt_refusals.proofs.Places.{one_more, fit_whole}
 
 -- ---- one list of tokens, in two parts in two ways
@@ -79,6 +79,7 @@ fewer lim marks ts us begins =
 pub record Place {A : Type 0} (marks : A → List Mark) (before rest : List Token) : Type 0 where
   pub begins : BeginsWithin the_limits marks before
   pub none : (token : Token) (next : List Token) → rest ≡ token ∷ next → NoneWithin the_limits marks before token
+  pub ends : rest ≡ [] → (tree : A) → AllFit before (marks tree) → ⊥
 
 not_behind : {A : Type 0} (marks : A → List Mark) (before rest other others : List Token) → Place marks before rest → Place marks other others → Behind before rest other → ⊥
 not_behind marks before rest other others one two b =
@@ -109,13 +110,44 @@ no_begin : {A : Type 0} (marks : A → List Mark) (before rest : List Token) →
 no_begin marks before [] none u next e begins = absurd (let no : [] ≡ u ∷ next = e in cc)
 no_begin marks before (t ∷ rest) none u next e begins = none (begins_any the_limits marks (before ++ (t ∷ [])) (subst (λ x. BeginsWithin the_limits marks (before ++ (x ∷ []))) (sym (first_token t u rest next e)) begins))
 
+not_ended : (t : Token) (rest : List Token) → t ∷ rest ≡ [] → ⊥
+not_ended t rest e = cc
+
+at_end : {A : Type 0} (marks : A → List Mark) (before rest : List Token) → NoneGoesOn marks before rest → rest ≡ [] → (tree : A) → AllFit before (marks tree) → ⊥
+at_end marks before [] none e = none
+at_end marks before (t ∷ rest) none e = absurd (not_ended t rest e)
+
 place_of : {A : Type 0} (marks : A → List Mark) (before : List Token) (why : Why) (rest : List Token) → IsRight the_limits marks before why rest → Place marks before rest
-place_of marks before expected rest right = record { begins = right.0; none = no_begin marks before rest right.1 }
+place_of marks before expected rest right = record { begins = right.0; none = no_begin marks before rest right.1; ends = at_end marks before rest right.1 }
 place_of marks before too_nested [] right = absurd right
-place_of marks before too_nested (t ∷ rest) right = record { begins = before_past the_limits _ marks before t right.0; none = same_token marks before t rest right.1 }
+place_of marks before too_nested (t ∷ rest) right = record { begins = before_past the_limits _ marks before t right.0; none = same_token marks before t rest right.1; ends = λ e. absurd (not_ended t rest e) }
 place_of marks before too_long [] right = absurd right
-place_of marks before too_long (t ∷ rest) right = record { begins = before_past the_limits _ marks before t right.0; none = same_token marks before t rest right.1 }
+place_of marks before too_long (t ∷ rest) right = record { begins = before_past the_limits _ marks before t right.0; none = same_token marks before t rest right.1; ends = λ e. absurd (not_ended t rest e) }
 place_of marks before too_many rest right = absurd right
+
+-- ---- what is refused rightly isn't derived
+
+whole_begins : {A : Type 0} (marks : A → List Mark) (ts : List Token) (y : A) → AllFit ts (marks y) → AllWithin the_limits (marks y) → BeginsWithin the_limits marks ts
+whole_begins marks ts y fit within = record { tree = y; first = marks y; others = []; more = []; whole = sym (append-nil (marks y)); fit = fit; within = within; goes_on = tt }
+
+not_there : {A : Type 0} (marks : A → List Mark) (before rest : List Token) → Place marks before rest → (y : A) → AllFit (before ++ rest) (marks y) → AllWithin the_limits (marks y) → ⊥
+not_there marks before [] place y fit within = place.ends refl y (subst (λ ts. AllFit ts (marks y)) (append-nil before) fit)
+not_there marks before (t ∷ rest) place y fit within =
+    place.none t rest refl (fewer the_limits marks (before ++ (t ∷ [])) rest (subst (λ ts. BeginsWithin the_limits marks ts) (sym (one_more before t rest)) (whole_begins marks (before ++ (t ∷ rest)) y fit within)))
+
+not_derived : {A : Type 0} (marks : A → List Mark) → NotDerived marks
+not_derived marks tokens halt y one fit within = not_there marks one.before halt.rest (place_of marks one.before halt.why halt.rest one.right) y (subst (λ ts. AllFit ts (marks y)) one.parts fit) within
+
+pub mono_is_not_derived : RefusedMonoIsNotDerived
+mono_is_not_derived = not_derived (Grammar.mono 1)
+
+pub formula_is_not_derived : RefusedFormulaIsNotDerived
+formula_is_not_derived = not_derived (Grammar.formula 1)
+
+pub proof_is_not_derived : RefusedProofIsNotDerived
+proof_is_not_derived = not_derived (Grammar.proof 1)
+
+-- ---- so it has one place
 
 one_refusal : {A : Type 0} (marks : A → List Mark) → OnePlace marks
 one_refusal marks tokens halt other one two = one_place marks one.before halt.rest two.before other.rest (sym one.parts ∙ two.parts) (place_of marks one.before halt.why halt.rest one.right) (place_of marks two.before other.why other.rest two.right)
@@ -147,13 +179,16 @@ full_begins before t full = record {
 }
 
 file_place : (before : List Token) (why : Why) (rest : List Token) → IsRightInFile before why rest → Place short_file before rest
-file_place before expected rest right = record { begins = right.0; none = λ u next e begins. no_begin Grammar.file before rest right.1 u next e (any_file (before ++ (u ∷ [])) begins) }
+file_place before expected rest right = record { begins = right.0; none = λ u next e begins. no_begin Grammar.file before rest right.1 u next e (any_file (before ++ (u ∷ [])) begins); ends = λ e f fit. at_end Grammar.file before rest right.1 e f.decls fit }
 file_place before too_nested [] right = absurd right
-file_place before too_nested (t ∷ rest) right = record { begins = before_past the_limits _ short_file before t right.0; none = λ u next e begins. same_token Grammar.file before t rest right.1 u next e (any_file (before ++ (u ∷ [])) begins) }
+file_place before too_nested (t ∷ rest) right = record { begins = before_past the_limits _ short_file before t right.0; none = λ u next e begins. same_token Grammar.file before t rest right.1 u next e (any_file (before ++ (u ∷ [])) begins); ends = λ e. absurd (not_ended t rest e) }
 file_place before too_long [] right = absurd right
-file_place before too_long (t ∷ rest) right = record { begins = before_past the_limits _ short_file before t right.0; none = λ u next e begins. same_token Grammar.file before t rest right.1 u next e (any_file (before ++ (u ∷ [])) begins) }
+file_place before too_long (t ∷ rest) right = record { begins = before_past the_limits _ short_file before t right.0; none = λ u next e begins. same_token Grammar.file before t rest right.1 u next e (any_file (before ++ (u ∷ [])) begins); ends = λ e. absurd (not_ended t rest e) }
 file_place before too_many [] right = absurd right
-file_place before too_many (t ∷ rest) right = record { begins = full_begins before t right.0; none = no_begin short_file before (t ∷ rest) right.1 }
+file_place before too_many (t ∷ rest) right = record { begins = full_begins before t right.0; none = no_begin short_file before (t ∷ rest) right.1; ends = λ e. absurd (not_ended t rest e) }
 
 pub file_has_one_place : FileHasOnePlace
 file_has_one_place tokens halt other one two = one_place short_file one.before halt.rest two.before other.rest (sym one.parts ∙ two.parts) (file_place one.before halt.why halt.rest one.right) (file_place two.before other.why other.rest two.right)
+
+pub file_is_not_derived : RefusedFileIsNotDerived
+file_is_not_derived tokens halt decls one fit within = not_there short_file one.before halt.rest (file_place one.before halt.why halt.rest one.right) (record { decls = decls; count = within.count }) (subst (λ ts. AllFit ts (Grammar.file decls)) one.parts fit) within.marks

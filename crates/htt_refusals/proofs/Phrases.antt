@@ -1,5 +1,5 @@
 -- Monotypes, formulas and proofs: each refusal is right.
-use Rattle.std.proofs.Common.{◌≡◌, ℕ, ◌<◌, ◌≤◌, List, [], ◌∷◌, ◌++◌, length, refl, sym, ◌∙◌, ap, subst, arith, append-nil}
+use Rattle.std.proofs.Common.{◌≡◌, ℕ, List, [], ◌∷◌, ◌++◌, length, refl, sym, subst, arith, append-nil}
 use Rattle.std.specs.Prelude.{Bool, true, false, Result, Ok, Err}
 use Rattle.htt_tokens.specs.declared.tokens.Kind.{Kind}
 use Rattle.htt_tokens.specs.declared.tokens.Token.{Token}
@@ -7,9 +7,9 @@ use Rattle.htt_grammar.specs.Marks.{Mark, Limits, Fits, AllFit, AllWithin}
 use Rattle.htt_grammar.specs.Grammar
 use Rattle.htt_grammar.specs.Derivations.{the_limits}
 use Rattle.htt_grammar.specs.Beginnings.{never}
-use Rattle.htt_grammar.specs.Readers.{Reader, Halt, Why, expected, too_nested, too_long, too_many}
+use Rattle.htt_grammar.specs.Readers.{Reader, Halt, Why, expected, too_nested, too_long}
 use Rattle.htt_grammar.specs.Phrases.{Deeper}
-use Rattle.htt_grammar.proofs.Spells.{Spells, spelled}
+use Rattle.htt_grammar.proofs.Spells.{spelled}
 use Rattle.htt_grammar.proofs.Gets.{Gets}
 use Rattle.htt_grammar.proofs.Monotypes.{Knows}
 use Rattle.htt_reading.specs.Laws.{outermost}
@@ -23,8 +23,8 @@ use Rattle.read_limits.proofs.Words.{Bar}
 use Rattle.read_places.proofs.Laws.{kept_same, answers_alike}
 use Rattle.read_limits.specs.Limits.{IsLimit}
 use Rattle.read_limits.proofs.Laws.{parts_of}
-use Rattle.htt_refusals.specs.Refusals.{Begins, BeginsWithin, GoesPast, IsTooDeep, IsTooFar, NoneGoesOn, NoneWithin, IsRight, Refusal, Ended}
-use Rattle.htt_refusals.specs.Laws.{MonoIsRefused, FormulaIsRefused, ProofIsRefused, MonoIsEnded, FormulaIsEnded, ProofIsEnded}
+use Rattle.htt_refusals.specs.Refusals.{NoneGoesOn, NoneWithin, IsRight, Refusal, Ended}
+use Rattle.htt_refusals.specs.Laws.{MonoIsRefused, FormulaIsRefused, ProofIsRefused, MonoIsEnded, FormulaIsEnded, ProofIsEnded, nothing_left, to_end, WholeMonoIsRefused, WholeFormulaIsRefused, WholeProofIsRefused}
 use Rattle.htt_refusals.proofs.Places.{clash, clash_ended, one_more, wider, widest, knows_widest, all_within, follow_widest, follow_outermost, ending_outermost, bar_widest, not_past, fit_whole}
 
 module _ {A : Type 0} (read : Deeper → Reader A) (marks : A → List Mark) (c : Kind → Bool) (gets : (lim : Limits) (d : Deeper) → Knows lim d 1 → (n : ℕ) (x : A) → Gets lim c n (read d) (marks x) x) (follows : (b : Bool) (d e : Deeper) → Follow b d e → (n m : ℕ) → Follows b n m (read d) (read e)) (ends : (lim : Limits) (d : Deeper) → Ending lim d 1 → Ends lim (read d) marks) (barred : (d : Deeper) → Bar the_limits outermost d 1 → Bars the_limits (λ ns. ns) (read outermost) (read d) marks) where
@@ -85,6 +85,28 @@ module _ {A : Type 0} (read : Deeper → Reader A) (marks : A → List Mark) (c 
             (reads_wide (p.before ++ (token ∷ begins.more)) begins.tree (subst (λ ts. AllFit ts (marks begins.tree)) (one_more p.before token begins.more) begins.fit));
       }
 
+  of_ended : (tokens : List Token) (tree : A) (token : Token) (rest : List Token) → Ended (λ y. AllWithin the_limits (marks y)) marks tokens tree token rest → Refusal marks tokens (record { why = expected; rest = token ∷ rest })
+  of_ended tokens tree token rest end = record {
+    before = end.before;
+    parts = end.parts;
+    right = (record { tree = tree; first = marks tree; others = []; more = []; whole = sym (append-nil (marks tree)); fit = end.derived; within = end.within; goes_on = tt }, end.none);
+  }
+
+  whole_refusal : (tokens : List Token) (halt : Halt) → to_end (read outermost tokens) ≡ Err halt → Refusal marks tokens halt
+  whole_refusal tokens halt e = by_answer (read outermost tokens) refl e
+    where
+      by_rest : (tree : A) (rest : List Token) → read outermost tokens ≡ Ok (tree, rest) → nothing_left tree rest ≡ Err halt → Refusal marks tokens halt
+      by_rest tree [] is e = cc
+      by_rest tree (token ∷ rest) is e =
+          let same : record { why = expected; rest = token ∷ rest } ≡ halt = cc in
+          subst (λ h. Refusal marks tokens h) same (of_ended tokens tree token rest (ended tokens tree token rest is))
+
+      by_answer : (o : Result (A × List Token) Halt) → read outermost tokens ≡ o → to_end o ≡ Err halt → Refusal marks tokens halt
+      by_answer (Ok read) is e = by_rest read.0 read.1 is e
+      by_answer (Err halted) is e =
+          let same : halted ≡ halt = cc in
+          subst (λ h. Refusal marks tokens h) same (refusal tokens halted is)
+
 -- ---- the productions
 
 pub mono_is_refused : MonoIsRefused
@@ -104,3 +126,12 @@ formula_is_ended = ended (λ d. d.formula) (Grammar.formula 1) _ (λ lim d know 
 
 pub proof_is_ended : ProofIsEnded
 proof_is_ended = ended (λ d. d.proof) (Grammar.proof 1) never (λ lim d know n x. know.proof x) (λ b d e follow n m. follow.proof) (λ lim d ending. ending.proof) (λ d bar. bar.proof.bars)
+
+pub whole_mono_is_refused : WholeMonoIsRefused
+whole_mono_is_refused = whole_refusal (λ d. d.mono) (Grammar.mono 1) _ (λ lim d know n x. know.mono x) (λ b d e follow n m. follow.mono) (λ lim d ending. ending.mono) (λ d bar. bar.mono.bars)
+
+pub whole_formula_is_refused : WholeFormulaIsRefused
+whole_formula_is_refused = whole_refusal (λ d. d.formula) (Grammar.formula 1) _ (λ lim d know n x. know.formula x) (λ b d e follow n m. follow.formula) (λ lim d ending. ending.formula) (λ d bar. bar.formula.bars)
+
+pub whole_proof_is_refused : WholeProofIsRefused
+whole_proof_is_refused = whole_refusal (λ d. d.proof) (Grammar.proof 1) never (λ lim d know n x. know.proof x) (λ b d e follow n m. follow.proof) (λ lim d ending. ending.proof) (λ d bar. bar.proof.bars)

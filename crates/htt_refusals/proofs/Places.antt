@@ -1,23 +1,20 @@
 -- Where a reader stops, by the trees that its completions give and by the readers that may read on.
-use Rattle.std.proofs.Common.{◌≡◌, ℕ, zero, suc, ◌+◌, ◌<◌, ◌≤◌, List, [], ◌∷◌, ◌++◌, length, refl, sym, ◌∙◌, ap, subst, arith, lit≤, lit<, append_assoc, append-nil}
-use Rattle.std.specs.Prelude.{Bool, true, false, Result, Ok, Err}
+use Rattle.std.proofs.Common.{◌≡◌, ℕ, ◌+◌, ◌≤◌, List, [], ◌∷◌, ◌++◌, length, refl, sym, ◌∙◌, ap, subst, arith, lit≤, lit<, append_assoc}
+use Rattle.std.specs.Prelude.{Bool, true, false, Ok, Err}
 use Rattle.std.proofs.lemmas.List.{append_cancel_right}
-use Rattle.htt_tokens.specs.declared.tokens.Kind.{Kind}
 use Rattle.htt_tokens.specs.declared.tokens.Token.{Token}
 use Rattle.htt_grammar.specs.Marks.{Mark, Limits, IsWithin, AllFit, AllWithin}
 use Rattle.htt_grammar.specs.Derivations.{the_limits}
-use Rattle.htt_grammar.specs.Readers.{Reader, Halt, Why, expected, too_nested, too_long, too_many}
+use Rattle.htt_grammar.specs.Readers.{Reader, Halt, Why}
 use Rattle.htt_grammar.specs.Phrases.{Deeper}
 use Rattle.htt_grammar.specs.Reading.{deeper}
-use Rattle.htt_grammar.proofs.Spells.{Spells, spelled}
-use Rattle.htt_grammar.proofs.Gets.{Gets}
 use Rattle.htt_grammar.proofs.Monotypes.{Knows}
 use Rattle.htt_grammar.proofs.Files.{knows}
 use Rattle.htt_grammar.proofs.One.{levels, operands, within}
 use Rattle.htt_reading.specs.Laws.{outermost}
 use Rattle.htt_reading.proofs.Tells.{left_of}
 use Rattle.read_places.specs.Alike.{Alike}
-use Rattle.read_places.proofs.Follows.{Kept, Answers, Follows}
+use Rattle.read_places.proofs.Follows.{Kept, Answers}
 use Rattle.read_places.proofs.Words.{Follow}
 use Rattle.read_places.proofs.Files.{follow_self, follow_greater}
 use Rattle.read_completions.proofs.Halts.{fit_both}
@@ -29,7 +26,6 @@ use Rattle.read_limits.proofs.Bars.{Bars}
 use Rattle.read_limits.proofs.Laws.{stops_past}
 use Rattle.read_limits.proofs.Words.{Bar}
 use Rattle.read_limits.proofs.Files.{bar}
-use Rattle.htt_refusals.specs.Refusals.{Begins, BeginsWithin, GoesPast, IsTooDeep, IsTooFar, NoneGoesOn, NoneWithin}
 
 -- ---- a reader that follows doesn't read on to the end
 

@@ -1,11 +1,11 @@
 -- A reader stops at the first token with which what was read can't go on, for the right reason.
-use Rattle.std.specs.Prelude.{◌≡◌, List, ◌∷◌, Ok, Err}
+use Rattle.std.specs.Prelude.{◌≡◌, List, [], ◌∷◌, Result, Ok, Err}
 use Rattle.htt_tokens.specs.declared.tokens.Token.{Token}
-use Rattle.raw_trees.specs.Trees.{MonoTree, FormulaTree, ProofTree}
-use Rattle.htt_grammar.specs.Marks.{Mark}
+use Rattle.raw_trees.specs.Trees.{MonoTree, FormulaTree, ProofTree, DeclTree}
+use Rattle.htt_grammar.specs.Marks.{Mark, AllFit, AllWithin}
 use Rattle.htt_grammar.specs.Grammar.{mono, formula, proof}
-use Rattle.htt_grammar.specs.Derivations.{IsFormulaWithin, IsProofWithin}
-use Rattle.htt_grammar.specs.Readers.{Halt}
+use Rattle.htt_grammar.specs.Derivations.{the_limits, IsFile, IsFormulaWithin, IsProofWithin, IsFileWithin}
+use Rattle.htt_grammar.specs.Readers.{Halt, expected}
 use Rattle.htt_reading.specs.Laws.{read_mono, read_formula, read_proof, read_file, IsMonoWithin}
 use Rattle.htt_refusals.specs.Refusals.{Refusal, FileRefusal, Ended}
 
@@ -33,6 +33,43 @@ FormulaIsEnded = (tokens : List Token) (tree : FormulaTree) (token : Token) (res
 
 abbrev pub ProofIsEnded : Type 0
 ProofIsEnded = (tokens : List Token) (tree : ProofTree) (token : Token) (rest : List Token) → read_proof tokens ≡ Ok (tree, token ∷ rest) → Ended IsProofWithin (proof 1) tokens tree token rest
+
+-- ---- to the end of the tokens
+
+abbrev pub nothing_left : {A : Type 0} → A → List Token → Result A Halt
+nothing_left tree [] = Ok tree
+nothing_left tree (token ∷ rest) = Err (record { why = expected; rest = token ∷ rest })
+
+-- the tree, where no token is left
+abbrev pub to_end : {A : Type 0} → Result (A × List Token) Halt → Result A Halt
+to_end (Ok read) = nothing_left read.0 read.1
+to_end (Err halt) = Err halt
+
+abbrev pub WholeMonoIsRefused : Type 0
+WholeMonoIsRefused = (tokens : List Token) (halt : Halt) → to_end (read_mono tokens) ≡ Err halt → Refusal (mono 1) tokens halt
+
+abbrev pub WholeFormulaIsRefused : Type 0
+WholeFormulaIsRefused = (tokens : List Token) (halt : Halt) → to_end (read_formula tokens) ≡ Err halt → Refusal (formula 1) tokens halt
+
+abbrev pub WholeProofIsRefused : Type 0
+WholeProofIsRefused = (tokens : List Token) (halt : Halt) → to_end (read_proof tokens) ≡ Err halt → Refusal (proof 1) tokens halt
+
+-- ---- what is refused rightly isn't derived within the limits
+
+abbrev pub NotDerived : {A : Type 0} → (A → List Mark) → Type 0
+NotDerived {A = A} marks = (tokens : List Token) (halt : Halt) (tree : A) → Refusal marks tokens halt → AllFit tokens (marks tree) → AllWithin the_limits (marks tree) → ⊥
+
+abbrev pub RefusedMonoIsNotDerived : Type 0
+RefusedMonoIsNotDerived = NotDerived (mono 1)
+
+abbrev pub RefusedFormulaIsNotDerived : Type 0
+RefusedFormulaIsNotDerived = NotDerived (formula 1)
+
+abbrev pub RefusedProofIsNotDerived : Type 0
+RefusedProofIsNotDerived = NotDerived (proof 1)
+
+abbrev pub RefusedFileIsNotDerived : Type 0
+RefusedFileIsNotDerived = (tokens : List Token) (halt : Halt) (decls : List DeclTree) → FileRefusal tokens halt → IsFile tokens decls → IsFileWithin decls → ⊥
 
 -- ---- a right refusal has one place
 

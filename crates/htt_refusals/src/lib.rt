@@ -3,12 +3,13 @@
 //! contract.
 #![tactic(auto)]
 
-ghost use Rattle.htt_refusals.specs.Laws.{FileHasOnePlace, FileIsRefused, FormulaHasOnePlace, FormulaIsEnded, FormulaIsRefused, MonoHasOnePlace, MonoIsEnded, MonoIsRefused, ProofHasOnePlace, ProofIsEnded, ProofIsRefused};
+ghost use Rattle.htt_refusals.specs.Examples.{WorkedRefusals};
+ghost use Rattle.htt_refusals.specs.Laws.{FileHasOnePlace, FileIsRefused, FormulaHasOnePlace, FormulaIsEnded, FormulaIsRefused, MonoHasOnePlace, MonoIsEnded, MonoIsRefused, ProofHasOnePlace, ProofIsEnded, ProofIsRefused, RefusedFileIsNotDerived, RefusedFormulaIsNotDerived, RefusedMonoIsNotDerived, RefusedProofIsNotDerived, WholeFormulaIsRefused, WholeMonoIsRefused, WholeProofIsRefused};
 
 /// The tokens before a refused one begin a tree, within the limits. A token that is refused as
 /// unexpected goes on with no tree that begins so; one that is refused at a limit goes on with one
 /// that is past the limit, and with none that is within all of them.
-pub fn what_is_refused_is_wrong()
+pub fn refusals_are_right()
     ensures monotypes { MonoIsRefused }
     ensures formulas { FormulaIsRefused }
     ensures proofs { ProofIsRefused }
@@ -22,10 +23,30 @@ pub fn what_is_left_goes_on_with_nothing()
     ensures proofs { ProofIsEnded }
 {}
 
+/// So a phrase that is read to the end of the tokens is refused rightly, wherever reading stops.
+pub fn refusals_to_the_end_are_right()
+    ensures monotypes { WholeMonoIsRefused }
+    ensures formulas { WholeFormulaIsRefused }
+    ensures proofs { WholeProofIsRefused }
+{}
+
+/// What is refused rightly isn't derived within the limits.
+pub fn what_is_refused_is_not_derived()
+    ensures monotypes { RefusedMonoIsNotDerived }
+    ensures formulas { RefusedFormulaIsNotDerived }
+    ensures proofs { RefusedProofIsNotDerived }
+    ensures files { RefusedFileIsNotDerived }
+{}
+
 /// No two places are right for the same tokens.
 pub fn refusals_have_one_place()
     ensures monotypes { MonoHasOnePlace }
     ensures formulas { FormulaHasOnePlace }
     ensures proofs { ProofHasOnePlace }
     ensures files { FileHasOnePlace }
+{}
+
+/// Stops that were worked out by hand.
+pub fn worked_refusals()
+    ensures { WorkedRefusals }
 {}

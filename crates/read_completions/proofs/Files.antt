@@ -1,32 +1,26 @@
 -- The readers at every level, and those of declarations and files, stop behind what begins some tree.
-use Rattle.std.proofs.Common.{◌≡◌, ℕ, zero, suc, ◌+◌, ◌≤◌, List, [], ◌∷◌, ◌++◌, refl, sym, ap, arith}
+use Rattle.std.proofs.Common.{◌≡◌, ℕ, zero, suc, ◌+◌, ◌≤◌, List, [], ◌∷◌, ◌++◌, refl, sym, ap, arith, ◌<◌, length, ◌∙◌, subst, append_assoc, append-nil}
 use Rattle.htt_tokens.specs.declared.tokens.Kind.{Kind}
-use Rattle.htt_tokens.specs.declared.tokens.Kind.TheVariants.{Keyword, Sign}
+use Rattle.htt_tokens.specs.declared.tokens.Kind.TheVariants.{Keyword, Sign, Name}
 use Rattle.htt_tokens.specs.declared.tokens.Keyword.TheVariants.{TypeWord, PredWord, DefWord, ValWord, ProofWord, AutoWord, InductWord}
 use Rattle.htt_tokens.specs.declared.tokens.Sign.TheVariants.{OpenParenSign, CloseParenSign, OpenBracketSign, CloseBracketSign, OpenBraceSign, CloseBraceSign, CommaSign, ColonSign, DotSign, EqualSign}
 use Rattle.raw_trees.specs.declared.place.Span.{Span}
 use Rattle.raw_trees.specs.Trees.{TyTree, TermTree, mono_param, body_proof, DeclTree, decl_type, decl_pred, decl_def, decl_val, decl_proof}
 use Rattle.htt_grammar.specs.Marks.{Mark, Limits, ◌⨟◌, sign, word, name, separated, each_after}
 use Rattle.htt_grammar.specs.Grammar
-use Rattle.htt_grammar.specs.Readers.{measured, give, ◌>>=◌, if_first, after_commas}
+use Rattle.htt_grammar.specs.Readers.{measured, give, ◌>>=◌, if_first, after_commas, Halt, Why, expected, too_nested, too_long, too_many, after, refuse}
 use Rattle.htt_grammar.specs.Phrases.{Deeper, a_name_there, is_close}
 use Rattle.htt_grammar.specs.Reading.{deeper, mono_parameter_at, mono_parameters_at, pred_on, induct_on, pred_case, body_case, body_at, typed_on, decl_case, decl_at, file_on}
-use Rattle.std.proofs.Common.{◌<◌, length, ◌∙◌, subst, append_assoc, append-nil}
-use Rattle.htt_reading.proofs.Words.{Stands}
-use Rattle.htt_reading.proofs.Tells.{list_in_brackets}
-use Rattle.read_completions.proofs.Halts.{Halts, Ends, Case, halts_then, halts_last, halts_give, halts_stop, halts_either, halts_choice, halts_first, ends_measured, whole_start, halts_past, halts_cond, halts_deep}
-use Rattle.read_completions.proofs.Words.{Ending, numbered_ends, at_word, at_sign, at_number, a_word, a_sign', a_name', or_sign, or_word, skip, binder_ends, name_ends, number_ends, heap_ends, more_end, mono_ends, bracketed_ends, more_monos_end}
+use Rattle.htt_reading.proofs.Words.{Stands, Trusts}
+use Rattle.htt_reading.proofs.Tells.{list_in_brackets, join}
+use Rattle.read_completions.proofs.Halts.{Halts, Ends, Case, halts_then, halts_last, halts_give, halts_either, halts_choice, halts_first, halts_deep, Completion, Stopped, Past, halts_reround}
+use Rattle.read_completions.proofs.Words.{Ending, at_word, a_word, a_sign', skip, binder_ends, name_ends, number_ends, more_end, mono_ends}
 use Rattle.std.specs.Prelude.{Bool, true, false, Result, Ok, Err, cond}
-use Rattle.htt_tokens.specs.declared.tokens.Kind.TheVariants.{Name}
 use Rattle.htt_tokens.specs.declared.tokens.Token.{Token}
-use Rattle.htt_grammar.specs.Readers.{Reader, Halt, Why, expected, too_nested, too_long, too_many, after, refuse}
 use Rattle.htt_grammar.specs.Beginnings.{begins_mono, begins_ty, begins_term, begins_comp, begins_fatom, begins_formula, begins_proof, begins_decl}
 use Rattle.htt_grammar.proofs.Spells.{Spells}
-use Rattle.htt_reading.proofs.Tells.{join}
-use Rattle.htt_reading.proofs.Words.{Trusts}
 use Rattle.htt_reading.proofs.Files.{trusts}
 use Rattle.htt_reading.proofs.Files as files
-use Rattle.read_completions.proofs.Halts.{Completion, Stopped, Past, halts_reround}
 use Rattle.read_completions.proofs.Starts.{the_span, starts_mono, starts_ty, starts_term, starts_comp, starts_formula, starts_disj, starts_conj, starts_star, starts_proof}
 use Rattle.read_completions.proofs.Terms.{ty_ends, term_ends, comp_ends}
 use Rattle.read_completions.proofs.Formulas.{formula_ends, disj_ends, conj_ends, star_ends}

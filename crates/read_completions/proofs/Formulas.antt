@@ -11,11 +11,10 @@ use Rattle.htt_grammar.specs.Marks.{Mark, Limits, ◌⨟◌, sign, name, sign_at
 use Rattle.htt_grammar.specs.Grammar
 use Rattle.htt_grammar.specs.Readers.{give, ◌>>=◌, token}
 use Rattle.htt_grammar.specs.Phrases.{Deeper, terms_there, sort_at, quantified, argument_case, use_case, fatom_case, relation_case, fatom_at, star_at, conj_at, disj_at, quantifier_case, formula_at}
-use Rattle.std.proofs.Common.{[], ◌∷◌, ◌<◌}
 use Rattle.htt_reading.proofs.Words.{Stands}
 use Rattle.htt_reading.proofs.Tells.{list_in_brackets}
-use Rattle.read_completions.proofs.Halts.{Halts, Ends, Case, halts_then, halts_last, halts_give, halts_stop, halts_either, halts_choice, halts_first, ends_measured, whole_start, halts_past, halts_cond, halts_deep}
-use Rattle.read_completions.proofs.Words.{Ending, numbered_ends, at_word, at_sign, at_number, a_word, a_sign', a_name', or_sign, or_word, skip, binder_ends, name_ends, number_ends, heap_ends, more_end, mono_ends, bracketed_ends, more_monos_end}
+use Rattle.read_completions.proofs.Halts.{Halts, Ends, Case, halts_then, halts_last, halts_give, halts_either, halts_choice}
+use Rattle.read_completions.proofs.Words.{Ending, at_word, at_sign, a_sign', or_sign, or_word, skip, binder_ends, name_ends, heap_ends, mono_ends, bracketed_ends, more_monos_end}
 use Rattle.htt_reading.proofs.Formulas as formulas
 use Rattle.read_completions.proofs.Starts.{the_span}
 use Rattle.read_completions.proofs.Terms.{more_terms_end, terms_end, rel_ends}

@@ -1,11 +1,11 @@
 -- Where a reader stops, what it read begins some tree. How this goes from the parts of a phrase to the
 -- phrase.
-use Rattle.std.proofs.Common.{◌≡◌, ℕ, suc, ◌<◌, ◌≤◌, List, [], ◌∷◌, ◌++◌, length, refl, sym, ◌∙◌, ap, subst, arith, append_assoc, append-nil}
-use Rattle.std.specs.Prelude.{Bool, true, false, ◌&&◌, Option, Some, None, Result, Ok, Err, cond}
+use Rattle.std.proofs.Common.{◌≡◌, ℕ, ◌<◌, List, [], ◌∷◌, ◌++◌, length, refl, sym, ◌∙◌, ap, subst, append_assoc}
+use Rattle.std.specs.Prelude.{Bool, true, false, Option, Some, None, Result, Ok, Err, cond}
 use Rattle.htt_tokens.specs.declared.tokens.Kind.{Kind}
 use Rattle.htt_tokens.specs.declared.tokens.Token.{Token}
 use Rattle.raw_trees.specs.declared.place.Span.{Span}
-use Rattle.htt_grammar.specs.Marks.{Mark, Limits, Fits, Given, IsWithin, AllFit, span_of, ◌⨟◌, numbered}
+use Rattle.htt_grammar.specs.Marks.{Mark, Limits, Given, IsWithin, AllFit, span_of, ◌⨟◌, numbered}
 use Rattle.htt_grammar.specs.Readers.{Reader, Halt, Why, expected, too_nested, too_long, give, after, ◌>>=◌, stop, refused, refuse, chosen, either, first_is, if_first, measured, same_kind, that}
 use Rattle.htt_grammar.proofs.Spells.{Spells}
 use Rattle.htt_reading.proofs.Tells.{Tells, join, same_kinds}

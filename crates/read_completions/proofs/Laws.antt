@@ -1,5 +1,5 @@
 -- What is said to begin a phrase begins one.
-use Rattle.std.proofs.Common.{◌≡◌, ℕ, List, ◌∷◌, sym, subst}
+use Rattle.std.proofs.Common.{ℕ, List, ◌∷◌, sym, subst}
 use Rattle.htt_tokens.specs.declared.tokens.Token.{Token}
 use Rattle.htt_grammar.specs.Marks.{Mark, AllFit, span_of}
 use Rattle.read_completions.specs.Laws.{Started, MonoStarts, TypeStarts, TermStarts, CompStarts, FormulaStarts, ProofStarts, DeclStarts}

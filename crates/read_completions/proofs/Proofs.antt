@@ -1,5 +1,5 @@
 -- The readers of proofs stop behind what begins some tree.
-use Rattle.std.proofs.Common.{◌≡◌, ℕ, zero, suc, ◌+◌, ◌≤◌, List, [], ◌∷◌, ◌++◌, refl, sym, ap, arith, append_assoc}
+use Rattle.std.proofs.Common.{◌≡◌, ℕ, zero, suc, ◌+◌, List, [], ◌∷◌, ◌++◌, refl, sym, ap, arith, append_assoc}
 use Rattle.htt_tokens.specs.declared.tokens.Kind.{Kind}
 use Rattle.htt_tokens.specs.declared.tokens.Kind.TheVariants.{Name, Keyword, Sign}
 use Rattle.htt_tokens.specs.declared.tokens.Keyword.TheVariants.{IntroWord, GenWord, HaveWord, OpenWord, BothWord, LeftWord, RightWord, GiveWord, TrivialWord, ReflWord, AbsurdWord, CaseWord, RewriteWord, InductWord, SplitWord, FirstWord, SecondWord, AppWord, InstWord, AxiomWord, LemWord, TheWord}
@@ -7,21 +7,19 @@ use Rattle.htt_tokens.specs.declared.tokens.Sign.TheVariants.{OpenParenSign, Clo
 use Rattle.raw_trees.specs.declared.place.Span.{Span}
 use Rattle.raw_trees.specs.declared.proof.UnaryRule.{UnaryRule}
 use Rattle.raw_trees.specs.declared.proof.UnaryRule.TheVariants as unary_rules
-use Rattle.raw_trees.specs.Trees.{ArgTree, arg_heap, arg_term, ProofTree, EndTree, p_end, p_step, e_axiom, more_proofs}
+use Rattle.raw_trees.specs.Trees.{ArgTree, arg_heap, arg_term, ProofTree, EndTree, p_end, p_step, e_axiom, more_proofs, no_proofs, e_app, e_inst}
 use Rattle.htt_grammar.specs.Marks.{Mark, Limits, ◌⨟◌, sign, name, number, word_at, each_after}
 use Rattle.htt_grammar.specs.Grammar
 use Rattle.htt_grammar.specs.Readers.{give, ◌>>=◌, token}
 use Rattle.htt_grammar.specs.Phrases.{Deeper}
 use Rattle.htt_grammar.specs.Reading.{arg_case, arg_at, more_args, args_there, motive_at, args_on, proofs_on, app_more, inst_more, unary_at, axiom_case, end_case, end_at, stmt_case, stmt_at, proof_on, proof_at}
-use Rattle.std.proofs.Common.{[], ◌∷◌, ◌<◌}
 use Rattle.htt_reading.proofs.Words.{Stands}
 use Rattle.htt_reading.proofs.Tells.{list_in_brackets}
-use Rattle.read_completions.proofs.Halts.{Halts, Ends, Case, halts_then, halts_last, halts_give, halts_stop, halts_either, halts_choice, halts_first, ends_measured, whole_start, halts_past, halts_cond, halts_deep}
-use Rattle.read_completions.proofs.Words.{Ending, numbered_ends, at_word, at_sign, at_number, a_word, a_sign', a_name', or_sign, or_word, skip, binder_ends, name_ends, number_ends, heap_ends, more_end, mono_ends, bracketed_ends, more_monos_end}
+use Rattle.read_completions.proofs.Halts.{Halts, Ends, Case, halts_then, halts_last, halts_give, halts_stop, halts_either, halts_choice, halts_first, ends_measured, whole_start, halts_past}
+use Rattle.read_completions.proofs.Words.{Ending, numbered_ends, at_word, at_sign, a_sign', a_name', or_sign, skip, binder_ends, name_ends, number_ends, heap_ends, more_end, mono_ends, more_monos_end}
 use Rattle.htt_grammar.specs.Beginnings.{begins_arg, begins_proof}
 use Rattle.htt_grammar.proofs.Spells.{begins_of}
 use Rattle.htt_grammar.proofs.Opens.{opens_proof, opens_operand}
-use Rattle.raw_trees.specs.Trees.{no_proofs, e_app, e_inst}
 use Rattle.htt_reading.proofs.Proofs as proofs
 use Rattle.read_completions.proofs.Starts.{the_span, starts_arg, starts_proof}
 use Rattle.read_completions.proofs.Terms.{chain_next, chain_now, at_most, none_left}

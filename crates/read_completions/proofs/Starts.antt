@@ -5,20 +5,18 @@ use Rattle.htt_tokens.specs.declared.tokens.Kind.{Kind}
 use Rattle.htt_tokens.specs.declared.tokens.Kind.TheVariants.{Name, Number, Keyword, Sign}
 use Rattle.htt_tokens.specs.declared.tokens.Token.{Token}
 use Rattle.htt_tokens.specs.declared.tokens.Keyword.TheVariants.{TypeWord, PredWord, DefWord, ValWord, ProofWord, WordWord, BoolWord, LocWord, UnitWord, FunWord, DoWord, FixWord, RetWord, TrueWord, FalseWord, NullWord, PlaceWord, FstWord, SndWord, NotWord, EqWord, SelWord, EmpWord, TtWord, FfWord, AllWord, ExWord, CapitalEmpWord, CellWord, BlockWord, JoinWord, SameWord, IntroWord, GenWord, HaveWord, OpenWord, BothWord, LeftWord, RightWord, GiveWord, TrivialWord, ReflWord, AbsurdWord, CaseWord, RewriteWord, InductWord, SplitWord, FirstWord, SecondWord, AppWord, InstWord, AxiomWord, LemWord, TheWord}
-use Rattle.htt_tokens.specs.declared.tokens.Sign.TheVariants.{OpenParenSign, CloseParenSign, OpenBracketSign, CloseBracketSign, OpenBraceSign, PointsToSign, UnderscoreSign, AtSign, BangSign}
+use Rattle.htt_tokens.specs.declared.tokens.Sign.TheVariants.{OpenParenSign, OpenBracketSign, OpenBraceSign, PointsToSign, UnderscoreSign, AtSign, BangSign}
 use Rattle.raw_trees.specs.declared.place.Span.{Span}
-use Rattle.raw_trees.specs.declared.place.Binder.{Binder}
 use Rattle.raw_trees.specs.declared.place.Binder.TheVariants as binders
-use Rattle.raw_trees.specs.declared.mono.MonoName.{MonoName}
 use Rattle.raw_trees.specs.declared.mono.MonoName.TheVariants as mono_names
 use Rattle.raw_trees.specs.declared.tree.UnaryWord.TheVariants as unary_words
 use Rattle.raw_trees.specs.declared.tree.RawHeap.{RawHeap}
 use Rattle.raw_trees.specs.declared.tree.RawHeap.TheVariants as heaps
 use Rattle.raw_trees.specs.declared.proof.UnaryRule.TheVariants as unary_rules
-use Rattle.raw_trees.specs.Trees.{FactorTree, MonoTree, m_name, m_brackets, m_factor, m_pair, TyTree, TripleTree, TermTree, ApplTree, AtomTree, CompTree, StepTree, FormulaTree, DisjTree, ConjTree, StarTree, FatomTree, y_fun, y_all, y_hoare, y_mono, triple_of, t_fun, t_do, t_fix, t_rel, no_params, r_sum, s_sum, s_end, ProdTree, x_prod, x_end, l_unary, l_apply, no_parts, a_name, a_number, a_true, a_false, a_null, a_place, a_eq, a_sel, a_unit, c_ret, c_step, s_run, f_all, f_ex, f_disj, over_heap, d_conj, j_star, k_fatom, g_tt, g_ff, g_emp, g_brackets, g_at_heap, g_emp_of, g_same, g_join, g_cell, g_block, g_use, g_points_any, no_terms, ArgTree, arg_heap, arg_term, MotiveTree, motive_of, ProofTree, StmtTree, EndTree, p_end, p_step, b_intro, b_gen, b_open, b_have, e_name, e_trivial, e_refl, e_unary, e_both, e_give, e_app, e_inst, e_case, e_rewrite, e_induct, e_split, e_axiom, e_lem, e_the, no_proofs, body_auto, DeclTree, decl_type, decl_pred, decl_def, decl_val, decl_proof}
-use Rattle.htt_grammar.specs.Marks.{Mark, Given, Fits, AllFit, ◌⨟◌, sign}
+use Rattle.raw_trees.specs.Trees.{MonoTree, m_name, m_brackets, m_factor, TripleTree, TermTree, AtomTree, CompTree, StepTree, FormulaTree, FatomTree, y_all, y_hoare, y_mono, triple_of, t_fun, t_do, t_fix, t_rel, no_params, r_sum, s_sum, s_end, x_prod, x_end, l_unary, l_apply, no_parts, a_name, a_number, a_true, a_false, a_null, a_place, a_eq, a_sel, a_unit, c_ret, c_step, s_run, f_all, f_ex, f_disj, over_heap, d_conj, j_star, k_fatom, g_tt, g_ff, g_emp, g_brackets, g_at_heap, g_emp_of, g_same, g_join, g_cell, g_block, g_use, g_points_any, no_terms, arg_heap, arg_term, MotiveTree, motive_of, ProofTree, p_end, p_step, b_intro, b_gen, b_open, b_have, e_name, e_trivial, e_refl, e_unary, e_both, e_give, e_app, e_inst, e_case, e_rewrite, e_induct, e_split, e_axiom, e_lem, e_the, no_proofs, body_auto, decl_type, decl_pred, decl_def, decl_val, decl_proof}
+use Rattle.htt_grammar.specs.Marks.{Mark, Given, AllFit, ◌⨟◌, sign}
 use Rattle.htt_grammar.specs.Grammar
-use Rattle.htt_grammar.specs.Beginnings.{begins_mono, begins_ty, begins_atom, begins_appl, begins_term, begins_comp, begins_fatom, begins_formula, begins_arg, begins_stmt, begins_end, begins_proof, begins_decl}
+use Rattle.htt_grammar.specs.Beginnings.{begins_mono, begins_ty, begins_atom, begins_appl, begins_term, begins_comp, begins_fatom, begins_formula, begins_arg, begins_end, begins_proof, begins_decl}
 use Rattle.read_completions.proofs.Halts.{Start, fit_both}
 
 -- ---- tokens for marks

@@ -1,27 +1,21 @@
 -- The readers of terms, types and computations stop behind what begins some tree.
-use Rattle.std.proofs.Common.{◌≡◌, ℕ, zero, suc, ◌+◌, ◌≤◌, List, refl, arith, append-nil}
-use Rattle.std.specs.Prelude.{Bool, true, false, Ok, cond}
+use Rattle.std.proofs.Common.{◌≡◌, ℕ, zero, suc, ◌+◌, ◌≤◌, refl, arith, append-nil, [], ◌∷◌, ◌<◌}
 use Rattle.htt_tokens.specs.declared.tokens.Kind.{Kind}
 use Rattle.htt_tokens.specs.declared.tokens.Kind.TheVariants.{Name, Number, Keyword, Sign}
-use Rattle.htt_tokens.specs.declared.tokens.Token.{Token}
 use Rattle.htt_tokens.specs.declared.tokens.Keyword.TheVariants.{FunWord, DoWord, FixWord, RetWord, AllocWord, GetWord, SetWord, FreeWord, IfWord, ClaimWord, TrueWord, FalseWord, NullWord, PlaceWord, FstWord, SndWord, NotWord, EqWord, SelWord}
 use Rattle.htt_tokens.specs.declared.tokens.Sign.TheVariants.{OpenParenSign, CloseParenSign, OpenBracketSign, CloseBracketSign, OpenBraceSign, CloseBraceSign, CommaSign, SemicolonSign, ColonSign, DotSign, ArrowSign, LeftArrowSign, PlusSign, MinusSign, StarSign, AmpersandSign, BarSign, CaretSign, ShiftLeftSign, ShiftRightSign, LessSign}
 use Rattle.raw_trees.specs.declared.place.Span.{Span}
 use Rattle.raw_trees.specs.declared.tree.UnaryWord.TheVariants as unary_words
-use Rattle.raw_trees.specs.Trees.{ProdSign, SumSign, ampersand, bar, caret, minus, plus, shift_left, shift_right, times, TyTree, TermTree, SumRestTree, ProdRestTree, PartTrees, y_fun, y_all, y_hoare, y_mono, t_fun, t_fun_mono, t_do, t_fix, t_rel, more_params, r_sum, r_less, s_sum, s_more, x_prod, x_more, l_unary, l_apply, atom_part, mono_part, a_place, c_ret, c_step, s_alloc, s_get, s_set, s_free, s_run, more_terms}
+use Rattle.raw_trees.specs.Trees.{ProdSign, SumSign, ampersand, bar, caret, minus, plus, shift_left, shift_right, times, TermTree, SumRestTree, ProdRestTree, PartTrees, y_fun, y_all, y_hoare, y_mono, t_fun, t_fun_mono, t_do, t_fix, t_rel, more_params, r_sum, r_less, s_sum, s_more, x_prod, x_more, l_unary, l_apply, atom_part, mono_part, a_place, c_ret, c_step, s_alloc, s_get, s_set, s_free, s_run, more_terms, s_end, x_end, no_parts}
 use Rattle.htt_grammar.specs.Marks.{Limits, ◌⨟◌, sign, sign_at}
 use Rattle.htt_grammar.specs.Grammar
 use Rattle.htt_grammar.specs.Readers.{Reader, measured, give, ◌>>=◌, stop, either}
-use Rattle.htt_grammar.specs.Beginnings.{sum_sign_of, prod_sign_of}
+use Rattle.htt_grammar.specs.Beginnings.{sum_sign_of, prod_sign_of, begins_mono, begins_atom, begins_appl}
 use Rattle.htt_grammar.specs.Phrases.{Deeper, mono_at, terms_on, terms_there, bracket_case, atom_case, atom_at, part_case, no_part_case, parts_on, unary_case, appl_at, on_prod_sign, prod_on, prod_at, on_sum_sign, sum_on, sum_at, rel_at, triple_at, params_on, term_case, term_at, starts_function, function_case, ty_case, ty_at, step_case, step_at, comp_on, comp_at}
-use Rattle.htt_grammar.proofs.Spells.{Spells}
-use Rattle.std.proofs.Common.{[], ◌∷◌, ◌<◌}
-use Rattle.htt_grammar.specs.Beginnings.{begins_mono, begins_atom, begins_appl}
 use Rattle.htt_grammar.proofs.Spells.{begins_of}
 use Rattle.htt_grammar.proofs.Opens.{opens_mono, opens_atom, opens_appl, opens_prod}
 use Rattle.htt_reading.proofs.Words.{Stands}
 use Rattle.htt_reading.proofs.Terms as terms
-use Rattle.raw_trees.specs.Trees.{s_end, x_end, no_parts}
 use Rattle.read_completions.proofs.Halts.{Halts, Ends, Case, halts_then, halts_last, halts_give, halts_stop, halts_either, halts_choice, halts_first, ends_measured, whole_start, halts_past, halts_cond}
 use Rattle.read_completions.proofs.Starts.{the_span, starts_mono, starts_atom, starts_appl, starts_prod, starts_comp}
 use Rattle.read_completions.proofs.Words.{Ending, numbered_ends, at_word, at_sign, at_number, a_word, a_sign', a_name', or_sign, or_word, skip, binder_ends, name_ends, number_ends, mono_ends, bracketed_ends}

@@ -1,6 +1,6 @@
 -- The readers of names, numbers, heaps and monotypes stop behind what begins some tree.
-use Rattle.std.proofs.Common.{◌<◌, length, arith, ◌≡◌, ℕ, zero, suc, ◌≤◌, List, [], ◌∷◌, ◌++◌, refl, sym, ◌∙◌, ap, subst, append_assoc, append-nil}
-use Rattle.std.specs.Prelude.{Bool, Result, Ok, Err, Option, Some, None}
+use Rattle.std.proofs.Common.{◌<◌, arith, ◌≡◌, ℕ, zero, suc, ◌≤◌, List, [], ◌∷◌, ◌++◌, refl, sym, ap, subst, append-nil}
+use Rattle.std.specs.Prelude.{Bool, Result, Ok, Err, Some, None}
 use Rattle.htt_tokens.specs.declared.tokens.Kind.{Kind}
 use Rattle.htt_tokens.specs.declared.tokens.Kind.TheVariants.{Name, Number, Keyword, Sign}
 use Rattle.htt_tokens.specs.declared.tokens.Keyword as a_keyword
@@ -8,20 +8,18 @@ use Rattle.htt_tokens.specs.declared.tokens.Keyword.TheVariants.{WordWord, BoolW
 use Rattle.htt_tokens.specs.declared.tokens.Sign as a_sign
 use Rattle.htt_tokens.specs.declared.tokens.Sign.TheVariants.{OpenParenSign, CloseParenSign, OpenBracketSign, CloseBracketSign, CommaSign, UnderscoreSign, StarSign, CaretSign}
 use Rattle.raw_trees.specs.declared.place.Span.{Span}
-use Rattle.raw_trees.specs.declared.mono.MonoName.{MonoName}
 use Rattle.raw_trees.specs.declared.tree.RawHeap.TheVariants as heaps
-use Rattle.raw_trees.specs.Trees.{with_right, FactorTree, MonoTree, m_name, m_brackets}
-use Rattle.htt_grammar.specs.Marks.{Mark, Limits, IsWithin, ◌⨟◌, sign, word, name, number, sign_at, word_at, number_at, numbered, each_after}
+use Rattle.raw_trees.specs.Trees.{with_right, MonoTree, m_name, m_brackets}
+use Rattle.htt_grammar.specs.Marks.{Mark, Limits, IsWithin, ◌⨟◌, sign, word, name, number, sign_at, word_at, number_at, numbered, each_after, AllFit}
 use Rattle.htt_grammar.specs.Grammar
 use Rattle.htt_tokens.specs.declared.tokens.Token.{Token}
-use Rattle.htt_grammar.specs.Marks.{AllFit}
 use Rattle.htt_grammar.proofs.Spells.{Spells, Begins}
 use Rattle.htt_grammar.specs.Readers.{Halt, Why, expected, too_nested, too_long, Reader, measured, give, ◌>>=◌, stop, either, that, token, after_commas}
 use Rattle.htt_grammar.specs.Phrases.{Deeper, binder_case, a_binder, name_case, a_name_there, number_case, a_number_there, over_there, heap_case, a_heap, mono_right, mono_closes, mono_name_case, mono_inside, mono_case, mono_opens, mono_at, bracketed, more_monos}
-use Rattle.htt_reading.proofs.Tells.{Tells, renumber}
+use Rattle.htt_reading.proofs.Tells.{renumber}
 use Rattle.htt_reading.proofs.Words.{Trusts, Stands, numbered_tells, token_tells, opened, right_marks, in_brackets_again, after_name}
 use Rattle.htt_reading.proofs.Words as words
-use Rattle.read_completions.proofs.Halts.{Halts, Ends, Whole, Completion, Stopped, Past, Takes, Case, halts_then, halts_last, halts_give, halts_stop, halts_reround, halts_either, halts_choice, halts_that, ends_measured, halts_measured}
+use Rattle.read_completions.proofs.Halts.{Halts, Ends, Completion, Stopped, Past, Takes, Case, halts_then, halts_last, halts_give, halts_stop, halts_reround, halts_either, halts_choice, halts_that, ends_measured, halts_measured}
 use Rattle.read_completions.proofs.Starts.{the_span}
 
 -- the readers at this level tell the truth, and stop behind what begins some tree

@@ -1,6 +1,6 @@
 -- Where one reader stops at a limit and another reads on, the other's tree has a mark there that is
 -- past the limit. How this goes from the parts of a phrase to the phrase.
-use Rattle.std.proofs.Common.{◌≡◌, ℕ, suc, ◌<◌, ◌≤◌, List, [], ◌∷◌, ◌++◌, length, refl, sym, ◌∙◌, ap, subst, arith, append_assoc, append-nil}
+use Rattle.std.proofs.Common.{◌≡◌, ℕ, ◌<◌, ◌≤◌, List, [], ◌∷◌, ◌++◌, length, refl, sym, ◌∙◌, ap, subst, arith, append_assoc}
 use Rattle.std.specs.Prelude.{Bool, true, false, Option, Some, None, Result, Ok, Err, cond}
 use Rattle.htt_tokens.specs.declared.tokens.Kind.{Kind}
 use Rattle.htt_tokens.specs.declared.tokens.Token.{Token}
@@ -10,7 +10,7 @@ use Rattle.htt_grammar.specs.Readers.{Reader, Halt, Why, expected, too_nested, t
 use Rattle.htt_grammar.proofs.Spells.{Spells, Opens, Begins}
 use Rattle.htt_reading.proofs.Tells.{Tells, join, same_kinds}
 use Rattle.read_limits.specs.Limits.{IsLimit}
-use Rattle.read_places.proofs.Follows.{Claimed, Answers, Follows, rest_of, with_rest, alike_self}
+use Rattle.read_places.proofs.Follows.{Answers, Follows, alike_self}
 
 -- the tree begins with what was read before the stop, and goes on past the limits
 pub record Barrier {A : Type 0} (lim : Limits) (marks : A → List Mark) (ts : List Token) (halt : Halt) (tree : A) : Type 0 where

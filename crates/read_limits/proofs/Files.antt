@@ -10,23 +10,19 @@ use Rattle.htt_grammar.specs.Grammar
 use Rattle.htt_grammar.specs.Readers.{measured, give, ◌>>=◌, if_first, after_commas}
 use Rattle.htt_grammar.specs.Phrases.{Deeper, a_name_there, is_close}
 use Rattle.htt_grammar.specs.Reading.{deeper, mono_parameter_at, mono_parameters_at, pred_on, induct_on, pred_case, body_case, body_at, typed_on, decl_case, decl_at, file_on}
-use Rattle.std.proofs.Common.{◌≡◌, ℕ, zero, suc, ◌+◌, ◌<◌, ◌≤◌, List, [], ◌∷◌, ◌++◌, length, refl, sym, ◌∙◌, ap, subst, arith, append_assoc, append-nil}
-use Rattle.std.specs.Prelude.{Bool, true, false, Option, Some, None, Result, Ok, Err, cond}
-use Rattle.htt_reading.proofs.Tells.{Tells, list_in_brackets, renumber}
-use Rattle.htt_reading.proofs.Words.{Trusts, Stands, numbered_tells}
-use Rattle.htt_reading.proofs.Words as told
-use Rattle.read_places.proofs.Follows.{Follows}
-use Rattle.read_limits.proofs.Bars.{Held, Barrier, Form, Formed, Forms, Bars, Barred, Takes, Case, SameOk, same_ok, forms_id, forms_then, forms_last, forms_give, bars_then, bars_last, bars_give, bars_stop, bars_refuse, bars_reround, bars_either, bars_cond, bars_first, bars_measured, bars_that, bars_deep, bars_past}
-use Rattle.read_limits.proofs.Words.{Bar, numbered_barred, at_word, at_sign, at_number, a_word, a_sign', a_name', or_sign, or_word, skip, binder_barred, name_barred, number_barred, heap_barred, more_barred, mono_barred, bracketed_barred, more_monos_barred}
-use Rattle.htt_grammar.specs.Beginnings.{begins_mono, begins_ty, begins_term, begins_comp, begins_fatom, begins_formula, begins_proof, begins_decl}
-use Rattle.htt_grammar.specs.Readers.{Reader, refuse, too_many}
+use Rattle.std.proofs.Common.{◌≡◌, ℕ, zero, suc, ◌+◌, ◌<◌, ◌≤◌, List, [], ◌∷◌, ◌++◌, refl, sym, ap, arith}
+use Rattle.std.specs.Prelude.{false}
+use Rattle.htt_reading.proofs.Tells.{list_in_brackets}
+use Rattle.htt_reading.proofs.Words.{Trusts, Stands}
+use Rattle.read_limits.proofs.Bars.{Bars, Barred, Case, same_ok, bars_then, bars_last, bars_give, bars_stop, bars_refuse, bars_reround, bars_either, bars_first, bars_deep, bars_many}
+use Rattle.read_limits.proofs.Words.{Bar, at_word, a_word, a_sign', skip, binder_barred, name_barred, number_barred, more_barred, mono_barred}
+use Rattle.htt_grammar.specs.Beginnings.{begins_mono, begins_ty, begins_term, begins_comp, begins_fatom, begins_formula, begins_proof}
 use Rattle.htt_grammar.proofs.Opens.{opens_ty, opens_term, opens_comp, opens_formula, opens_disj, opens_conj, opens_star, opens_mono, opens_proof}
 use Rattle.htt_reading.proofs.Files as told_here
 use Rattle.read_places.proofs.Words.{Follow, Chain, chain_less, chain_none}
 use Rattle.read_places.proofs.Words as words
 use Rattle.read_places.proofs.Files.{follow_greater}
 use Rattle.read_places.proofs.Files as places
-use Rattle.read_limits.proofs.Bars.{bars_many}
 use Rattle.read_limits.proofs.Terms.{ty_barred, term_barred, comp_barred}
 use Rattle.read_limits.proofs.Formulas.{formula_barred, disj_barred, conj_barred, star_barred}
 use Rattle.read_limits.proofs.Proofs.{proof_barred}

@@ -10,14 +10,11 @@ use Rattle.htt_grammar.specs.Marks.{Mark, Limits, ◌⨟◌, sign, name, sign_at
 use Rattle.htt_grammar.specs.Grammar
 use Rattle.htt_grammar.specs.Readers.{give, ◌>>=◌, token}
 use Rattle.htt_grammar.specs.Phrases.{Deeper, terms_there, sort_at, quantified, argument_case, use_case, fatom_case, relation_case, fatom_at, star_at, conj_at, disj_at, quantifier_case, formula_at}
-use Rattle.std.proofs.Common.{◌≡◌, ℕ, zero, suc, ◌+◌, ◌<◌, ◌≤◌, List, [], ◌∷◌, ◌++◌, length, refl, sym, ◌∙◌, ap, subst, arith, append_assoc, append-nil}
-use Rattle.std.specs.Prelude.{Bool, true, false, Option, Some, None, Result, Ok, Err, cond}
-use Rattle.htt_reading.proofs.Tells.{Tells, list_in_brackets, renumber}
-use Rattle.htt_reading.proofs.Words.{Trusts, Stands, numbered_tells}
-use Rattle.htt_reading.proofs.Words as told
-use Rattle.read_places.proofs.Follows.{Follows}
-use Rattle.read_limits.proofs.Bars.{Held, Barrier, Form, Formed, Forms, Bars, Barred, Takes, Case, SameOk, same_ok, forms_id, forms_then, forms_last, forms_give, bars_then, bars_last, bars_give, bars_stop, bars_refuse, bars_reround, bars_either, bars_cond, bars_first, bars_measured, bars_that, bars_deep, bars_past}
-use Rattle.read_limits.proofs.Words.{Bar, numbered_barred, at_word, at_sign, at_number, a_word, a_sign', a_name', or_sign, or_word, skip, binder_barred, name_barred, number_barred, heap_barred, more_barred, mono_barred, bracketed_barred, more_monos_barred}
+use Rattle.std.proofs.Common.{◌≡◌, ℕ, suc, List, ◌∷◌, ◌++◌, refl, sym, ◌∙◌, ap, append_assoc, append-nil}
+use Rattle.htt_reading.proofs.Tells.{list_in_brackets}
+use Rattle.htt_reading.proofs.Words.{Stands}
+use Rattle.read_limits.proofs.Bars.{Bars, Barred, Case, same_ok, bars_then, bars_last, bars_give, bars_stop, bars_either}
+use Rattle.read_limits.proofs.Words.{Bar, at_word, at_sign, a_sign', or_sign, or_word, skip, binder_barred, name_barred, heap_barred, mono_barred, bracketed_barred, more_monos_barred}
 use Rattle.htt_reading.proofs.Formulas as told_here
 use Rattle.read_places.proofs.Formulas as places
 use Rattle.read_limits.proofs.Terms.{more_terms_barred, terms_barred, rel_barred}

@@ -1,15 +1,11 @@
 -- Where a reader stops at a limit and another reads on, the other's tree is past the limit there.
-use Rattle.std.proofs.Common.{◌≡◌, ℕ, suc, ◌+◌, ◌≤◌, List, [], ◌∷◌, ◌++◌, refl, sym, ◌∙◌, ap, subst, arith}
-use Rattle.std.specs.Prelude.{Bool, false, Result, Ok, Err}
+use Rattle.std.proofs.Common.{◌≡◌, ℕ, ◌≤◌, List, [], ◌∷◌, ◌++◌, refl, ◌∙◌, ap, subst, arith}
+use Rattle.std.specs.Prelude.{Err}
 use Rattle.htt_tokens.specs.declared.tokens.Token.{Token}
 use Rattle.htt_grammar.specs.Marks.{Mark, Limits, AllFit, AllWithin}
-use Rattle.htt_grammar.specs.Grammar
-use Rattle.htt_grammar.specs.Readers.{Reader, Halt}
-use Rattle.htt_grammar.specs.Phrases.{Deeper}
-use Rattle.htt_grammar.specs.Reading.{deeper, file_on}
+use Rattle.htt_grammar.specs.Readers.{Reader}
+use Rattle.htt_grammar.specs.Reading.{deeper}
 use Rattle.htt_grammar.proofs.Spells.{Spells}
-use Rattle.htt_reading.proofs.Words.{Stands}
-use Rattle.read_limits.specs.Limits.{IsLimit, IsPast}
 use Rattle.read_limits.specs.Laws.{limits_of, StopsPast, MonoStopsPast, FormulaStopsPast, ProofStopsPast, FileStopsPast}
 use Rattle.read_limits.proofs.Bars.{Barrier, Held, Bars}
 use Rattle.read_limits.proofs.Words.{Bar}

@@ -6,24 +6,21 @@ use Rattle.htt_tokens.specs.declared.tokens.Sign.TheVariants.{OpenParenSign, Clo
 use Rattle.raw_trees.specs.declared.place.Span.{Span}
 use Rattle.raw_trees.specs.declared.proof.UnaryRule.{UnaryRule}
 use Rattle.raw_trees.specs.declared.proof.UnaryRule.TheVariants as unary_rules
-use Rattle.raw_trees.specs.Trees.{ArgTree, arg_heap, arg_term, ProofTree, EndTree, p_end, p_step, e_axiom, more_proofs}
+use Rattle.raw_trees.specs.Trees.{ArgTree, arg_heap, arg_term, ProofTree, EndTree, p_end, p_step, e_axiom, more_proofs, e_app, e_inst}
 use Rattle.htt_grammar.specs.Marks.{Mark, Limits, ◌⨟◌, sign, name, number, word_at, each_after}
 use Rattle.htt_grammar.specs.Grammar
 use Rattle.htt_grammar.specs.Readers.{give, ◌>>=◌, token}
 use Rattle.htt_grammar.specs.Phrases.{Deeper}
 use Rattle.htt_grammar.specs.Reading.{arg_case, arg_at, more_args, args_there, motive_at, args_on, proofs_on, app_more, inst_more, unary_at, axiom_case, end_case, end_at, stmt_case, stmt_at, proof_on, proof_at}
-use Rattle.std.proofs.Common.{◌≡◌, ℕ, zero, suc, ◌+◌, ◌<◌, ◌≤◌, List, [], ◌∷◌, ◌++◌, length, refl, sym, ◌∙◌, ap, subst, arith, append_assoc, append-nil}
-use Rattle.std.specs.Prelude.{Bool, true, false, Option, Some, None, Result, Ok, Err, cond}
-use Rattle.htt_reading.proofs.Tells.{Tells, list_in_brackets, renumber}
-use Rattle.htt_reading.proofs.Words.{Trusts, Stands, numbered_tells}
-use Rattle.htt_reading.proofs.Words as told
-use Rattle.read_places.proofs.Follows.{Follows}
-use Rattle.read_limits.proofs.Bars.{Held, Barrier, Form, Formed, Forms, Bars, Barred, Takes, Case, SameOk, same_ok, forms_id, forms_then, forms_last, forms_give, bars_then, bars_last, bars_give, bars_stop, bars_refuse, bars_reround, bars_either, bars_cond, bars_first, bars_measured, bars_that, bars_deep, bars_past}
-use Rattle.read_limits.proofs.Words.{Bar, numbered_barred, at_word, at_sign, at_number, a_word, a_sign', a_name', or_sign, or_word, skip, binder_barred, name_barred, number_barred, heap_barred, more_barred, mono_barred, bracketed_barred, more_monos_barred}
+use Rattle.std.proofs.Common.{◌≡◌, ℕ, zero, suc, ◌+◌, List, [], ◌∷◌, ◌++◌, refl, sym, ap, arith, append_assoc}
+use Rattle.std.specs.Prelude.{false}
+use Rattle.htt_reading.proofs.Tells.{list_in_brackets}
+use Rattle.htt_reading.proofs.Words.{Stands}
+use Rattle.read_limits.proofs.Bars.{Bars, Barred, Case, same_ok, forms_then, forms_last, forms_give, bars_then, bars_last, bars_give, bars_stop, bars_refuse, bars_either, bars_first, bars_measured, bars_past}
+use Rattle.read_limits.proofs.Words.{Bar, numbered_barred, at_word, at_sign, a_sign', a_name', or_sign, skip, binder_barred, name_barred, number_barred, heap_barred, more_barred, mono_barred, more_monos_barred}
 use Rattle.htt_grammar.specs.Beginnings.{begins_arg, begins_proof}
 use Rattle.htt_grammar.proofs.Spells.{Begins, begins_of}
 use Rattle.htt_grammar.proofs.Opens.{opens_proof, opens_operand}
-use Rattle.raw_trees.specs.Trees.{e_app, e_inst}
 use Rattle.htt_reading.proofs.Proofs as told_here
 use Rattle.read_places.proofs.Words.{Chain, chain_less, chain_none}
 use Rattle.read_places.proofs.Proofs as places

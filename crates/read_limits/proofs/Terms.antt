@@ -1,27 +1,21 @@
 -- Stops at a limit in terms, types and computations.
 use Rattle.htt_tokens.specs.declared.tokens.Kind.{Kind}
 use Rattle.htt_tokens.specs.declared.tokens.Kind.TheVariants.{Name, Number, Keyword, Sign}
-use Rattle.htt_tokens.specs.declared.tokens.Token.{Token}
 use Rattle.htt_tokens.specs.declared.tokens.Keyword.TheVariants.{FunWord, DoWord, FixWord, RetWord, AllocWord, GetWord, SetWord, FreeWord, IfWord, ClaimWord, TrueWord, FalseWord, NullWord, PlaceWord, FstWord, SndWord, NotWord, EqWord, SelWord}
 use Rattle.htt_tokens.specs.declared.tokens.Sign.TheVariants.{OpenParenSign, CloseParenSign, OpenBracketSign, CloseBracketSign, OpenBraceSign, CloseBraceSign, CommaSign, SemicolonSign, ColonSign, DotSign, ArrowSign, LeftArrowSign, PlusSign, MinusSign, StarSign, AmpersandSign, BarSign, CaretSign, ShiftLeftSign, ShiftRightSign, LessSign}
 use Rattle.raw_trees.specs.declared.place.Span.{Span}
 use Rattle.raw_trees.specs.declared.tree.UnaryWord.TheVariants as unary_words
-use Rattle.raw_trees.specs.Trees.{ProdSign, SumSign, ampersand, bar, caret, minus, plus, shift_left, shift_right, times, TyTree, TermTree, SumRestTree, ProdRestTree, PartTrees, y_fun, y_all, y_hoare, y_mono, t_fun, t_fun_mono, t_do, t_fix, t_rel, more_params, r_sum, r_less, s_sum, s_more, x_prod, x_more, l_unary, l_apply, atom_part, mono_part, a_place, c_ret, c_step, s_alloc, s_get, s_set, s_free, s_run, more_terms}
+use Rattle.raw_trees.specs.Trees.{ProdSign, SumSign, ampersand, bar, caret, minus, plus, shift_left, shift_right, times, TermTree, SumRestTree, ProdRestTree, PartTrees, y_fun, y_all, y_hoare, y_mono, t_fun, t_fun_mono, t_do, t_fix, t_rel, more_params, r_sum, r_less, s_sum, s_more, x_prod, x_more, l_unary, l_apply, atom_part, mono_part, a_place, c_ret, c_step, s_alloc, s_get, s_set, s_free, s_run, more_terms}
 use Rattle.htt_grammar.specs.Marks.{Limits, ◌⨟◌, sign, sign_at}
 use Rattle.htt_grammar.specs.Grammar
-use Rattle.htt_grammar.specs.Readers.{Reader, measured, give, ◌>>=◌, stop, either}
-use Rattle.htt_grammar.specs.Beginnings.{sum_sign_of, prod_sign_of}
+use Rattle.htt_grammar.specs.Readers.{Reader, measured}
+use Rattle.htt_grammar.specs.Beginnings.{sum_sign_of, prod_sign_of, begins_mono, begins_atom, begins_appl}
 use Rattle.htt_grammar.specs.Phrases.{Deeper, mono_at, terms_on, terms_there, bracket_case, atom_case, atom_at, part_case, no_part_case, parts_on, unary_case, appl_at, on_prod_sign, prod_on, prod_at, on_sum_sign, sum_on, sum_at, rel_at, triple_at, params_on, term_case, term_at, starts_function, function_case, ty_case, ty_at, step_case, step_at, comp_on, comp_at}
-use Rattle.htt_grammar.proofs.Spells.{Spells}
-use Rattle.std.proofs.Common.{◌≡◌, ℕ, zero, suc, ◌+◌, ◌<◌, ◌≤◌, List, [], ◌∷◌, ◌++◌, length, refl, sym, ◌∙◌, ap, subst, arith, append_assoc, append-nil}
-use Rattle.std.specs.Prelude.{Bool, true, false, Option, Some, None, Result, Ok, Err, cond}
-use Rattle.htt_reading.proofs.Tells.{Tells, tells_measured}
-use Rattle.htt_reading.proofs.Words.{Trusts, Stands, numbered_tells}
-use Rattle.htt_reading.proofs.Words as told
-use Rattle.read_places.proofs.Follows.{Follows}
-use Rattle.read_limits.proofs.Bars.{Held, Barrier, Form, Formed, Forms, Bars, Barred, Takes, Case, SameOk, same_ok, forms_id, forms_then, forms_last, forms_give, bars_then, bars_last, bars_give, bars_stop, bars_refuse, bars_reround, bars_either, bars_cond, bars_first, bars_measured, bars_that, bars_deep, bars_past}
-use Rattle.raw_trees.specs.Trees.{no_parts}
-use Rattle.htt_grammar.specs.Beginnings.{begins_mono, begins_atom, begins_appl}
+use Rattle.std.proofs.Common.{◌≡◌, ℕ, zero, suc, ◌+◌, ◌<◌, ◌≤◌, refl, arith, append-nil}
+use Rattle.std.specs.Prelude.{false}
+use Rattle.htt_reading.proofs.Tells.{tells_measured}
+use Rattle.htt_reading.proofs.Words.{Stands}
+use Rattle.read_limits.proofs.Bars.{Bars, Barred, Case, same_ok, forms_then, forms_last, bars_then, bars_last, bars_give, bars_stop, bars_refuse, bars_either, bars_cond, bars_first, bars_measured, bars_past}
 use Rattle.htt_grammar.proofs.Spells.{begins_of}
 use Rattle.htt_grammar.proofs.Opens.{opens_mono, opens_atom, opens_appl, opens_prod}
 use Rattle.htt_reading.proofs.Terms as told_terms

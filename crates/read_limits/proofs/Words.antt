@@ -6,25 +6,21 @@ use Rattle.htt_tokens.specs.declared.tokens.Keyword.TheVariants.{WordWord, BoolW
 use Rattle.htt_tokens.specs.declared.tokens.Sign as a_sign
 use Rattle.htt_tokens.specs.declared.tokens.Sign.TheVariants.{OpenParenSign, CloseParenSign, OpenBracketSign, CloseBracketSign, CommaSign, UnderscoreSign, StarSign, CaretSign}
 use Rattle.raw_trees.specs.declared.place.Span.{Span}
-use Rattle.raw_trees.specs.declared.mono.MonoName.{MonoName}
 use Rattle.raw_trees.specs.declared.tree.RawHeap.TheVariants as heaps
-use Rattle.raw_trees.specs.Trees.{with_right, FactorTree, MonoTree, m_name, m_brackets}
+use Rattle.raw_trees.specs.Trees.{with_right, MonoTree, m_name, m_brackets}
 use Rattle.htt_grammar.specs.Marks.{Mark, Limits, IsWithin, ◌⨟◌, sign, word, name, number, sign_at, word_at, number_at, numbered, each_after}
 use Rattle.htt_grammar.specs.Grammar
-use Rattle.htt_grammar.specs.Readers.{Reader, measured, give, ◌>>=◌, stop, either, that, token, after_commas}
+use Rattle.htt_grammar.specs.Readers.{Reader, measured, ◌>>=◌, stop, either, that, token, after_commas, Halt}
 use Rattle.htt_grammar.specs.Phrases.{Deeper, binder_case, a_binder, name_case, a_name_there, number_case, a_number_there, over_there, heap_case, a_heap, mono_right, mono_closes, mono_name_case, mono_inside, mono_case, mono_opens, mono_at, bracketed, more_monos}
-use Rattle.std.proofs.Common.{◌≡◌, ℕ, zero, suc, ◌+◌, ◌<◌, ◌≤◌, List, [], ◌∷◌, ◌++◌, length, refl, sym, ◌∙◌, ap, subst, arith, append_assoc, append-nil}
-use Rattle.std.specs.Prelude.{Bool, true, false, Option, Some, None, Result, Ok, Err, cond}
-use Rattle.htt_reading.proofs.Tells.{Tells, list_in_brackets, renumber}
-use Rattle.htt_reading.proofs.Words.{Trusts, Stands, numbered_tells}
+use Rattle.std.proofs.Common.{◌≡◌, ℕ, zero, suc, ◌≤◌, List, [], ◌∷◌, ◌++◌, refl, sym, ap, subst, append-nil}
+use Rattle.std.specs.Prelude.{Bool, false, Some, None, Result, Ok, Err}
+use Rattle.htt_reading.proofs.Tells.{renumber}
+use Rattle.htt_reading.proofs.Words.{Trusts, Stands, numbered_tells, token_tells, opened, right_marks, in_brackets_again, after_name}
 use Rattle.htt_reading.proofs.Words as told
-use Rattle.read_places.proofs.Follows.{Follows}
-use Rattle.read_limits.proofs.Bars.{Held, Barrier, Form, Formed, Forms, Bars, Barred, Takes, Case, SameOk, same_ok, forms_id, forms_then, forms_last, forms_give, bars_then, bars_last, bars_give, bars_stop, bars_refuse, bars_reround, bars_either, bars_cond, bars_first, bars_measured, bars_that, bars_deep, bars_past}
+use Rattle.read_places.proofs.Follows.{Follows, follow_token}
+use Rattle.read_limits.proofs.Bars.{Held, Barrier, Bars, Barred, Takes, Case, same_ok, forms_id, bars_then, bars_last, bars_give, bars_stop, bars_reround, bars_either, bars_measured, bars_that}
 use Rattle.htt_tokens.specs.declared.tokens.Token.{Token}
-use Rattle.htt_grammar.specs.Readers.{Halt, Why}
 use Rattle.htt_grammar.proofs.Spells.{Spells, Begins}
-use Rattle.htt_reading.proofs.Words.{token_tells, opened, right_marks, in_brackets_again, after_name}
-use Rattle.read_places.proofs.Follows.{follow_stop, follow_token}
 use Rattle.read_places.proofs.Words.{Follow}
 use Rattle.read_places.proofs.Words as places
 

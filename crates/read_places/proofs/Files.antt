@@ -1,21 +1,18 @@
 -- The readers at every level, and those of declarations and files, follow one another.
-use Rattle.std.proofs.Common.{◌≡◌, ℕ, zero, suc, ◌+◌, ◌≤◌, List, [], ◌∷◌, ◌++◌, refl, sym, ◌∙◌, subst, arith}
-use Rattle.std.specs.Prelude.{Bool, true, false, Option, Some, None, Result, Ok, Err}
+use Rattle.std.proofs.Common.{◌≡◌, ℕ, zero, suc, ◌≤◌, List, [], ◌∷◌, refl, sym, subst, arith}
+use Rattle.std.specs.Prelude.{Bool, true, false}
 use Rattle.htt_tokens.specs.declared.tokens.Kind.{Kind}
 use Rattle.htt_tokens.specs.declared.tokens.Kind.TheVariants.{Keyword, Sign}
 use Rattle.htt_tokens.specs.declared.tokens.Keyword.TheVariants.{TypeWord, PredWord, DefWord, ValWord, ProofWord, AutoWord, InductWord}
-use Rattle.htt_tokens.specs.declared.tokens.Sign.TheVariants.{OpenParenSign, CloseParenSign, OpenBracketSign, CloseBracketSign, OpenBraceSign, CloseBraceSign, CommaSign, ColonSign, DotSign, EqualSign}
+use Rattle.htt_tokens.specs.declared.tokens.Sign.TheVariants.{OpenBracketSign, CommaSign}
 use Rattle.raw_trees.specs.declared.place.Span.{Span}
-use Rattle.raw_trees.specs.Trees.{TyTree, TermTree, mono_param, body_proof, DeclTree, decl_type, decl_pred, decl_def, decl_val, decl_proof}
-use Rattle.htt_grammar.specs.Marks.{Mark, Limits, ◌⨟◌, sign, word, name, separated, each_after}
-use Rattle.htt_grammar.specs.Readers.{measured, give, ◌>>=◌, if_first, after_commas}
-use Rattle.htt_grammar.specs.Phrases.{Deeper, a_name_there, is_close}
+use Rattle.raw_trees.specs.Trees.{TyTree, TermTree, DeclTree}
+use Rattle.htt_grammar.specs.Readers.{measured, give, ◌>>=◌, if_first, after_commas, too_nested, too_many}
+use Rattle.htt_grammar.specs.Phrases.{Deeper, is_close}
 use Rattle.htt_grammar.specs.Reading.{at_level, deeper, mono_parameter_at, mono_parameters_at, pred_on, induct_on, pred_case, body_case, body_at, typed_on, decl_case, decl_at, file_on}
-use Rattle.htt_grammar.specs.Readers.{Reader, Halt, expected, too_nested, too_long, too_many, measured, stop, either, refuse, if_first, after_commas}
-use Rattle.read_places.proofs.Follows.{Kept, Answers, Follows, Both, with_rest, follow_give, follow_stop, follow_refuse, follow_then, follow_either, follow_either_less, follow_eaten, follow_that, follow_that_less, follow_skip, follow_first, follow_measured}
+use Rattle.read_places.proofs.Follows.{Kept, Follows, Both, follow_give, follow_stop, follow_refuse, follow_then, follow_either, follow_skip, follow_first}
 use Rattle.read_places.proofs.Refuses.{refuses_then, follow_refused}
-use Rattle.read_places.proofs.Words.{Refused, Follow, Chain, chain_less, chain_none, chain_more, binder_cases, binder_follows, name_follows, number_follows, heap_follows, mono_follows, more_follow, bracketed_follows, more_monos_follow}
-use Rattle.htt_grammar.specs.Reading.{too_deep}
+use Rattle.read_places.proofs.Words.{Refused, Follow, Chain, chain_less, chain_none, binder_follows, name_follows, number_follows, mono_follows, more_follow}
 use Rattle.read_places.proofs.Refusing.{refused, decl_refuses}
 use Rattle.read_places.proofs.Terms.{term_follows, comp_follows, ty_follows}
 use Rattle.read_places.proofs.Formulas.{formula_follows, disj_follows, conj_follows, star_follows}

@@ -1,6 +1,6 @@
 -- One reader follows another where it answers the same to whatever begins alike. How this goes from
 -- the parts of a phrase to the phrase.
-use Rattle.std.proofs.Common.{◌≡◌, ℕ, zero, suc, ◌+◌, ◌≤◌, List, [], ◌∷◌, ◌++◌, length, refl, sym, ◌∙◌, ap, subst, arith, append_assoc}
+use Rattle.std.proofs.Common.{◌≡◌, ℕ, zero, suc, ◌≤◌, List, [], ◌∷◌, ◌++◌, length, refl, sym, ◌∙◌, ap, subst, arith, append_assoc}
 use Rattle.std.specs.Prelude.{Bool, true, false, Option, Some, None, Result, Ok, Err, cond}
 use Rattle.std.proofs.lemmas.List.{append_cancel_right, length-append}
 use Rattle.htt_tokens.specs.declared.tokens.Kind.{Kind}

@@ -1,20 +1,17 @@
 -- The readers of formulas follow one another.
-use Rattle.std.proofs.Common.{◌≡◌, ℕ, zero, suc, ◌+◌, ◌≤◌, List, [], ◌∷◌, ◌++◌, refl, sym, ◌∙◌, subst, arith}
-use Rattle.std.specs.Prelude.{Bool, true, false, Option, Some, None, Result, Ok, Err}
+use Rattle.std.proofs.Common.{ℕ}
+use Rattle.std.specs.Prelude.{Bool}
 use Rattle.htt_tokens.specs.declared.tokens.Kind.{Kind}
 use Rattle.htt_tokens.specs.declared.tokens.Kind.TheVariants.{Keyword, Sign}
-use Rattle.htt_tokens.specs.declared.tokens.Keyword.TheVariants.{HeapWord, EmpWord, TtWord, FfWord, AllWord, ExWord, CapitalEmpWord, CellWord, BlockWord, JoinWord, SameWord}
-use Rattle.htt_tokens.specs.declared.tokens.Sign.TheVariants.{OpenParenSign, CloseParenSign, OpenBracketSign, CloseBracketSign, CommaSign, SemicolonSign, ColonSign, DotSign, EqualSign, ImpliesSign, PointsToSign, UnderscoreSign, DoubleStarSign, AndSign, OrSign, AtSign, BangSign}
+use Rattle.htt_tokens.specs.declared.tokens.Keyword.TheVariants.{EmpWord, TtWord, FfWord, AllWord, ExWord, CapitalEmpWord, CellWord, BlockWord, JoinWord, SameWord}
+use Rattle.htt_tokens.specs.declared.tokens.Sign.TheVariants.{OpenParenSign, CloseParenSign, OpenBracketSign, CommaSign, SemicolonSign, EqualSign, PointsToSign, AtSign, BangSign}
 use Rattle.raw_trees.specs.declared.place.Span.{Span}
 use Rattle.raw_trees.specs.declared.place.Binder.{Binder}
-use Rattle.raw_trees.specs.Trees.{TermTree, RelTree, FormulaTree, SortTree, TermTrees, f_all, f_ex, f_implies, over_mono, d_or, j_and, k_times, g_use, g_use_at, g_use_at_heap, g_eq, g_points}
-use Rattle.htt_grammar.specs.Marks.{Mark, Limits, ◌⨟◌, sign, name, sign_at, word_at, each_after}
+use Rattle.raw_trees.specs.Trees.{TermTree, RelTree, FormulaTree, SortTree, TermTrees}
 use Rattle.htt_grammar.specs.Readers.{give, ◌>>=◌, token}
 use Rattle.htt_grammar.specs.Phrases.{Deeper, terms_there, sort_at, quantified, argument_case, use_case, fatom_case, relation_case, fatom_at, star_at, conj_at, disj_at, quantifier_case, formula_at}
-use Rattle.htt_grammar.specs.Readers.{Reader, Halt, expected, too_nested, too_long, too_many, measured, stop, either, refuse, if_first, after_commas}
-use Rattle.read_places.proofs.Follows.{Kept, Answers, Follows, Both, with_rest, follow_give, follow_stop, follow_refuse, follow_then, follow_either, follow_either_less, follow_eaten, follow_that, follow_that_less, follow_skip, follow_first, follow_measured}
-use Rattle.read_places.proofs.Refuses.{refuses_then, follow_refused}
-use Rattle.read_places.proofs.Words.{Follow, Chain, chain_less, chain_none, chain_more, binder_cases, binder_follows, name_follows, number_follows, heap_follows, mono_follows, more_follow, bracketed_follows, more_monos_follow}
+use Rattle.read_places.proofs.Follows.{Follows, Both, follow_give, follow_stop, follow_then, follow_either, follow_that, follow_skip}
+use Rattle.read_places.proofs.Words.{Follow, binder_follows, name_follows, heap_follows, mono_follows, bracketed_follows, more_monos_follow}
 use Rattle.read_places.proofs.Terms.{more_terms_follow, terms_follow, rel_follows}
 
 module _ {b : Bool} (d d' : Deeper) (trust : Follow b d d') where

@@ -4,11 +4,10 @@ use Rattle.std.specs.Prelude.{Bool, true, false, Result, Ok, Err}
 use Rattle.std.proofs.lemmas.List.{append_cancel_right}
 use Rattle.htt_tokens.specs.declared.tokens.Token.{Token}
 use Rattle.htt_grammar.specs.Readers.{Reader, Halt, Why, expected}
-use Rattle.htt_grammar.specs.Phrases.{Deeper}
 use Rattle.htt_grammar.specs.Reading.{deeper, file_on}
 use Rattle.htt_reading.specs.Laws.{outermost}
 use Rattle.read_places.specs.Alike.{Alike}
-use Rattle.read_places.specs.Laws.{Decides, Keeps, GreaterKeep, MonoDecides, FormulaDecides, ProofDecides, FileDecides, MonoKeeps, FormulaKeeps, ProofKeeps, FileKeeps}
+use Rattle.read_places.specs.Laws.{Decides, Keeps, MonoDecides, FormulaDecides, ProofDecides, FileDecides, MonoKeeps, FormulaKeeps, ProofKeeps, FileKeeps}
 use Rattle.read_places.proofs.Follows.{Kept, Claimed, Answers, Follows, rest_of, with_rest, alike_self}
 use Rattle.read_places.proofs.Words.{Follow}
 use Rattle.read_places.proofs.Files.{follow_self, follow_greater, file_follows}

@@ -1,24 +1,20 @@
 -- The readers of proofs follow one another.
-use Rattle.std.proofs.Common.{◌≡◌, ℕ, zero, suc, ◌+◌, ◌≤◌, List, [], ◌∷◌, ◌++◌, refl, sym, ◌∙◌, subst, arith}
-use Rattle.std.specs.Prelude.{Bool, true, false, Option, Some, None, Result, Ok, Err}
+use Rattle.std.proofs.Common.{◌≡◌, ℕ, zero, suc, List, [], refl}
+use Rattle.std.specs.Prelude.{Bool, Err}
 use Rattle.htt_tokens.specs.declared.tokens.Kind.{Kind}
 use Rattle.htt_tokens.specs.declared.tokens.Kind.TheVariants.{Name, Keyword, Sign}
 use Rattle.htt_tokens.specs.declared.tokens.Keyword.TheVariants.{IntroWord, GenWord, HaveWord, OpenWord, BothWord, LeftWord, RightWord, GiveWord, TrivialWord, ReflWord, AbsurdWord, CaseWord, RewriteWord, InductWord, SplitWord, FirstWord, SecondWord, AppWord, InstWord, AxiomWord, LemWord, TheWord}
-use Rattle.htt_tokens.specs.declared.tokens.Sign.TheVariants.{OpenParenSign, CloseParenSign, OpenBracketSign, CloseBracketSign, CommaSign, SemicolonSign, ColonSign, DotSign, EqualSign, AtSign}
+use Rattle.htt_tokens.specs.declared.tokens.Sign.TheVariants.{OpenParenSign, CloseParenSign, OpenBracketSign, DotSign, AtSign}
 use Rattle.raw_trees.specs.declared.place.Span.{Span}
 use Rattle.raw_trees.specs.declared.proof.UnaryRule.{UnaryRule}
 use Rattle.raw_trees.specs.declared.proof.UnaryRule.TheVariants as unary_rules
-use Rattle.raw_trees.specs.Trees.{ArgTree, arg_heap, arg_term, ProofTree, EndTree, p_end, p_step, e_axiom, more_proofs}
-use Rattle.htt_grammar.specs.Marks.{Mark, Limits, ◌⨟◌, sign, name, number, word_at, each_after}
-use Rattle.htt_grammar.specs.Readers.{give, ◌>>=◌, token}
+use Rattle.raw_trees.specs.Trees.{ArgTree, ProofTree, EndTree}
+use Rattle.htt_grammar.specs.Readers.{give, ◌>>=◌, token, expected, stop, either, if_first}
 use Rattle.htt_grammar.specs.Phrases.{Deeper}
 use Rattle.htt_grammar.specs.Reading.{arg_case, arg_at, more_args, args_there, motive_at, args_on, proofs_on, app_more, inst_more, unary_at, axiom_case, end_case, end_at, stmt_case, stmt_at, proof_on, proof_at}
-use Rattle.htt_grammar.specs.Readers.{Reader, Halt, expected, too_nested, too_long, too_many, measured, stop, either, refuse, if_first, after_commas}
-use Rattle.read_places.proofs.Follows.{Kept, Answers, Follows, Both, with_rest, follow_give, follow_stop, follow_refuse, follow_then, follow_either, follow_either_less, follow_eaten, follow_that, follow_that_less, follow_skip, follow_first, follow_measured}
+use Rattle.read_places.proofs.Follows.{Follows, Both, follow_give, follow_stop, follow_refuse, follow_then, follow_either, follow_eaten, follow_that, follow_skip, follow_first, follow_measured}
 use Rattle.read_places.proofs.Refuses.{refuses_then, follow_refused}
-use Rattle.read_places.proofs.Words.{Follow, Chain, chain_less, chain_none, chain_more, binder_cases, binder_follows, name_follows, number_follows, heap_follows, mono_follows, more_follow, bracketed_follows, more_monos_follow}
-use Rattle.raw_trees.specs.Trees.{no_proofs, StmtTree}
-use Rattle.htt_grammar.specs.Phrases.{a_binder}
+use Rattle.read_places.proofs.Words.{Follow, Chain, chain_less, chain_none, chain_more, binder_follows, name_follows, number_follows, heap_follows, mono_follows, more_follow, more_monos_follow}
 use Rattle.read_places.proofs.Refusing.{arg_refuses}
 
 no_proof_more : (p : Deeper) (k : ℕ) → proof_on p k [] ≡ Err (record { why = expected; rest = [] })

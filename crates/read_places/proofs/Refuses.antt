@@ -1,13 +1,13 @@
 -- A reader refuses, as unexpected, a first token with which its phrase can't begin. How this goes from
 -- the parts of a phrase to the phrase.
-use Rattle.std.proofs.Common.{◌≡◌, ℕ, suc, ◌≤◌, List, [], ◌∷◌, ◌++◌, length, refl, sym, ◌∙◌, ap, subst}
-use Rattle.std.specs.Prelude.{Bool, true, false, Option, Some, None, Ok, Err, cond}
+use Rattle.std.proofs.Common.{◌≡◌, ℕ, List, [], ◌∷◌, length, refl, sym, ◌∙◌, ap}
+use Rattle.std.specs.Prelude.{Bool, true, false, Option, None, Err, cond}
 use Rattle.htt_tokens.specs.declared.tokens.Kind.{Kind}
 use Rattle.htt_tokens.specs.declared.tokens.Token.{Token}
 use Rattle.raw_trees.specs.declared.place.Span.{Span}
 use Rattle.htt_grammar.specs.Readers.{Reader, Why, expected, after, ◌>>=◌, stop, refused, refuse, chosen, either, first_is, if_first, measured}
 use Rattle.read_places.specs.Alike.{Alike}
-use Rattle.read_places.proofs.Follows.{Kept, Follows, alike_first}
+use Rattle.read_places.proofs.Follows.{Kept, Follows}
 
 pub record Refuses {A : Type 0} (begins : Kind → Bool) (reader : Reader A) : Type 0 where
   pub refuses : (ts : List Token) → first_is begins ts ≡ false → reader ts ≡ Err (record { why = expected; rest = ts })

@@ -1,14 +1,14 @@
 -- What begins no phrase is refused by each reader.
-use Rattle.std.proofs.Common.{◌≡◌, ℕ, zero, suc, List, [], ◌∷◌, refl}
-use Rattle.std.specs.Prelude.{Bool, true, false, ◌||◌, Option, Some, None}
+use Rattle.std.proofs.Common.{◌≡◌, ℕ, zero, suc, refl}
+use Rattle.std.specs.Prelude.{true, false, None}
 use Rattle.htt_tokens.specs.declared.tokens.Kind.{Kind}
 use Rattle.htt_tokens.specs.declared.tokens.Kind.TheVariants.{Name, Number, Keyword, Sign}
-use Rattle.htt_tokens.specs.declared.tokens.Keyword.TheVariants.{TypeWord, PredWord, DefWord, ValWord, ProofWord, WordWord, BoolWord, LocWord, UnitWord, FunWord, DoWord, FixWord, RetWord, TrueWord, FalseWord, NullWord, PlaceWord, FstWord, SndWord, NotWord, EqWord, SelWord, EmpWord, TtWord, FfWord, AllWord, ExWord, CapitalEmpWord, CellWord, BlockWord, JoinWord, SameWord, IntroWord, GenWord, HaveWord, OpenWord, BothWord, LeftWord, RightWord, GiveWord, TrivialWord, ReflWord, AbsurdWord, CaseWord, RewriteWord, InductWord, SplitWord, FirstWord, SecondWord, AppWord, InstWord, AxiomWord, LemWord, TheWord}
-use Rattle.htt_tokens.specs.declared.tokens.Sign.TheVariants.{OpenParenSign, OpenBracketSign, OpenBraceSign, CommaSign, ImpliesSign, UnderscoreSign, PlusSign, MinusSign, StarSign, AmpersandSign, BarSign, CaretSign, ShiftLeftSign, ShiftRightSign, LessSign, DoubleStarSign, AndSign, OrSign, AtSign, BangSign}
-use Rattle.htt_grammar.specs.Readers.{Reader, too_nested, measured, stop, either, refuse, same_kind, that}
-use Rattle.htt_grammar.specs.Beginnings.{begins_binder, begins_mono, begins_ty, begins_atom, begins_appl, begins_term, begins_comp, begins_fatom, begins_formula, begins_arg, begins_stmt, begins_end, begins_proof, begins_decl}
-use Rattle.htt_grammar.specs.Phrases.{Deeper, binder_case, a_binder, mono_at, atom_case, atom_at, unary_case, appl_at, prod_at, sum_at, rel_at, term_case, term_at, comp_on, comp_at, fatom_case, fatom_at, star_at, conj_at, disj_at, quantifier_case, formula_at, ty_at}
-use Rattle.htt_grammar.specs.Reading.{arg_case, arg_at, end_case, end_at, stmt_at, proof_on, proof_at, deeper, decl_case, decl_at}
+use Rattle.htt_tokens.specs.declared.tokens.Keyword.TheVariants.{TypeWord, PredWord, DefWord, ValWord, ProofWord, FunWord, DoWord, FixWord, RetWord, TrueWord, FalseWord, NullWord, PlaceWord, FstWord, SndWord, NotWord, EqWord, SelWord, EmpWord, TtWord, FfWord, AllWord, ExWord, CapitalEmpWord, CellWord, BlockWord, JoinWord, SameWord, BothWord, LeftWord, RightWord, GiveWord, TrivialWord, ReflWord, AbsurdWord, CaseWord, RewriteWord, InductWord, SplitWord, FirstWord, SecondWord, AppWord, InstWord, AxiomWord, LemWord, TheWord}
+use Rattle.htt_tokens.specs.declared.tokens.Sign.TheVariants.{OpenParenSign, OpenBracketSign, UnderscoreSign, AtSign, BangSign}
+use Rattle.htt_grammar.specs.Readers.{same_kind}
+use Rattle.htt_grammar.specs.Beginnings.{begins_binder, begins_atom, begins_appl, begins_term, begins_comp, begins_fatom, begins_formula, begins_arg, begins_stmt, begins_end, begins_proof, begins_decl}
+use Rattle.htt_grammar.specs.Phrases.{Deeper, binder_case, a_binder, atom_case, atom_at, unary_case, appl_at, prod_at, sum_at, rel_at, term_case, term_at, comp_on, comp_at, fatom_case, fatom_at, star_at, conj_at, disj_at, quantifier_case, formula_at}
+use Rattle.htt_grammar.specs.Reading.{arg_case, arg_at, end_case, end_at, proof_on, proof_at, deeper, decl_case, decl_at}
 use Rattle.htt_grammar.proofs.Gets.{that_not, or_left, or_right}
 use Rattle.read_places.proofs.Refuses.{Refuses, refuses_stop, refuses_refuse, refuses_then, refuses_either, refuses_wider, refuses_first, refuses_measured}
 use Rattle.read_places.proofs.Words.{Refused, mono_refuses}

@@ -1,27 +1,22 @@
 -- The readers of terms, types and computations follow one another.
-use Rattle.std.proofs.Common.{◌≡◌, ℕ, zero, suc, ◌+◌, ◌≤◌, List, ◌++◌, refl, sym, ◌∙◌, subst, arith}
-use Rattle.std.specs.Prelude.{Bool, true, false, Ok, cond}
+use Rattle.std.proofs.Common.{◌≡◌, ℕ, zero, suc, List, ◌++◌, refl, sym, ◌∙◌, subst}
+use Rattle.std.specs.Prelude.{Bool, Ok, Option, Some, None, Err, [], ◌∷◌}
 use Rattle.htt_tokens.specs.declared.tokens.Kind.{Kind}
 use Rattle.htt_tokens.specs.declared.tokens.Kind.TheVariants.{Name, Number, Keyword, Sign}
 use Rattle.htt_tokens.specs.declared.tokens.Token.{Token}
-use Rattle.htt_tokens.specs.declared.tokens.Keyword.TheVariants.{FunWord, DoWord, FixWord, RetWord, AllocWord, GetWord, SetWord, FreeWord, IfWord, ClaimWord, TrueWord, FalseWord, NullWord, PlaceWord, FstWord, SndWord, NotWord, EqWord, SelWord}
-use Rattle.htt_tokens.specs.declared.tokens.Sign.TheVariants.{OpenParenSign, CloseParenSign, OpenBracketSign, CloseBracketSign, OpenBraceSign, CloseBraceSign, CommaSign, SemicolonSign, ColonSign, DotSign, UnderscoreSign, ArrowSign, LeftArrowSign, PlusSign, MinusSign, StarSign, AmpersandSign, BarSign, CaretSign, ShiftLeftSign, ShiftRightSign, LessSign}
+use Rattle.htt_tokens.specs.declared.tokens.Keyword.TheVariants.{FunWord, DoWord, FixWord, AllocWord, GetWord, SetWord, FreeWord, IfWord, ClaimWord, TrueWord, FalseWord, NullWord, PlaceWord, FstWord, SndWord, NotWord, EqWord, SelWord}
+use Rattle.htt_tokens.specs.declared.tokens.Sign.TheVariants.{OpenParenSign, CloseParenSign, OpenBracketSign, OpenBraceSign, CommaSign, ColonSign, UnderscoreSign}
 use Rattle.raw_trees.specs.declared.place.Span.{Span}
 use Rattle.raw_trees.specs.declared.place.Binder.{Binder}
 use Rattle.raw_trees.specs.declared.place.Binder.TheVariants as binders
-use Rattle.raw_trees.specs.Trees.{ProdSign, SumSign, ampersand, bar, caret, minus, plus, shift_left, shift_right, times, TyTree, TermTree, SumRestTree, ProdRestTree, PartTrees, y_fun, y_all, y_hoare, y_mono, t_fun, t_fun_mono, t_do, t_fix, t_rel, more_params, r_sum, r_less, s_sum, s_more, x_prod, x_more, l_unary, l_apply, atom_part, mono_part, a_place, c_ret, c_step, s_alloc, s_get, s_set, s_free, s_run, more_terms}
-use Rattle.htt_grammar.specs.Marks.{Limits, ◌⨟◌, sign, sign_at}
-use Rattle.htt_grammar.specs.Readers.{Reader, measured, give, ◌>>=◌, stop, either}
+use Rattle.raw_trees.specs.Trees.{ProdSign, SumSign, TermTree, SumRestTree, ProdRestTree, PartTrees, no_terms, no_params}
+use Rattle.htt_grammar.specs.Readers.{Reader, measured, give, ◌>>=◌, stop, either, expected, too_long}
 use Rattle.htt_grammar.specs.Beginnings.{sum_sign_of, prod_sign_of}
-use Rattle.htt_grammar.specs.Phrases.{Deeper, mono_at, terms_on, terms_there, bracket_case, atom_case, atom_at, part_case, no_part_case, parts_on, unary_case, appl_at, on_prod_sign, prod_on, prod_at, on_sum_sign, sum_on, sum_at, rel_at, triple_at, params_on, term_case, term_at, starts_function, function_case, ty_case, ty_at, step_case, step_at, comp_on, comp_at}
-use Rattle.std.specs.Prelude.{Option, Some, None, Result, Err, [], ◌∷◌}
-use Rattle.htt_grammar.specs.Readers.{Halt, expected, too_long}
-use Rattle.raw_trees.specs.Trees.{no_terms, no_params, ParamTrees, CompTree}
-use Rattle.htt_grammar.specs.Phrases.{a_binder}
-use Rattle.read_places.proofs.Follows.{Kept, Answers, Follows, Both, with_rest, follow_give, follow_stop, follow_refuse, follow_then, follow_either, follow_either_less, follow_eaten, follow_that, follow_that_less, follow_skip, follow_first, follow_measured}
+use Rattle.htt_grammar.specs.Phrases.{Deeper, terms_on, terms_there, bracket_case, atom_case, atom_at, part_case, no_part_case, parts_on, unary_case, appl_at, on_prod_sign, prod_on, prod_at, on_sum_sign, sum_on, sum_at, rel_at, triple_at, params_on, term_case, term_at, ty_at, step_case, step_at, comp_on, comp_at, a_binder}
+use Rattle.read_places.proofs.Follows.{Kept, Answers, Follows, Both, follow_give, follow_stop, follow_refuse, follow_then, follow_either, follow_eaten, follow_that, follow_that_less, follow_skip, follow_first, follow_measured}
 use Rattle.read_places.proofs.Refuses.{refuses_then, follow_refused}
 use Rattle.read_places.proofs.Words.{Follow, Chain, chain_less, chain_none, chain_more, binder_cases, binder_follows, name_follows, number_follows, mono_follows, right_follows, closes_follows, opens_follow, bracketed_follows, mono_refuses}
-use Rattle.read_places.proofs.Types.{behind_colon, behind_name, open_case, behind_open, stepwise_case, stepwise, by_steps}
+use Rattle.read_places.proofs.Types.{behind_colon, open_case, stepwise_case, stepwise, by_steps}
 use Rattle.read_places.proofs.Refusing.{atom_refuses, appl_refuses, prod_refuses}
 
 -- where there are no more tokens

@@ -1,11 +1,10 @@
 -- The reader of types looks up to three tokens ahead. Here it is a reader that takes one token after
 -- the other.
-use Rattle.std.proofs.Common.{◌≡◌, ℕ, zero, suc, List, [], ◌∷◌, refl, sym, ◌∙◌, ap}
-use Rattle.std.specs.Prelude.{Bool, true, false, Option, Some, None, Ok, Err}
+use Rattle.std.proofs.Common.{◌≡◌, ℕ, List, [], ◌∷◌, refl, ◌∙◌}
+use Rattle.std.specs.Prelude.{true, false, Option, Some, None}
 use Rattle.htt_tokens.specs.declared.tokens.Kind.{Kind}
-use Rattle.htt_tokens.specs.declared.tokens.Kind.TheVariants.{Name, Number, Keyword, Sign}
+use Rattle.htt_tokens.specs.declared.tokens.Kind.TheVariants.{Name, Sign}
 use Rattle.htt_tokens.specs.declared.tokens.Token.{Token}
-use Rattle.htt_tokens.specs.declared.tokens.Keyword.TheVariants.{WordWord, BoolWord, LocWord, UnitWord}
 use Rattle.htt_tokens.specs.declared.tokens.Sign.TheVariants.{OpenParenSign, CloseParenSign, OpenBracketSign, OpenBraceSign, ColonSign, ArrowSign, UnderscoreSign}
 use Rattle.raw_trees.specs.declared.place.Span.{Span}
 use Rattle.raw_trees.specs.declared.place.Binder.{Binder}

@@ -1,6 +1,6 @@
 use Rattle.htt_refusals.proofs.Phrases.{mono_is_refused, formula_is_refused, proof_is_refused}
 use Rattle.htt_refusals.proofs.Files.{file_is_refused}
-use Rattle.htt_refusals.proofs.what_is_refused_is_wrong.Goals as goal
+use Rattle.htt_refusals.proofs.refusals_are_right.Goals as goal
 
 pub returns-clause-monotypes : goal.returns-clause-monotypes
 returns-clause-monotypes c = mono_is_refused
