@@ -1,3 +1,1 @@
-pub mod Results
-pub mod Brackets
 pub mod Refusals

@@ -4,10 +4,11 @@ ghost use Rattle.std.specs.Prelude.{◌≡◌, IfOk, IfErr, length};
 ghost use Rattle.htt_grammar.specs.Derivations.{IsMono};
 ghost use Rattle.htt_reading.specs.Laws.{IsMonoWithin};
 ghost use Rattle.raw_trees.specs.MonoLevels.{mono_tree};
-ghost use Rattle.htt_parser.specs.Refusals.{RefusesMono, stop_of};
+ghost use Rattle.htt_grammar.specs.Grammar.{mono};
+ghost use Rattle.htt_parser.specs.Refusals.{Refuses, stop_of};
 
-use crate::cursor::{Cursor, Halted, Reason};
 use htt_tokens::Token;
+use parser_words::{Cursor, Halted, Reason};
 use raw_trees::RawMono;
 use std::alloc::Global;
 use thiserror::Error;
@@ -32,36 +33,35 @@ pub enum ParseStop {
     NoMemory,
 }
 
-impl Cursor<'_> {
-    /// The place of a stop in a text of this length.
-    fn stop(&self, length: u64, halted: Halted) -> ParseStop
-        ensures { result ≡ stop_of length self.now.tokens.now halted }
-    {
-        match halted {
-            Halted::NoMemory => ParseStop::NoMemory,
-            Halted::At(reason, place) => {
-                let at = match self.token(place) {
-                    Some(token) => token.from,
-                    None => length,
-                };
-                match reason {
-                    Reason::Expected => ParseStop::Expected { at },
-                    Reason::TooNested => ParseStop::TooNested { at },
-                    Reason::TooLong => ParseStop::TooLongChain { at },
-                    Reason::TooMany => ParseStop::TooMany { at },
-                }
+/// The place of a stop among the tokens of a text of this length.
+fn stop(cursor: &Cursor, length: u64, halted: Halted) -> ParseStop
+    ensures { result ≡ stop_of length cursor.now.tokens.now halted }
+{
+    match halted {
+        Halted::NoMemory => ParseStop::NoMemory,
+        Halted::At(reason, place) => {
+            let at = match cursor.token(place) {
+                Some(token) => token.from,
+                None => length,
+            };
+            match reason {
+                Reason::Expected => ParseStop::Expected { at },
+                Reason::TooNested => ParseStop::TooNested { at },
+                Reason::TooLong => ParseStop::TooLongChain { at },
+                Reason::TooMany => ParseStop::TooMany { at },
             }
         }
     }
 }
 
-/// Reads a monotype that is the whole list of tokens; `text` is the text whose tokens they are. It is
-/// refused exactly where the tokens are no monotype, or one with more than 256 levels, or for want of
-/// memory. It takes linear time, and its stack grows with the levels alone.
+/// Reads a monotype that is the whole list of tokens; `text` is the text whose tokens they are. Where
+/// the tokens are no monotype, or one past the limits, the refusal is the first that is right: what
+/// stands before the refused token begins a monotype, and none goes on with that token, or only past
+/// the limit. It takes linear time, and its stack grows with the levels alone.
 pub fn parse_mono(alloc: Global, text: &[u8], tokens: &[Token]) -> Result<RawMono, ParseStop>
     ensures derived { IfOk result (λ mono. IsMono tokens.now (mono_tree mono)) }
     ensures within { IfOk result (λ mono. IsMonoWithin (mono_tree mono)) }
-    ensures refused { IfErr result (λ stop. RefusesMono tokens.now stop) }
+    ensures refused { IfErr result (λ stop. Refuses (mono 1) (length text.now) tokens.now stop) }
 {
     let cursor = Cursor { alloc, tokens };
     match cursor.mono(255, 0) {
@@ -69,6 +69,6 @@ pub fn parse_mono(alloc: Global, text: &[u8], tokens: &[Token]) -> Result<RawMon
             None => Ok(mono),
             Some(token) => Err(ParseStop::Expected { at: token.from }),
         },
-        Err(halted) => Err(cursor.stop(text.len() as u64, halted)),
+        Err(halted) => Err(stop(&cursor, text.len() as u64, halted)),
     }
 }
