@@ -1,5 +1,5 @@
 -- Where a reader stops, by the trees that its completions give and by the readers that may read on.
-use Rattle.std.proofs.Common.{◌≡◌, ℕ, ◌+◌, ◌≤◌, List, [], ◌∷◌, ◌++◌, length, refl, sym, ◌∙◌, ap, subst, arith, lit≤, lit<, append_assoc}
+use Rattle.std.proofs.Common.{◌≡◌, ℕ, ◌+◌, ◌≤◌, List, [], ◌∷◌, ◌++◌, length, refl, sym, ◌∙◌, ap, subst, arith, append_assoc}
 use Rattle.std.specs.Prelude.{Bool, true, false, Ok, Err}
 use Rattle.std.proofs.lemmas.List.{append_cancel_right}
 use Rattle.htt_tokens.specs.declared.tokens.Token.{Token}
@@ -63,9 +63,6 @@ follow_widest ms = follow_greater 63 (wider ms).chain 256 (wider ms).nesting (om
 
 pub follow_outermost : Follow true outermost outermost
 follow_outermost = follow_self 63 256
-
-pub knows_outermost : Knows the_limits outermost 1
-knows_outermost = knows the_limits 63 256 1 (lit≤ tt) (lit< tt)
 
 pub ending_outermost : Ending the_limits outermost 1
 ending_outermost = ending the_limits 63 256 1 refl refl

@@ -253,10 +253,6 @@ short_is_nothing : (us : List Token) → length us ≤ 0 → us ≡ []
 short_is_nothing [] h = refl
 short_is_nothing (t ∷ us) h = absurd (let no : ⊥ = omega (arith, h) in no)
 
-nothing_behind : (before other : List Token) → before ++ other ≡ [] → other ≡ []
-nothing_behind [] other e = e
-nothing_behind (t ∷ before) other e = cc
-
 -- at no tokens both answer alike, and one turn more follows one turn more
 module _ {A I : Type 0} {b : Bool} (r q : I → ℕ → Reader A) (o : Result (A × List Token) Halt) (none : rest_of o ≡ []) (whole : with_rest o [] ≡ o) (at_end : (i : I) (n : ℕ) → r i n [] ≡ o) (at_end' : (i : I) (n : ℕ) → q i n [] ≡ o) (turn : (n m : ℕ) → ((i : I) → Follows b n m (r i n) (q i m)) → (i : I) → Follows b (suc n) (suc m) (r i (suc n)) (q i (suc m))) where
   no_turn : (m : ℕ) (i : I) (us : List Token) → us ≡ [] → Answers b m (q i m) us (r i 0 us)
