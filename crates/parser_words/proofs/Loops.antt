@@ -27,6 +27,10 @@ unfolding give
 loop_first (Ok read) = refl
 loop_first (Err halt) = refl
 
+-- where nothing was read yet
+pub loop_empty : {X T : Type 0} (put : X → T → T) (xs : List X) (told : Result (T × List Token) Halt) → xs ≡ [] → told ≡ mapped (onto put xs) told
+loop_empty put xs told none = loop_first told ∙ ap (λ ys. mapped (onto put ys) told) (sym none)
+
 -- one member more
 pub loop_more : {X T : Type 0} (ts : List Token) (put : X → T → T) (nothing : T) (next : ℕ → Reader T) (told : Result (T × List Token) Halt) (xs items : List X) (r : Option (X × ℕ)) (x : X) (end counter at after_at : ℕ) → counter < end → told ≡ mapped (onto put xs) (next (end - counter) (drop at ts)) → ((n : ℕ) → GivesMore ts put nothing (Ok r) (next (suc n)) (next n) at) → r ≡ Some (x, after_at) → items ≡ xs ++ x ∷ [] → told ≡ mapped (onto put items) (next (end - (counter + 1)) (drop after_at ts))
 loop_more ts put nothing next told xs items r x end counter at after_at below so_far more some is =
@@ -76,3 +80,32 @@ pub chain_stops : {X T : Type 0} (ts : List Token) (e : Halted) (put : X → T �
 unfolding give
 chain_stops ts halts.NoMemory put xs o told so_far h = tt
 chain_stops ts (halts.At reason at) put xs o told so_far h = so_far ∙ ap (mapped (onto put xs)) h
+
+-- ---- lists whose last part is read in another way
+
+-- one member more, of a list with an end
+pub loop_next : {X T : Type 0} (put : X → T → T) (next : ℕ → Reader T) (told : Result (T × List Token) Halt) (xs items : List X) (x : X) (end counter : ℕ) (us vs : List Token) → counter < end → told ≡ mapped (onto put xs) (next (end - counter) us) → ((n : ℕ) → next (suc n) us ≡ mapped (put x) (next n vs)) → items ≡ xs ++ x ∷ [] → told ≡ mapped (onto put items) (next (end - (counter + 1)) vs)
+loop_next put next told xs items x end counter us vs below so_far more is =
+    let left : end - counter ≡ suc (end - (counter + 1)) = omega (arith, below) in
+    let n = end - (counter + 1) in
+    so_far ∙ ap (λ m. mapped (onto put xs) (next m us)) left ∙ ap (mapped (onto put xs)) (more n) ∙ put_last put xs x (next n vs) ∙ ap (λ ys. mapped (onto put ys) (next n vs)) (sym is)
+
+-- the end is read
+pub loop_returns : {X T : Type 0} (put : X → T → T) (next : ℕ → Reader T) (told : Result (T × List Token) Halt) (xs : List X) (last : T) (end counter : ℕ) (us vs : List Token) → counter < end → told ≡ mapped (onto put xs) (next (end - counter) us) → ((n : ℕ) → next (suc n) us ≡ Ok (last, vs)) → told ≡ Ok (onto put xs last, vs)
+unfolding give
+loop_returns put next told xs last end counter us vs below so_far ends =
+    let left : end - counter ≡ suc (end - suc counter) = omega (arith, below) in
+    so_far ∙ ap (λ m. mapped (onto put xs) (next m us)) left ∙ ap (mapped (onto put xs)) (ends (end - suc counter))
+
+-- no token is left for the end
+pub loop_lacks : {X T : Type 0} (put : X → T → T) (next : ℕ → Reader T) (told : Result (T × List Token) Halt) (xs : List X) (halt : Halt) (end counter : ℕ) (us : List Token) → end ≤ counter → told ≡ mapped (onto put xs) (next (end - counter) us) → next 0 us ≡ Err halt → told ≡ Err halt
+unfolding give
+loop_lacks put next told xs halt end counter us over so_far stops =
+    let none : end - counter ≡ 0 = omega (arith, over) in
+    so_far ∙ ap (λ m. mapped (onto put xs) (next m us)) none ∙ ap (mapped (onto put xs)) stops
+
+-- what goes on with a list that is made of what was read
+pub bind_mapped : {A B C : Type 0} (make : A → B) (k : B → Reader C) (o : Result (A × List Token) Halt) → after o (λ x. k (make x)) ≡ after (mapped make o) k
+unfolding give
+bind_mapped make k (Ok read) = refl
+bind_mapped make k (Err halt) = refl

@@ -20,7 +20,7 @@ after_err ts halts.NoMemory o k h = tt
 
 -- ---- the first token
 
-next_of : (ts : List Token) (i : ℕ) (t : Token) (rest : List Token) → drop i ts ≡ t ∷ rest → rest ≡ drop (suc i) ts
+pub next_of : (ts : List Token) (i : ℕ) (t : Token) (rest : List Token) → drop i ts ≡ t ∷ rest → rest ≡ drop (suc i) ts
 next_of ts zero t rest h = ap (drop 1) (sym h)
 next_of [] (suc i) t rest h = cc
 next_of (x ∷ ts) (suc i) t rest h = next_of ts i t rest h
