@@ -61,3 +61,24 @@ fn refusals_stand_at_the_first_wrong_token(rt: HostRuntime) {
         }
     }
 }
+
+#[test]
+fn a_monotype_may_have_256_levels_and_no_more(rt: HostRuntime) -> Result<(), Fail> {
+    let text = [0u8; 513];
+    for factors in [256u64, 257] {
+        let mut tokens = Vec::new(rt.alloc());
+        tokens.push(token(WORD, 0, 1))?;
+        for factor in 1..factors {
+            tokens.push(token(STAR, 2 * factor - 1, 2 * factor))?;
+            tokens.push(token(WORD, 2 * factor, 2 * factor + 1))?;
+        }
+        match parse_mono(rt.alloc(), &text, &tokens) {
+            Ok(_) => assert_eq!(rt; factors, 256),
+            Err(stop) => {
+                assert_eq!(rt; factors, 257);
+                assert_eq!(rt; stop, ParseStop::TooNested { at: 512 });
+            }
+        }
+    }
+    Ok(())
+}
