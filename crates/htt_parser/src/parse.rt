@@ -1,15 +1,17 @@
 //! The public calls: a phrase that is the whole list of tokens, and why it is refused.
 
 ghost use Rattle.std.specs.Prelude.{◌≡◌, IfOk, IfErr, length};
-ghost use Rattle.htt_grammar.specs.Derivations.{IsMono};
+ghost use Rattle.htt_grammar.specs.Derivations.{IsFormula, IsFormulaWithin, IsMono};
 ghost use Rattle.htt_reading.specs.Laws.{IsMonoWithin};
 ghost use Rattle.raw_trees.specs.MonoLevels.{mono_tree};
-ghost use Rattle.htt_grammar.specs.Grammar.{mono};
+ghost use Rattle.raw_trees.specs.TreeViews.{formula_tree};
+ghost use Rattle.htt_grammar.specs.Grammar.{formula, mono};
 ghost use Rattle.htt_parser.specs.Refusals.{Refuses, stop_of};
 
 use htt_tokens::Token;
 use parser_words::{Cursor, Halted, Reason};
-use raw_trees::RawMono;
+use parser_phrases::Phrases;
+use raw_trees::{RawFormula, RawMono};
 use std::alloc::Global;
 use thiserror::Error;
 
@@ -32,6 +34,9 @@ pub enum ParseStop {
     #[error("out of memory")]
     NoMemory,
 }
+
+/// How many levels a phrase may have.
+const LEVELS: u32 = 256;
 
 /// The place of a stop among the tokens of a text of this length.
 fn stop(cursor: &Cursor, length: u64, halted: Halted) -> ParseStop
@@ -64,9 +69,26 @@ pub fn parse_mono(alloc: Global, text: &[u8], tokens: &[Token]) -> Result<RawMon
     ensures refused { IfErr result (λ stop. Refuses (mono 1) (length text.now) tokens.now stop) }
 {
     let cursor = Cursor { alloc, tokens };
-    match cursor.mono(255, 0) {
+    match cursor.deeper_mono(LEVELS, 0) {
         Ok((mono, at)) => match cursor.token(at) {
             None => Ok(mono),
+            Some(token) => Err(ParseStop::Expected { at: token.from }),
+        },
+        Err(halted) => Err(stop(&cursor, text.len() as u64, halted)),
+    }
+}
+
+/// Reads a formula that is the whole list of tokens, as `parse_mono` reads a monotype.
+pub fn parse_formula(alloc: Global, text: &[u8], tokens: &[Token]) -> Result<RawFormula, ParseStop>
+    ensures derived { IfOk result (λ tree. IsFormula tokens.now (formula_tree tree)) }
+    ensures within { IfOk result (λ tree. IsFormulaWithin (formula_tree tree)) }
+    ensures refused { IfErr result (λ stop. Refuses (formula 1) (length text.now) tokens.now stop) }
+{
+    let cursor = Cursor { alloc, tokens };
+    let phrases = Phrases { cursor };
+    match phrases.deeper_formula(LEVELS, 0) {
+        Ok((formula, at)) => match cursor.token(at) {
+            None => Ok(formula),
             Some(token) => Err(ParseStop::Expected { at: token.from }),
         },
         Err(halted) => Err(stop(&cursor, text.len() as u64, halted)),
