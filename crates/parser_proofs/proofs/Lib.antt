@@ -1,0 +1,4 @@
+pub mod Choices
+pub mod Chains
+pub mod Lists
+pub mod ProofSteps
