@@ -358,7 +358,7 @@ comp-returns-in_err-result n c = let ret : first_is (λ q. same_kind q (Keyword 
 
 pub comp-returns-then-is_word : goal.comp-returns-then-is_word
 unfolding reading comp_tree
-comp-returns-then-is_word n c = let ret : first_is (λ q. same_kind q (Keyword RetWord)) (drop c.loop.at c.args.self.now.cursor.tokens.now) ≡ true = search rules in loop_returns (λ s. c_step (step_name s) (step_tree s)) (comp_on (deeper 63 c.args.left)) _ c.loop.steps.items (c_ret (term_tree c.in_ok-result.result)) _ _ (drop c.loop.at c.args.self.now.cursor.tokens.now) _ c.loop-test.true c.loop.invariant (λ k. comp_ret (deeper 63 c.args.left) k c.args.self.now.cursor.tokens.now c.loop.at ret ∙ rw c.in_ok-result.ensures refl) ∙ rw c.of.ensures.same_items refl
+comp-returns-then-is_word n c = let ret : first_is (λ q. same_kind q (Keyword RetWord)) (drop c.loop.at c.args.self.now.cursor.tokens.now) ≡ true = search rules in loop_returns (λ s. c_step (step_name s) (step_tree s)) (comp_on (deeper 63 c.args.left)) _ c.loop.steps.items (c_ret (term_tree c.in_ok-result.result)) _ _ (drop c.loop.at c.args.self.now.cursor.tokens.now) (drop c.in_ok-result.at c.args.self.now.cursor.tokens.now) c.loop-test.true c.loop.invariant (λ k. comp_ret (deeper 63 c.args.left) k c.args.self.now.cursor.tokens.now c.loop.at ret ∙ rw c.in_ok-result.ensures refl) ∙ rw c.of.ensures.same_items refl
 
 pub comp-returns-in_err-step : goal.comp-returns-in_err-step
 comp-returns-in_err-step n c = let step : first_is (λ q. same_kind q (Keyword RetWord)) (drop c.loop.at c.args.self.now.cursor.tokens.now) ≡ false = search rules in stopped _ _ _ _ _ c.from_residual-in_err-step.ensures.1 (loop_stops _ _ (λ s. c_step (step_name s) (step_tree s)) c.loop.steps.items (comp_on (deeper 63 c.args.left)) c.loop.at _ _ _ c.loop-test.true c.loop.invariant (λ k. err_along _ _ _ _ (comp_step (deeper 63 c.args.left) k (drop c.loop.at c.args.self.now.cursor.tokens.now) step) (c.in_err-step.ensures (comp_on (deeper 63 c.args.left) k))))

@@ -1,0 +1,202 @@
+from bars import *
+src=open(R+'Words.antt').read()
+u='\n'.join(l for l in src.split('\n') if l.startswith('use ') and 'htt_reading' not in l and 'proofs.Common' not in l and 'specs.Prelude' not in l)
+HEAD='''-- Stops at a limit in names, numbers, heaps and monotypes.
+'''+u+'\n'+COMMON+'''use Rattle.htt_tokens.specs.declared.tokens.Token.{Token}
+use Rattle.htt_grammar.specs.Readers.{Halt, Why}
+use Rattle.htt_grammar.proofs.Spells.{Spells, Begins}
+use Rattle.htt_reading.proofs.Words.{token_tells, opened, right_marks, in_brackets_again, after_name}
+use Rattle.read_places.proofs.Follows.{follow_stop, follow_token}
+use Rattle.read_places.proofs.Words.{Follow}
+use Rattle.read_places.proofs.Words as places
+
+-- the second readers read the same as the first, and are barred where these stop at a limit
+pub record Bar (lim : Limits) (d d' : Deeper) (l : ℕ) : Type 0 where
+  pub trust : Trusts lim d l
+  pub follow : Follow false d d'
+  pub further : suc d.further ≡ lim.chain
+'''
+for f in ['ty','term','comp','formula','disj','conj','star','mono','proof']:
+    HEAD+="  pub %s : Barred lim d.%s d'.%s (Grammar.%s l)\n"%(f,f,f,f)
+HEAD+='''
+over_numbered : (lim : Limits) (k : ℕ) (m : Mark) → 1 ≤ lim.chain → m.operand ≡ 1 → (IsWithin lim m → ⊥) → IsWithin lim (record m { operand = k }) → ⊥
+over_numbered lim k m one first over within = over (record { level = within.level; operand = subst (λ n. n ≤ lim.chain) (sym first) one })
+
+-- the operand with this number
+numbered_barrier : {A : Type 0} (lim : Limits) (ms : A → List Mark) (begins : Kind → Bool) (k : ℕ) (ts : List Token) (halt : Halt) (x : A) (first : List Mark) (m : Mark) (others : List Mark) → k ≤ lim.chain → 1 ≤ lim.chain → Begins begins (ms x) → ms x ≡ first ++ (m ∷ others) → Spells lim first ts halt.rest → (IsWithin lim m → ⊥) → Barrier lim (λ y. numbered k (ms y)) ts halt x
+numbered_barrier lim ms begins k ts halt x [] m others within one opens whole spelled over = record {
+  first = [];
+  mark = record m { operand = k };
+  others = others;
+  whole = ap (numbered k) whole;
+  spelled = spelled;
+  over = over_numbered lim k m one (subst (Begins begins) whole opens).1 over;
+}
+numbered_barrier lim ms begins k ts halt x (n ∷ first) m others within one opens whole spelled over = record {
+  first = numbered k (n ∷ first);
+  mark = m;
+  others = others;
+  whole = ap (numbered k) whole;
+  spelled = renumber lim k (n ∷ first) ts halt.rest within spelled;
+  over = over;
+}
+
+pub numbered_barred : {A : Type 0} {lim : Limits} {r q : Reader A} {ms : A → List Mark} (begins : Kind → Bool) (k : ℕ) → k ≤ lim.chain → 1 ≤ lim.chain → ((x : A) → Begins begins (ms x)) → Barred lim r q ms → Barred lim r q (λ x. numbered k (ms x))
+numbered_barred {A = A} {lim = lim} {r = r} {q = q} {ms = ms} begins k within one opens barred = record {
+  tells = numbered_tells k within barred.tells;
+  same = barred.same;
+  bars = record {
+    form = forms_id;
+    held = λ before ts go carry. held before ts (r ts) (q ts) (barred.bars.held ts ts (λ ns end s. s) (λ a b. refl)) go;
+  };
+}
+  where
+    held : (before ts : List Token) (o p : Result (A × List Token) Halt) → Held lim ms ts o p → ((ns : List Mark) (end : List Token) → Spells lim ns ts end → Spells lim ns before end) → Held lim (λ x. numbered k (ms x)) before o p
+    held before ts (Ok read) p h go = tt
+    held before ts (Err halt) (Err halted) h go = tt
+    held before ts (Err halt) (Ok read) h go = λ limit.
+        let b = h limit in
+        let c = numbered_barrier lim ms begins k ts halt read.0 b.first b.mark b.others within one (opens read.0) b.whole b.spelled b.over in
+        record { first = c.first; mark = c.mark; others = c.others; whole = c.whole; spelled = go c.first halt.rest c.spelled; over = c.over }
+
+module _ {lim : Limits} (l : ℕ) (here : Stands lim l) where
+  within_here : (m : Mark) → m.level ≡ l → m.operand ≡ 1 → IsWithin lim m
+  within_here m level operand = record { level = subst (λ n. n ≤ lim.nesting) (sym level) here.level; operand = subst (λ n. n ≤ lim.chain) (sym operand) here.chain }
+
+  module _ {A : Type 0} {round : List Mark → List Mark} {marks : A → List Mark} {next other : Reader A} where
+    pub at_word : (w : a_keyword.Keyword) (s : Span) → Bars lim (λ ns. round (word_at l w s.from ⨟ ns)) next other marks → Takes lim round (Keyword w) s next other marks
+    at_word w s then = record { mark = record { kind = Keyword w; at = Some s.from; span = None; level = l; operand = 1 }; same = refl; at = refl; there = tt; within = within_here _ refl refl; then = then }
+
+    pub at_sign : (w : a_sign.Sign) (s : Span) → Bars lim (λ ns. round (sign_at l w s.from ⨟ ns)) next other marks → Takes lim round (Sign w) s next other marks
+    at_sign w s then = record { mark = record { kind = Sign w; at = Some s.from; span = None; level = l; operand = 1 }; same = refl; at = refl; there = tt; within = within_here _ refl refl; then = then }
+
+    pub at_number : (v : ℕ) (s : Span) → Bars lim (λ ns. round (number_at l v s.from ⨟ ns)) next other marks → Takes lim round (Number v) s next other marks
+    at_number v s then = record { mark = record { kind = Number v; at = Some s.from; span = None; level = l; operand = 1 }; same = refl; at = refl; there = tt; within = within_here _ refl refl; then = then }
+
+    pub a_word : (w : a_keyword.Keyword) (s : Span) → Bars lim (λ ns. round (word l w ⨟ ns)) next other marks → Takes lim round (Keyword w) s next other marks
+    a_word w s then = record { mark = record { kind = Keyword w; at = None; span = None; level = l; operand = 1 }; same = refl; at = tt; there = tt; within = within_here _ refl refl; then = then }
+
+    pub a_sign' : (w : a_sign.Sign) (s : Span) → Bars lim (λ ns. round (sign l w ⨟ ns)) next other marks → Takes lim round (Sign w) s next other marks
+    a_sign' w s then = record { mark = record { kind = Sign w; at = None; span = None; level = l; operand = 1 }; same = refl; at = tt; there = tt; within = within_here _ refl refl; then = then }
+
+    a_number' : (v : ℕ) (s : Span) → Bars lim (λ ns. round (number l v ⨟ ns)) next other marks → Takes lim round (Number v) s next other marks
+    a_number' v s then = record { mark = record { kind = Number v; at = None; span = None; level = l; operand = 1 }; same = refl; at = tt; there = tt; within = within_here _ refl refl; then = then }
+
+    pub a_name' : (s : Span) → Bars lim (λ ns. round (name l s ⨟ ns)) next other marks → Takes lim round Name s next other marks
+    a_name' s then = record { mark = record { kind = Name; at = None; span = Some s; level = l; operand = 1 }; same = refl; at = tt; there = refl; within = within_here _ refl refl; then = then }
+
+  module _ {A : Type 0} {round : List Mark → List Mark} {marks : A → List Mark} {next other rest otherwise : Reader A} where
+    pub or_sign : (w : a_sign.Sign) → Bars lim (λ ns. round (sign l w ⨟ ns)) next other marks → Bars lim round rest otherwise marks → Bars lim round (either (that (Sign w) next) rest) (either (that (Sign w) other) otherwise) marks
+    or_sign w then else' = bars_that (record { kind = Sign w; at = None; span = None; level = l; operand = 1 }) refl refl (within_here _ refl refl) then else'
+
+    pub or_word : (w : a_keyword.Keyword) → Bars lim (λ ns. round (word l w ⨟ ns)) next other marks → Bars lim round rest otherwise marks → Bars lim round (either (that (Keyword w) next) rest) (either (that (Keyword w) other) otherwise) marks
+    or_word w then else' = bars_that (record { kind = Keyword w; at = None; span = None; level = l; operand = 1 }) refl refl (within_here _ refl refl) then else'
+
+  token_barred : (w : a_sign.Sign) → Barred lim (token (Sign w)) (token (Sign w)) (λ _. sign l w)
+  unfolding token ◌⨟◌
+  token_barred w = record { tells = token_tells l here w; same = same_ok {b = false} (λ n m. follow_token (Sign w)); bars = or_sign w (bars_give tt refl) bars_stop }
+
+  -- a sign that is wanted, and what follows
+  pub skip : {A : Type 0} {round : List Mark → List Mark} {marks : A → List Mark} {k j : Unit {0} → Reader A} (w : a_sign.Sign) → ((x : Unit {0}) → Bars lim (λ ns. round (sign l w ⨟ ns)) (k x) (j x) marks) → Bars lim round (token (Sign w) >>= k) (token (Sign w) >>= j) marks
+  skip w then = bars_then (token_barred w) then
+
+  -- ---- words
+
+  pub binder_barred : Barred lim a_binder a_binder (Grammar.binder l)
+  unfolding a_binder ◌⨟◌
+  binder_barred = record { tells = told.binder_tells l here; same = same_ok {b = false} (λ n m. places.binder_follows); bars = bars_either _ _ cases bars_stop }
+    where
+      cases : (k : Kind) (s : Span) → Case lim (λ ns. ns) (Grammar.binder l) k s (binder_case k) (binder_case k)
+      cases Name s = a_name' s (bars_give _ refl)
+      cases (Sign UnderscoreSign) s = a_sign' UnderscoreSign s (bars_give _ refl)
+      cases _ s = tt
+
+  pub name_barred : Barred lim a_name_there a_name_there (name l)
+  unfolding a_name_there ◌⨟◌
+  name_barred = record { tells = told.name_tells l here; same = same_ok {b = false} (λ n m. places.name_follows); bars = bars_either _ _ cases bars_stop }
+    where
+      cases : (k : Kind) (s : Span) → Case lim (λ ns. ns) (name l) k s (name_case k) (name_case k)
+      cases Name s = a_name' s (bars_give _ refl)
+      cases _ s = tt
+
+  pub number_barred : Barred lim a_number_there a_number_there (number l)
+  unfolding a_number_there ◌⨟◌
+  number_barred = record { tells = told.number_tells l here; same = same_ok {b = false} (λ n m. places.number_follows); bars = bars_either _ _ cases bars_stop }
+    where
+      cases : (k : Kind) (s : Span) → Case lim (λ ns. ns) (number l) k s (number_case k) (number_case k)
+      cases (Number v) s = a_number' v s (bars_give _ refl)
+      cases _ s = tt
+
+  over_barred : Barred lim over_there over_there (Grammar.over l)
+  unfolding over_there ◌⨟◌
+  over_barred = record { tells = told.over_tells l here; same = same_ok {b = false} (λ n m. places.over_follows); bars = or_sign CaretSign (bars_last Some number_barred.bars (λ x. refl)) (bars_give _ refl) }
+
+  pub heap_barred : Barred lim a_heap a_heap (Grammar.heap l)
+  unfolding a_heap ◌⨟◌
+  heap_barred = record { tells = told.heap_tells l here; same = same_ok {b = false} (λ n m. places.heap_follows); bars = bars_either _ _ cases bars_stop }
+    where
+      cases : (k : Kind) (s : Span) → Case lim (λ ns. ns) (Grammar.heap l) k s (heap_case k) (heap_case k)
+      cases Name s = a_name' s (bars_give _ refl)
+      cases (Keyword InitWord) s = at_word InitWord s (bars_last (heaps.Init s.from) over_barred.bars (λ n. refl))
+      cases (Keyword MemWord) s = at_word MemWord s (bars_last (heaps.Mem s.from) over_barred.bars (λ n. refl))
+      cases _ s = tt
+
+  -- ---- lists with commas
+
+  commas_bars : {A : Type 0} (r q : Reader A) (marks : A → List Mark) → Barred lim r q marks → (n : ℕ) → Bars lim (λ ns. ns) (after_commas (Sign CommaSign) r n) (after_commas (Sign CommaSign) q n) (each_after (sign l CommaSign) marks)
+  unfolding after_commas each_after ◌⨟◌
+  commas_bars r q marks item zero = bars_give _ refl
+  commas_bars r q marks item (suc n) = or_sign CommaSign (bars_then item (λ x. bars_last (λ xs. x ∷ xs) (commas_bars r q marks item n) (λ xs. refl))) (bars_give _ refl)
+
+  pub more_barred : {A : Type 0} (r q : Reader A) (marks : A → List Mark) → ((n m : ℕ) → Follows false n m r q) → Barred lim r q marks → Barred lim (measured (after_commas (Sign CommaSign) r)) (measured (after_commas (Sign CommaSign) q)) (each_after (sign l CommaSign) marks)
+  more_barred r q marks follows item = record {
+    tells = told.more_tell l here r marks item.tells;
+    same = same_ok (λ n m. places.more_follow r q follows);
+    bars = bars_measured (λ n. commas_bars r q marks item n);
+  }
+
+-- ---- monotypes
+
+module _ {lim : Limits} (d d' : Deeper) (l : ℕ) (here : Stands lim l) (trust : Bar lim d d' (suc l)) where
+  mono_name_bars : (k : Kind) (s : Span) → Case lim (λ ns. ns) (Grammar.mono_name l) k s (mono_name_case k) (mono_name_case k)
+  unfolding ◌⨟◌
+@@mono_name_told
+
+  mono_name_barred : Barred lim (either mono_name_case stop) (either mono_name_case stop) (Grammar.mono_name l)
+  mono_name_barred = record { tells = told.mono_name_tells d l here trust.trust; same = same_ok {b = false} (λ n m. places.mono_name_follows); bars = bars_either _ _ mono_name_bars bars_stop }
+
+  right_barred : Barred lim (mono_right d) (mono_right d') (right_marks l)
+  unfolding mono_right right_marks ◌⨟◌
+  right_barred = record { tells = told.right_tells d l here trust.trust; same = same_ok (λ n m. places.right_follows d d' trust.follow); bars = @=right_tells }
+
+  closes_bars : (opens : List ℕ) (m : MonoTree) → Bars lim (λ ns. opened l opens (Grammar.mono l m ⨟ ns)) (mono_closes d opens m) (mono_closes d' opens m) (Grammar.mono l)
+  unfolding mono_closes opened ◌⨟◌
+@@closes_told
+
+  inside_bars : (opens : List ℕ) → Bars lim (opened l opens) (mono_inside d opens) (mono_inside d' opens) (Grammar.mono l)
+  unfolding mono_inside
+  inside_bars opens = bars_then mono_name_barred (λ x. bars_then right_barred (λ r. bars_reround _ _ (λ ns. ap (opened l opens) (after_name l x r ns)) (closes_bars opens (with_right (m_name x) r))))
+
+  opens_bars : (n : ℕ) (opens : List ℕ) → Bars lim (opened l opens) (mono_opens d n opens) (mono_opens d' n opens) (Grammar.mono l)
+  unfolding mono_opens opened
+  opens_bars zero opens = bars_stop
+  opens_bars (suc n) opens = bars_either _ _ (cases n opens (λ s. opens_bars n (s.from ∷ opens))) (inside_bars opens)
+    where
+      cases : (n : ℕ) (opens : List ℕ) → ((s : Span) → Bars lim (opened l (s.from ∷ opens)) (mono_opens d n (s.from ∷ opens)) (mono_opens d' n (s.from ∷ opens)) (Grammar.mono l)) → (k : Kind) (s : Span) → Case lim (opened l opens) (Grammar.mono l) k s (mono_case (mono_opens d n) opens k) (mono_case (mono_opens d' n) opens k)
+      cases n opens next (Sign OpenParenSign) s = at_sign l here OpenParenSign s (next s)
+      cases n opens next _ s = tt
+
+  pub mono_barred : Barred lim (mono_at d) (mono_at d') (Grammar.mono l)
+  unfolding mono_at opened
+  mono_barred = record { tells = told.mono_tells d l here trust.trust; same = same_ok (λ n m. places.mono_follows d d' trust.follow); bars = bars_measured (λ n. opens_bars n []) }
+
+  pub bracketed_barred : Barred lim (bracketed d) (bracketed d') (Grammar.in_brackets l)
+  unfolding bracketed ◌⨟◌
+  bracketed_barred = record { tells = told.bracketed_tells d l here trust.trust; same = same_ok (λ n m. places.bracketed_follows d d' trust.follow); bars = @=bracketed_tells }
+
+  pub more_monos_barred : Barred lim (more_monos d) (more_monos d') (each_after (sign l CommaSign) (Grammar.mono l))
+  unfolding more_monos
+  more_monos_barred = more_barred l here (mono_at d) (mono_at d') (Grammar.mono l) (λ n m. places.mono_follows d d' trust.follow) mono_barred
+'''
+HEAD=exp(HEAD,'Words.antt')
+open(O+'Words.antt','w').write(HEAD)

@@ -1,0 +1,195 @@
+from follow import *
+T='Terms.antt'
+HEAD=open('/work/h/refuse/crates/htt_reading/proofs/Terms.antt').read().split('\n')
+uses=[l for l in HEAD if l.startswith('use ') and 'htt_reading.proofs' not in l and 'proofs.Spells' not in l and 'specs.Grammar' not in l]
+out='''-- The readers of terms, types and computations follow one another.
+'''+'\n'.join(uses)+'''
+use Rattle.std.specs.Prelude.{Option, Some, None, Result, Err, [], ◌∷◌}
+use Rattle.std.proofs.Common.{◌≡◌}
+use Rattle.htt_grammar.specs.Readers.{Halt, expected, too_long}
+use Rattle.raw_trees.specs.Trees.{no_terms, no_params, ParamTrees, CompTree}
+use Rattle.htt_grammar.specs.Phrases.{a_binder}
+use Rattle.read_places.proofs.Follows.{Kept, Answers, Follows, Both, with_rest, follow_give, follow_stop, follow_refuse, follow_then, follow_either, follow_either_less, follow_eaten, follow_that, follow_that_less, follow_skip, follow_first, follow_measured}
+use Rattle.read_places.proofs.Refuses.{refuses_then, follow_refused}
+use Rattle.read_places.proofs.Words.{Follow, Chain, chain_less, chain_none, chain_more, binder_cases, binder_follows, name_follows, number_follows, mono_follows, right_follows, closes_follows, opens_follow, bracketed_follows, mono_refuses}
+use Rattle.read_places.proofs.Types.{behind_colon, behind_name, open_case, behind_open, stepwise_case, stepwise, by_steps}
+use Rattle.read_places.proofs.Refusing.{atom_refuses, appl_refuses, prod_refuses}
+
+-- where there are no more tokens
+no_terms_more : (p : Deeper) (k : ℕ) → terms_on p k [] ≡ Ok (no_terms, [])
+unfolding terms_on either give
+no_terms_more p zero = refl
+no_terms_more p (suc k) = refl
+
+no_params_more : (p : Deeper) (k : ℕ) → params_on p k [] ≡ Ok (no_params, [])
+unfolding params_on either give
+no_params_more p zero = refl
+no_params_more p (suc k) = refl
+
+no_comp_more : (p : Deeper) (k : ℕ) → comp_on p k [] ≡ Err (record { why = expected; rest = [] })
+unfolding comp_on either ◌>>=◌ a_binder stop
+no_comp_more p zero = refl
+no_comp_more p (suc k) = refl
+
+-- a reader that answers the same as one that follows
+follow_same : {A : Type 0} {b : Bool} {n m : ℕ} (r q r' q' : Reader A) → ((us : List Token) → r us ≡ r' us) → ((us : List Token) → q us ≡ q' us) → Follows b n m r' q' → Follows b n m r q
+follow_same {b = b} {m = m} r q r' q' one other follows = record {
+  answers = λ us short.
+      let got = subst (λ o. Answers b m q' us o) (sym (one us)) (follows.answers us short) in
+      record { before = got.before; parts = got.parts; same = λ ts alike fits claimed. other (got.before ++ ts) ∙ got.same ts alike fits claimed };
+}
+
+of_prod_sign : {b : Bool} {i j : ℕ} (next other : ProdSign → Reader ProdRestTree) → ((o : ProdSign) → Follows b i j (next o) (other o)) → (s : Span) (o : Option ProdSign) → Both b i j s (on_prod_sign next o) (on_prod_sign other o)
+of_prod_sign next other follows s None = tt
+of_prod_sign next other follows s (Some o) = follows o
+
+of_sum_sign : {b : Bool} {i j : ℕ} (next other : SumSign → Reader SumRestTree) → ((o : SumSign) → Follows b i j (next o) (other o)) → (s : Span) (o : Option SumSign) → Both b i j s (on_sum_sign next o) (on_sum_sign other o)
+of_sum_sign next other follows s None = tt
+of_sum_sign next other follows s (Some o) = follows o
+
+module _ {b : Bool} (d d' : Deeper) (trust : Follow b d d') where
+  -- ---- lists of terms
+
+  terms_turn : (k j : ℕ) → ((i : Unit {0}) → Follows b k j (terms_on d k) (terms_on d' j)) → (i : Unit {0}) → Follows b (suc k) (suc j) (terms_on d (suc k)) (terms_on d' (suc j))
+  unfolding terms_on
+  terms_turn k j next i = follow_that_less _ (follow_then trust.term (λ m. follow_then (next tt) (λ ms. follow_give _))) (follow_give _)
+
+  pub more_terms_follow : {i j : ℕ} → Follows b i j (measured (terms_on d)) (measured (terms_on d'))
+  more_terms_follow = follow_measured (λ (i : Unit {0}) k. terms_on d k) (λ i k. terms_on d' k) (Ok (no_terms, [])) refl refl (λ i k. no_terms_more d k) (λ i k. no_terms_more d' k) terms_turn tt
+
+  pub terms_follow : {i j : ℕ} → Follows b i j (terms_there d) (terms_there d')
+  unfolding terms_there
+  terms_follow = follow_first _ (follow_give _) (follow_then trust.term (λ m. follow_then more_terms_follow (λ ms. follow_give _)))
+
+  -- ---- atoms
+
+  bracket_cases : (i j at : ℕ) (m : TermTree) (k : Kind) (s : Span) → Both b i j s (bracket_case d at m k) (bracket_case d' at m k)
+@@bracket_told
+
+  atom_cases : (i j : ℕ) (k : Kind) (s : Span) → Both b i j s (atom_case d k) (atom_case d' k)
+@@atom_told
+
+  pub atom_follows : {i j : ℕ} → Follows b i j (atom_at d) (atom_at d')
+  unfolding atom_at
+  atom_follows = follow_either _ _ (atom_cases _ _) follow_stop
+
+  -- ---- chains
+
+  no_part_cases : (i j : ℕ) (k : Kind) (s : Span) → Both b i j s (no_part_case k) (no_part_case k)
+  no_part_cases i j (Sign OpenBracketSign) s = follow_refuse _ _
+  no_part_cases i j _ s = tt
+
+  past_part_cases : (i j : ℕ) (next : Reader PartTrees) → (Kept b too_long → ⊥) → (k : Kind) (s : Span) → Both b i j s (no_part_case k) (part_case d' next k)
+  past_part_cases i j next not (Sign OpenBracketSign) s = follow_refused _ _ not (refuses_then _ (mono_refuses d'))
+  past_part_cases i j next not _ s = tt
+
+  part_cases : (i j : ℕ) (next other : Reader PartTrees) → Follows b i j next other → (k : Kind) (s : Span) → Both b i j s (part_case d next k) (part_case d' other k)
+  part_cases i j next other more (Sign OpenBracketSign) s = follow_then (mono_follows d d' trust) (λ m. follow_skip _ (λ _. follow_then more (λ ps. follow_give _)))
+  part_cases i j next other more _ s = tt
+
+  parts_follow : {i j : ℕ} (k l : ℕ) → Chain b k l → Follows b i j (parts_on d k) (parts_on d' l)
+  unfolding parts_on
+  parts_follow zero zero h = follow_either _ _ (no_part_cases _ _) (follow_first _ (follow_refuse _ _) (follow_give _))
+  parts_follow zero (suc l) h = follow_either _ _ (past_part_cases _ _ (parts_on d' l) (chain_more b l h)) (follow_first _ (follow_refused _ _ (chain_more b l h) (refuses_then _ (atom_refuses d'))) (follow_give _))
+  parts_follow (suc k) zero h = absurd (chain_none b k h)
+  parts_follow (suc k) (suc l) h = follow_either _ _ (part_cases _ _ (parts_on d k) (parts_on d' l) (parts_follow k l (chain_less b k l h))) (follow_first _ (follow_then atom_follows (λ a. follow_then (parts_follow k l (chain_less b k l h)) (λ ps. follow_give _))) (follow_give _))
+
+  unary_cases : (i j : ℕ) (k : Kind) (s : Span) → Both b i j s (unary_case d k) (unary_case d' k)
+@@unary_told
+
+  pub appl_follows : {i j : ℕ} → Follows b i j (appl_at d) (appl_at d')
+  unfolding appl_at
+  appl_follows = follow_either _ _ (unary_cases _ _) (follow_then atom_follows (λ a. follow_then (parts_follow d.further d'.further trust.further) (λ ps. follow_give _)))
+
+  prod_rest_follows : {i j : ℕ} (k l : ℕ) → Chain b k l → Follows b i j (prod_on d k) (prod_on d' l)
+  unfolding prod_on
+  prod_rest_follows zero zero h = follow_either _ _ (λ k s. of_prod_sign _ _ (λ o. follow_refuse _ _) s (prod_sign_of k)) (follow_give _)
+  prod_rest_follows zero (suc l) h = follow_either _ _ (λ k s. of_prod_sign _ _ (λ o. follow_refused _ _ (chain_more b l h) (refuses_then _ (appl_refuses d'))) s (prod_sign_of k)) (follow_give _)
+  prod_rest_follows (suc k) zero h = absurd (chain_none b k h)
+  prod_rest_follows (suc k) (suc l) h = follow_either _ _ (λ x s. of_prod_sign _ _ (λ o. follow_then appl_follows (λ a. follow_then (prod_rest_follows k l (chain_less b k l h)) (λ rest. follow_give _))) s (prod_sign_of x)) (follow_give _)
+
+  prod_follows : {i j : ℕ} → Follows b i j (prod_at d) (prod_at d')
+  unfolding prod_at
+  prod_follows = follow_then appl_follows (λ a. follow_then (prod_rest_follows d.further d'.further trust.further) (λ rest. follow_give _))
+
+  sum_rest_follows : {i j : ℕ} (k l : ℕ) → Chain b k l → Follows b i j (sum_on d k) (sum_on d' l)
+  unfolding sum_on
+  sum_rest_follows zero zero h = follow_either _ _ (λ k s. of_sum_sign _ _ (λ o. follow_refuse _ _) s (sum_sign_of k)) (follow_give _)
+  sum_rest_follows zero (suc l) h = follow_either _ _ (λ k s. of_sum_sign _ _ (λ o. follow_refused _ _ (chain_more b l h) (refuses_then _ (prod_refuses d'))) s (sum_sign_of k)) (follow_give _)
+  sum_rest_follows (suc k) zero h = absurd (chain_none b k h)
+  sum_rest_follows (suc k) (suc l) h = follow_either _ _ (λ x s. of_sum_sign _ _ (λ o. follow_then prod_follows (λ a. follow_then (sum_rest_follows k l (chain_less b k l h)) (λ rest. follow_give _))) s (sum_sign_of x)) (follow_give _)
+
+  sum_follows : {i j : ℕ} → Follows b i j (sum_at d) (sum_at d')
+  unfolding sum_at
+  sum_follows = follow_then prod_follows (λ p. follow_then (sum_rest_follows d.further d'.further trust.further) (λ rest. follow_give _))
+
+  pub rel_follows : {i j : ℕ} → Follows b i j (rel_at d) (rel_at d')
+  unfolding rel_at
+  rel_follows = follow_then sum_follows (λ s. follow_that _ (follow_then sum_follows (λ r. follow_give _)) (follow_give _))
+
+  -- ---- triples and terms
+
+  triple_follows : {i j : ℕ} → Follows b i j (triple_at d) (triple_at d')
+  unfolding triple_at
+  triple_follows = @=triple_tells
+
+  params_turn : (k j : ℕ) → ((i : Unit {0}) → Follows b k j (params_on d k) (params_on d' j)) → (i : Unit {0}) → Follows b (suc k) (suc j) (params_on d (suc k)) (params_on d' (suc j))
+  unfolding params_on
+  params_turn k j next i = follow_that_less _ (follow_then binder_follows (λ b. follow_skip _ (λ _. follow_then trust.ty (λ a. follow_skip _ (λ _. follow_then (next tt) (λ ps. follow_give _)))))) (follow_give _)
+
+  more_params_follow : {i j : ℕ} → Follows b i j (measured (params_on d)) (measured (params_on d'))
+  more_params_follow = follow_measured (λ (i : Unit {0}) k. params_on d k) (λ i k. params_on d' k) (Ok (no_params, [])) refl refl (λ i k. no_params_more d k) (λ i k. no_params_more d' k) params_turn tt
+
+  term_cases : (i j : ℕ) (k : Kind) (s : Span) → Both b i j s (term_case d k) (term_case d' k)
+@@term_told
+
+  pub term_follows : {i j : ℕ} → Follows b i j (term_at d) (term_at d')
+  unfolding term_at
+  term_follows = follow_either _ _ (term_cases _ _) (follow_then rel_follows (λ r. follow_give _))
+
+  -- ---- computations
+
+  step_cases : (i j : ℕ) (k : Kind) (s : Span) → Both b i j s (step_case d k) (step_case d' k)
+@@step_told
+
+  step_follows : {i j : ℕ} → Follows b i j (step_at d) (step_at d')
+  unfolding step_at
+  step_follows = follow_either _ _ (step_cases _ _) (follow_then appl_follows (λ a. follow_give _))
+
+  comp_turn : (k j : ℕ) → ((i : Unit {0}) → Follows b k j (comp_on d k) (comp_on d' j)) → (i : Unit {0}) → Follows b (suc k) (suc j) (comp_on d (suc k)) (comp_on d' (suc j))
+  unfolding comp_on a_binder
+  comp_turn k j next i = follow_that_less _ (follow_then trust.term (λ m. follow_give _)) (follow_eaten _ _ (binder_cases _ _ _) (λ x. follow_skip _ (λ _. follow_then step_follows (λ s. follow_skip _ (λ _. follow_then (next tt) (λ e. follow_give _))))))
+
+  pub comp_follows : {i j : ℕ} → Follows b i j (comp_at d) (comp_at d')
+  unfolding comp_at
+  comp_follows = follow_measured (λ (i : Unit {0}) k. comp_on d k) (λ i k. comp_on d' k) (Err (record { why = expected; rest = [] })) refl refl (λ i k. no_comp_more d k) (λ i k. no_comp_more d' k) comp_turn tt
+
+  -- ---- types
+
+  behind_colon_follows : {i j : ℕ} (at : ℕ) (x : Binder) → Follows b i j (behind_colon d at x) (behind_colon d' at x)
+  behind_colon_follows at x = follow_then trust.ty (λ a. follow_skip _ (λ _. follow_skip _ (λ _. follow_then trust.ty (λ c. follow_give _))))
+
+  open_cases : (i j at : ℕ) (k : Kind) (s : Span) → Both b i j s (open_case d at k) (open_case d' at k)
+  open_cases i j at (Sign UnderscoreSign) s = follow_skip _ (λ _. behind_colon_follows at binders.Blank)
+  open_cases i j at Name s = follow_that _ (behind_colon_follows at (binders.Name s)) (follow_then (follow_then (right_follows d d' trust) (λ r. closes_follows d d' trust (at ∷ []) _)) (λ m. follow_give _))
+  open_cases i j at _ s = tt
+
+  stepwise_cases : (i j : ℕ) (k : Kind) (s : Span) → Both b i j s (stepwise_case d k) (stepwise_case d' k)
+  stepwise_cases i j (Sign OpenParenSign) s = follow_either _ _ (open_cases _ _ s.from) (follow_then (opens_follow d d' trust (s.from ∷ [])) (λ m. follow_give _))
+@@ty_told
+
+  pub ty_follows : {i j : ℕ} → Follows b i j (ty_at d) (ty_at d')
+  ty_follows = follow_same (ty_at d) (ty_at d') (stepwise d) (stepwise d') (by_steps d) (by_steps d') (follow_either _ _ (stepwise_cases _ _) (follow_then (mono_follows d d' trust) (λ m. follow_give _)))
+'''
+def exp(out,f,ext=(),new={}):
+    def r(m):
+        n=m.group(1)
+        return cases(f,n,ext,new=new.get(n))
+    out=re.sub(r'@@(\w+)',r,out)
+    out=re.sub(r'@=(\w+)',lambda m: term(f,m.group(1),ext),out)
+    return out
+if __name__=='__main__':
+    out=exp(out,T,new={'ty_told':'stepwise_cases'})
+    out=out.replace("use Rattle.std.proofs.Common.{◌≡◌, ℕ, zero, suc, ◌+◌, ◌≤◌, List, refl, arith, append-nil}","use Rattle.std.proofs.Common.{◌≡◌, ℕ, zero, suc, ◌+◌, ◌≤◌, List, ◌++◌, refl, sym, ◌∙◌, subst, arith}").replace("use Rattle.std.proofs.Common.{◌≡◌}\n","")
+    out=out.replace('ColonSign, DotSign,','ColonSign, DotSign, UnderscoreSign,').replace("use Rattle.raw_trees.specs.declared.tree.UnaryWord.TheVariants as unary_words\n","use Rattle.raw_trees.specs.declared.place.Binder.{Binder}\nuse Rattle.raw_trees.specs.declared.place.Binder.TheVariants as binders\n")
+    open('/work/h/refuse/crates/read_places/proofs/Terms.antt','w').write(out)
