@@ -1,1 +1,2 @@
-mod Findings
+pub mod Findings
+pub mod Choices
