@@ -20,7 +20,7 @@ pub struct Level<'a, F> {
     pub deeper: F,
 }
 
-impl<F: Fn(Wanted, usize) -> Result<(Found, usize), Halted> + Copy> Level<'_, F> {
+impl<F: Fn(Wanted, usize) -> Result<(Found, usize), Halted>> Level<'_, F> {
     /// A type one level deeper.
     pub fn deeper_ty(&self, at: usize) -> Result<(RawTy, usize), Halted>
         requires { IsLevel F.Fn self.now }

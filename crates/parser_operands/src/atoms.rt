@@ -14,7 +14,7 @@ use parser_words::{Halted, Reason, span_of};
 use raw_trees::{RawAtom, RawTerm};
 use sqlite_items::Boxed;
 
-impl<F: Fn(Wanted, usize) -> Result<(Found, usize), Halted> + Copy> Operands<'_, F> {
+impl<F: Fn(Wanted, usize) -> Result<(Found, usize), Halted>> Operands<'_, F> {
     /// An atom.
     #[tactic(auto, using(raw_trees::specs::TreeLevels::atom_name, raw_trees::specs::TreeLevels::atom_number, raw_trees::specs::TreeLevels::atom_true, raw_trees::specs::TreeLevels::atom_false, raw_trees::specs::TreeLevels::atom_null), unfolding(parser_words::proofs::Steps::choosing, htt_grammar::specs::Phrases::atom_at))]
     pub fn atom(&self, at: usize) -> Result<(RawAtom, usize), Halted>

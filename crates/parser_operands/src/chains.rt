@@ -23,7 +23,7 @@ use raw_trees::{
 };
 use sqlite_items::Boxed;
 
-impl<F: Fn(Wanted, usize) -> Result<(Found, usize), Halted> + Copy> Operands<'_, F> {
+impl<F: Fn(Wanted, usize) -> Result<(Found, usize), Halted>> Operands<'_, F> {
     /// An atom or a monotype that a head is applied to, if there is one.
     fn part(&self, room: u32, at: usize) -> Result<Option<(RawPart, usize)>, Halted>
         requires { IsLevel F.Fn self.now.level }
