@@ -51,15 +51,36 @@ const READ: [(Call, &str); 44] = [
     (Call::File, "pred p[a, b](x : a, y : b) = x =[a] x"),
     (Call::File, "pred p induct n (x : word) = {tt} {!p(n; x)}"),
     (Call::File, "def x : word = 1 2 [word] (3, null) ()"),
-    (Call::File, "val f : (x : word) -> (_ : bool) -> unit = fun x . fun _ . ()"),
+    (
+        Call::File,
+        "val f : (x : word) -> (_ : bool) -> unit = fun x . fun _ . ()",
+    ),
     (Call::File, "val f : [a] -> a = fun [a] . fun x . x"),
     (Call::File, "val f : {tt} x : word {tt} = do ret place 1"),
-    (Call::File, "val f : word = do x <- alloc[word] 1; y <- get[word] x; _ <- set[word] x y; ret y"),
-    (Call::File, "val f : word = do _ <- free[word] l; _ <- claim {emp}; x <- f 1; ret x"),
-    (Call::File, "val f : word = do x <- if[word] b {ret 1} {ret 2}; ret x"),
-    (Call::File, "val f : word = fix f (x : word) (_ : bool) : {tt} r : word {tt} . ret fst x"),
-    (Call::File, "def e : bool = eq[word](1, 2) & sel[bool](true, false, not x) << 1 >> 2"),
-    (Call::File, "def e : word = 1 + 2 - 3 | 4 ^ 5 * snd (x : word)"),
+    (
+        Call::File,
+        "val f : word = do x <- alloc[word] 1; y <- get[word] x; _ <- set[word] x y; ret y",
+    ),
+    (
+        Call::File,
+        "val f : word = do _ <- free[word] l; _ <- claim {emp}; x <- f 1; ret x",
+    ),
+    (
+        Call::File,
+        "val f : word = do x <- if[word] b {ret 1} {ret 2}; ret x",
+    ),
+    (
+        Call::File,
+        "val f : word = fix f (x : word) (_ : bool) : {tt} r : word {tt} . ret fst x",
+    ),
+    (
+        Call::File,
+        "def e : bool = eq[word](1, 2) & sel[bool](true, false, not x) << 1 >> 2",
+    ),
+    (
+        Call::File,
+        "def e : word = 1 + 2 - 3 | 4 ^ 5 * snd (x : word)",
+    ),
     (Call::File, "proof f.1 = auto proof f.2 = intro u; trivial"),
     (Call::Formula, "tt \\/ ff /\\ emp ** tt => tt"),
     (Call::Formula, "all _ : heap . ex x : word * bool . tt"),
@@ -75,8 +96,14 @@ const READ: [(Call, &str); 44] = [
     (Call::Formula, "(fun x . x) =[word] y"),
     (Call::Proof, "u"),
     (Call::Proof, "gen _; intro u; second(u)"),
-    (Call::Proof, "open e v = axiom emp_some(); give(@e, trivial)"),
-    (Call::Proof, "have c : [tt] = refl; both(first(c), left(right(c)))"),
+    (
+        Call::Proof,
+        "open e v = axiom emp_some(); give(@e, trivial)",
+    ),
+    (
+        Call::Proof,
+        "have c : [tt] = refl; both(first(c), left(right(c)))",
+    ),
     (Call::Proof, "app(u, v, w)"),
     (Call::Proof, "inst(u, @h, x + 1)"),
     (Call::Proof, "case(p, u . absurd(u), v . r)"),
@@ -156,7 +183,13 @@ fn refusals_stand_at_the_first_wrong_token(rt: HostRuntime) {
 }
 
 /// The text with this before it and that behind it, so often.
-fn around(rt: HostRuntime, before: &str, text: &str, behind: &str, times: usize) -> Result<String, Fail> {
+fn around(
+    rt: HostRuntime,
+    before: &str,
+    text: &str,
+    behind: &str,
+    times: usize,
+) -> Result<String, Fail> {
     let mut whole = String::new(rt.alloc());
     for _ in 0..times {
         whole.push_str(before)?;
@@ -179,7 +212,10 @@ fn phrases_have_at_most_256_levels(rt: HostRuntime) -> Result<(), Fail> {
         assert!(rt; stop(rt, call, &last).is_none(), "{text}");
         let deeper = around(rt, before, text, behind, 256)?;
         let at = before.len() as u64 * 256;
-        assert!(rt; stop(rt, call, &deeper) == Some(ParseStop::TooNested { at }), "{text}");
+        assert!(rt;
+            stop(rt, call, &deeper) == Some(ParseStop::TooNested { at }),
+            "{text}"
+        );
     }
     Ok(())
 }
@@ -200,7 +236,10 @@ fn chains_have_at_most_64_operands(rt: HostRuntime) -> Result<(), Fail> {
         longer.push_str(end)?;
         assert!(rt; stop(rt, call, &last).is_none(), "{text}{more}");
         let refused = stop(rt, call, &longer);
-        assert!(rt; refused == Some(ParseStop::TooLongChain { at }), "{text}{more}");
+        assert!(rt;
+            refused == Some(ParseStop::TooLongChain { at }),
+            "{text}{more}"
+        );
     }
     Ok(())
 }
@@ -211,9 +250,15 @@ fn a_file_has_at_most_10000_declarations(rt: HostRuntime) -> Result<(), Fail> {
     assert!(rt; stop(rt, Call::File, &last).is_none());
     let more = around(rt, "", "", "type t=word ", 10_001)?;
     let at = 120_000;
-    assert_eq!(rt; stop(rt, Call::File, &more), Some(ParseStop::TooMany { at }));
+    assert_eq!(rt;
+        stop(rt, Call::File, &more),
+        Some(ParseStop::TooMany { at })
+    );
     let other = around(rt, last.as_str(), "word", "", 1)?;
-    assert_eq!(rt; stop(rt, Call::File, &other), Some(ParseStop::Expected { at }));
+    assert_eq!(rt;
+        stop(rt, Call::File, &other),
+        Some(ParseStop::Expected { at })
+    );
     Ok(())
 }
 
@@ -241,9 +286,17 @@ fn declarations_stand_in_their_order(rt: HostRuntime) -> Result<(), Fail> {
     let decls = parse(rt.alloc(), text, &found)?;
     assert_eq!(rt; decls.len(), 2);
     assert!(rt; matches!(decls[0], RawDecl::Type { .. }));
-    assert!(rt; matches!(decls[1], RawDecl::Proof { at: 14, number: 7, .. }));
-    let formula = parse_formula(rt.alloc(), b"", &[])
-        .err();
+    assert!(rt;
+        matches!(
+            decls[1],
+            RawDecl::Proof {
+                at: 14,
+                number: 7,
+                ..
+            }
+        )
+    );
+    let formula = parse_formula(rt.alloc(), b"", &[]).err();
     assert_eq!(rt; formula, Some(ParseStop::Expected { at: 0 }));
     Ok(())
 }

@@ -8,6 +8,7 @@ ghost use Rattle.parser_levels.specs.Levels.{IsLevel};
 ghost use Rattle.parser_words.specs.Results.{Gives};
 ghost use Rattle.raw_trees.specs.TreeViews.{fatom_tree, rel_tree, term_tree};
 ghost use Rattle.raw_trees.specs.Trees.{g_use, more_terms, no_terms};
+
 use crate::readers::Formulas;
 use htt_seq::Seq;
 use htt_tokens::{Keyword, Kind, Sign};
@@ -47,9 +48,19 @@ impl<F: Fn(Wanted, usize) -> Result<(Found, usize), Halted>> Formulas<'_, F> {
     fn emp_of(&self, from: u64, at: usize) -> Result<(RawFatom, usize), Halted>
         ensures { Gives self.now.terms.operands.level.cursor.tokens.now fatom_tree result (emp_of_on from (drop at self.now.terms.operands.level.cursor.tokens.now)) }
     {
-        let at = self.terms.operands.level.cursor.sign(at, Sign::OpenParenSign)?;
+        let at = self
+            .terms
+            .operands
+            .level
+            .cursor
+            .sign(at, Sign::OpenParenSign)?;
         let (heap, at) = self.terms.operands.level.cursor.heap(at)?;
-        let at = self.terms.operands.level.cursor.sign(at, Sign::CloseParenSign)?;
+        let at = self
+            .terms
+            .operands
+            .level
+            .cursor
+            .sign(at, Sign::CloseParenSign)?;
         Ok((RawFatom::EmpOf { at: from, heap }, at))
     }
 
@@ -58,11 +69,21 @@ impl<F: Fn(Wanted, usize) -> Result<(Found, usize), Halted>> Formulas<'_, F> {
     fn same_heaps(&self, from: u64, at: usize) -> Result<(RawFatom, usize), Halted>
         ensures { Gives self.now.terms.operands.level.cursor.tokens.now fatom_tree result (same_on from (drop at self.now.terms.operands.level.cursor.tokens.now)) }
     {
-        let at = self.terms.operands.level.cursor.sign(at, Sign::OpenParenSign)?;
+        let at = self
+            .terms
+            .operands
+            .level
+            .cursor
+            .sign(at, Sign::OpenParenSign)?;
         let (one, at) = self.terms.operands.level.cursor.heap(at)?;
         let at = self.terms.operands.level.cursor.sign(at, Sign::CommaSign)?;
         let (other, at) = self.terms.operands.level.cursor.heap(at)?;
-        let at = self.terms.operands.level.cursor.sign(at, Sign::CloseParenSign)?;
+        let at = self
+            .terms
+            .operands
+            .level
+            .cursor
+            .sign(at, Sign::CloseParenSign)?;
         Ok((
             RawFatom::Same {
                 at: from,
@@ -78,13 +99,23 @@ impl<F: Fn(Wanted, usize) -> Result<(Found, usize), Halted>> Formulas<'_, F> {
     fn join(&self, from: u64, at: usize) -> Result<(RawFatom, usize), Halted>
         ensures { Gives self.now.terms.operands.level.cursor.tokens.now fatom_tree result (join_on from (drop at self.now.terms.operands.level.cursor.tokens.now)) }
     {
-        let at = self.terms.operands.level.cursor.sign(at, Sign::OpenParenSign)?;
+        let at = self
+            .terms
+            .operands
+            .level
+            .cursor
+            .sign(at, Sign::OpenParenSign)?;
         let (whole, at) = self.terms.operands.level.cursor.heap(at)?;
         let at = self.terms.operands.level.cursor.sign(at, Sign::CommaSign)?;
         let (one, at) = self.terms.operands.level.cursor.heap(at)?;
         let at = self.terms.operands.level.cursor.sign(at, Sign::CommaSign)?;
         let (other, at) = self.terms.operands.level.cursor.heap(at)?;
-        let at = self.terms.operands.level.cursor.sign(at, Sign::CloseParenSign)?;
+        let at = self
+            .terms
+            .operands
+            .level
+            .cursor
+            .sign(at, Sign::CloseParenSign)?;
         Ok((
             RawFatom::Join {
                 at: from,
@@ -102,14 +133,29 @@ impl<F: Fn(Wanted, usize) -> Result<(Found, usize), Halted>> Formulas<'_, F> {
         requires { IsLevel F.Fn self.now.terms.operands.level }
         ensures { Gives self.now.terms.operands.level.cursor.tokens.now fatom_tree result (cell_on (deeper 63 self.now.terms.operands.level.left) from (drop at self.now.terms.operands.level.cursor.tokens.now)) }
     {
-        let (mono, at) = self.terms.operands.level.cursor.bracketed(self.terms.operands.level.left, at)?;
-        let at = self.terms.operands.level.cursor.sign(at, Sign::OpenParenSign)?;
+        let (mono, at) = self
+            .terms
+            .operands
+            .level
+            .cursor
+            .bracketed(self.terms.operands.level.left, at)?;
+        let at = self
+            .terms
+            .operands
+            .level
+            .cursor
+            .sign(at, Sign::OpenParenSign)?;
         let (heap, at) = self.terms.operands.level.cursor.heap(at)?;
         let at = self.terms.operands.level.cursor.sign(at, Sign::CommaSign)?;
         let (place, at) = self.terms.operands.level.boxed_term(at)?;
         let at = self.terms.operands.level.cursor.sign(at, Sign::CommaSign)?;
         let (value, at) = self.terms.operands.level.boxed_term(at)?;
-        let at = self.terms.operands.level.cursor.sign(at, Sign::CloseParenSign)?;
+        let at = self
+            .terms
+            .operands
+            .level
+            .cursor
+            .sign(at, Sign::CloseParenSign)?;
         Ok((
             RawFatom::Cell {
                 at: from,
@@ -128,12 +174,27 @@ impl<F: Fn(Wanted, usize) -> Result<(Found, usize), Halted>> Formulas<'_, F> {
         requires { IsLevel F.Fn self.now.terms.operands.level }
         ensures { Gives self.now.terms.operands.level.cursor.tokens.now fatom_tree result (block_on (deeper 63 self.now.terms.operands.level.left) from (drop at self.now.terms.operands.level.cursor.tokens.now)) }
     {
-        let (mono, at) = self.terms.operands.level.cursor.bracketed(self.terms.operands.level.left, at)?;
-        let at = self.terms.operands.level.cursor.sign(at, Sign::OpenParenSign)?;
+        let (mono, at) = self
+            .terms
+            .operands
+            .level
+            .cursor
+            .bracketed(self.terms.operands.level.left, at)?;
+        let at = self
+            .terms
+            .operands
+            .level
+            .cursor
+            .sign(at, Sign::OpenParenSign)?;
         let (heap, at) = self.terms.operands.level.cursor.heap(at)?;
         let at = self.terms.operands.level.cursor.sign(at, Sign::CommaSign)?;
         let (place, at) = self.terms.operands.level.boxed_term(at)?;
-        let at = self.terms.operands.level.cursor.sign(at, Sign::CloseParenSign)?;
+        let at = self
+            .terms
+            .operands
+            .level
+            .cursor
+            .sign(at, Sign::CloseParenSign)?;
         Ok((
             RawFatom::Block {
                 at: from,
@@ -152,7 +213,12 @@ impl<F: Fn(Wanted, usize) -> Result<(Found, usize), Halted>> Formulas<'_, F> {
         ensures { Gives self.now.terms.operands.level.cursor.tokens.now fatom_tree result (in_brackets_on (deeper 63 self.now.terms.operands.level.left) from (drop at self.now.terms.operands.level.cursor.tokens.now)) }
     {
         let (formula, at) = self.terms.operands.level.boxed_formula(at)?;
-        let at = self.terms.operands.level.cursor.sign(at, Sign::CloseBracketSign)?;
+        let at = self
+            .terms
+            .operands
+            .level
+            .cursor
+            .sign(at, Sign::CloseBracketSign)?;
         Ok((RawFatom::Brackets { at: from, formula }, at))
     }
 
@@ -163,9 +229,19 @@ impl<F: Fn(Wanted, usize) -> Result<(Found, usize), Halted>> Formulas<'_, F> {
         ensures { Gives self.now.terms.operands.level.cursor.tokens.now fatom_tree result (at_heap_on (deeper 63 self.now.terms.operands.level.left) from (drop at self.now.terms.operands.level.cursor.tokens.now)) }
     {
         let (heap, at) = self.terms.operands.level.cursor.heap(at)?;
-        let at = self.terms.operands.level.cursor.sign(at, Sign::OpenBracketSign)?;
+        let at = self
+            .terms
+            .operands
+            .level
+            .cursor
+            .sign(at, Sign::OpenBracketSign)?;
         let (formula, at) = self.terms.operands.level.boxed_formula(at)?;
-        let at = self.terms.operands.level.cursor.sign(at, Sign::CloseBracketSign)?;
+        let at = self
+            .terms
+            .operands
+            .level
+            .cursor
+            .sign(at, Sign::CloseBracketSign)?;
         Ok((
             RawFatom::AtHeap {
                 at: from,
@@ -188,12 +264,7 @@ impl<F: Fn(Wanted, usize) -> Result<(Found, usize), Halted>> Formulas<'_, F> {
 
     /// What follows the name of a predicate.
     #[tactic(auto, unfolding(parser_words::proofs::Steps::choosing))]
-    fn used(
-        &self,
-        from: u64,
-        name: Span,
-        at: usize,
-    ) -> Result<(RawFatom, usize), Halted>
+    fn used(&self, from: u64, name: Span, at: usize) -> Result<(RawFatom, usize), Halted>
         requires { IsLevel F.Fn self.now.terms.operands.level }
         ensures { Gives self.now.terms.operands.level.cursor.tokens.now fatom_tree result (either (use_case (deeper 63 self.now.terms.operands.level.left) from name) stop (drop at self.now.terms.operands.level.cursor.tokens.now)) }
     {
@@ -209,20 +280,35 @@ impl<F: Fn(Wanted, usize) -> Result<(Found, usize), Halted>> Formulas<'_, F> {
     }
 
     /// What follows the bracket before a predicate's monotypes.
-    fn used_at_monos(
-        &self,
-        from: u64,
-        name: Span,
-        at: usize,
-    ) -> Result<(RawFatom, usize), Halted>
+    fn used_at_monos(&self, from: u64, name: Span, at: usize) -> Result<(RawFatom, usize), Halted>
         requires { IsLevel F.Fn self.now.terms.operands.level }
         ensures { Gives self.now.terms.operands.level.cursor.tokens.now fatom_tree result (use_monos_on (deeper 63 self.now.terms.operands.level.left) from name (drop at self.now.terms.operands.level.cursor.tokens.now)) }
     {
-        let (monos, at) = self.terms.operands.level.cursor.monos(self.terms.operands.level.left, at)?;
-        let at = self.terms.operands.level.cursor.sign(at, Sign::CloseBracketSign)?;
-        let at = self.terms.operands.level.cursor.sign(at, Sign::OpenParenSign)?;
+        let (monos, at) = self
+            .terms
+            .operands
+            .level
+            .cursor
+            .monos(self.terms.operands.level.left, at)?;
+        let at = self
+            .terms
+            .operands
+            .level
+            .cursor
+            .sign(at, Sign::CloseBracketSign)?;
+        let at = self
+            .terms
+            .operands
+            .level
+            .cursor
+            .sign(at, Sign::OpenParenSign)?;
         let (terms, at) = self.terms.arguments(at)?;
-        let at = self.terms.operands.level.cursor.sign(at, Sign::CloseParenSign)?;
+        let at = self
+            .terms
+            .operands
+            .level
+            .cursor
+            .sign(at, Sign::CloseParenSign)?;
         let monos = Seq::of(monos);
         let terms = Seq::of(terms);
         Ok((
@@ -238,21 +324,31 @@ impl<F: Fn(Wanted, usize) -> Result<(Found, usize), Halted>> Formulas<'_, F> {
 
     /// What follows `@` behind a predicate's name.
     #[tactic(auto, using(parser_words::proofs::Steps::steps, raw_trees::specs::TreeLevels::fatom_use_at_heap), unfolding(parser_words::proofs::Steps::reading))]
-    fn used_at_heap(
-        &self,
-        from: u64,
-        name: Span,
-        at: usize,
-    ) -> Result<(RawFatom, usize), Halted>
+    fn used_at_heap(&self, from: u64, name: Span, at: usize) -> Result<(RawFatom, usize), Halted>
         requires { IsLevel F.Fn self.now.terms.operands.level }
         ensures { Gives self.now.terms.operands.level.cursor.tokens.now fatom_tree result (use_at_heap_on (deeper 63 self.now.terms.operands.level.left) from name (drop at self.now.terms.operands.level.cursor.tokens.now)) }
     {
         let (heap, at) = self.terms.operands.level.cursor.heap(at)?;
-        let at = self.terms.operands.level.cursor.sign(at, Sign::OpenParenSign)?;
+        let at = self
+            .terms
+            .operands
+            .level
+            .cursor
+            .sign(at, Sign::OpenParenSign)?;
         let (index, at) = self.terms.operands.level.boxed_term(at)?;
-        let at = self.terms.operands.level.cursor.sign(at, Sign::SemicolonSign)?;
+        let at = self
+            .terms
+            .operands
+            .level
+            .cursor
+            .sign(at, Sign::SemicolonSign)?;
         let (terms, at) = self.terms.arguments(at)?;
-        let at = self.terms.operands.level.cursor.sign(at, Sign::CloseParenSign)?;
+        let at = self
+            .terms
+            .operands
+            .level
+            .cursor
+            .sign(at, Sign::CloseParenSign)?;
         Ok((
             RawFatom::UseAtHeap {
                 at: from,
@@ -267,16 +363,17 @@ impl<F: Fn(Wanted, usize) -> Result<(Found, usize), Halted>> Formulas<'_, F> {
 
     /// What follows `(` behind a predicate's name.
     #[tactic(auto, using(parser_words::proofs::Steps::steps, raw_trees::specs::TreeLevels::fatom_use), unfolding(parser_words::proofs::Steps::reading))]
-    fn used_plainly(
-        &self,
-        from: u64,
-        name: Span,
-        at: usize,
-    ) -> Result<(RawFatom, usize), Halted>
+    fn used_plainly(&self, from: u64, name: Span, at: usize) -> Result<(RawFatom, usize), Halted>
         requires { IsLevel F.Fn self.now.terms.operands.level }
         ensures { Gives self.now.terms.operands.level.cursor.tokens.now fatom_tree result (use_plain_on (deeper 63 self.now.terms.operands.level.left) from name (drop at self.now.terms.operands.level.cursor.tokens.now)) }
     {
-        if self.terms.operands.level.cursor.is_sign(at, Sign::CloseParenSign) {
+        if self
+            .terms
+            .operands
+            .level
+            .cursor
+            .is_sign(at, Sign::CloseParenSign)
+        {
             let use_alone = RawFatom::Use {
                 at: from,
                 name,
@@ -303,9 +400,7 @@ impl<F: Fn(Wanted, usize) -> Result<(Found, usize), Halted>> Formulas<'_, F> {
     {
         match self.terms.operands.level.cursor.token(at) {
             Some(token) => match token.kind {
-                Kind::Sign(Sign::SemicolonSign) => {
-                    self.used_at_index(from, name, first, at + 1)
-                }
+                Kind::Sign(Sign::SemicolonSign) => { self.used_at_index(from, name, first, at + 1) }
                 Kind::Sign(Sign::CommaSign) => self.used_at_terms(from, name, first, at + 1),
                 Kind::Sign(Sign::CloseParenSign) => self.used_at_term(from, name, first, at + 1),
                 _ => Err(Halted::At(Reason::Expected, at)),
@@ -328,7 +423,12 @@ impl<F: Fn(Wanted, usize) -> Result<(Found, usize), Halted>> Formulas<'_, F> {
     {
         let index = Boxed::new(self.terms.operands.level.cursor.alloc, index)?;
         let (terms, at) = self.terms.arguments(at)?;
-        let at = self.terms.operands.level.cursor.sign(at, Sign::CloseParenSign)?;
+        let at = self
+            .terms
+            .operands
+            .level
+            .cursor
+            .sign(at, Sign::CloseParenSign)?;
         Ok((
             RawFatom::UseAt {
                 at: from,
@@ -356,7 +456,12 @@ impl<F: Fn(Wanted, usize) -> Result<(Found, usize), Halted>> Formulas<'_, F> {
         terms.push(first)?;
         terms.push(second)?;
         let (terms, at) = self.terms.more_terms(terms, at)?;
-        let at = self.terms.operands.level.cursor.sign(at, Sign::CloseParenSign)?;
+        let at = self
+            .terms
+            .operands
+            .level
+            .cursor
+            .sign(at, Sign::CloseParenSign)?;
         let none = Vec::new(self.terms.operands.level.cursor.alloc);
         let monos = Seq::of(none);
         let terms = Seq::of(terms);
@@ -407,11 +512,7 @@ impl<F: Fn(Wanted, usize) -> Result<(Found, usize), Halted>> Formulas<'_, F> {
 
     /// What follows the left side of a relation.
     #[tactic(auto, unfolding(parser_words::proofs::Steps::choosing))]
-    fn related(
-        &self,
-        rel: Boxed<RawRel>,
-        at: usize,
-    ) -> Result<(RawFatom, usize), Halted>
+    fn related(&self, rel: Boxed<RawRel>, at: usize) -> Result<(RawFatom, usize), Halted>
         requires { IsLevel F.Fn self.now.terms.operands.level }
         ensures { Gives self.now.terms.operands.level.cursor.tokens.now fatom_tree result (either (relation_case (deeper 63 self.now.terms.operands.level.left) (rel_tree rel)) stop (drop at self.now.terms.operands.level.cursor.tokens.now)) }
     {
@@ -427,15 +528,16 @@ impl<F: Fn(Wanted, usize) -> Result<(Found, usize), Halted>> Formulas<'_, F> {
 
     /// What follows `=`.
     #[tactic(auto, using(parser_words::proofs::Steps::steps, raw_trees::specs::TreeLevels::fatom_eq), unfolding(parser_words::proofs::Steps::reading))]
-    fn equation(
-        &self,
-        one: Boxed<RawRel>,
-        at: usize,
-    ) -> Result<(RawFatom, usize), Halted>
+    fn equation(&self, one: Boxed<RawRel>, at: usize) -> Result<(RawFatom, usize), Halted>
         requires { IsLevel F.Fn self.now.terms.operands.level }
         ensures { Gives self.now.terms.operands.level.cursor.tokens.now fatom_tree result (equal_on (deeper 63 self.now.terms.operands.level.left) (rel_tree one) (drop at self.now.terms.operands.level.cursor.tokens.now)) }
     {
-        let (mono, at) = self.terms.operands.level.cursor.bracketed(self.terms.operands.level.left, at)?;
+        let (mono, at) = self
+            .terms
+            .operands
+            .level
+            .cursor
+            .bracketed(self.terms.operands.level.left, at)?;
         let (other, at) = self.terms.operands.boxed_rel(at)?;
         Ok((
             RawFatom::Eq {
@@ -449,16 +551,23 @@ impl<F: Fn(Wanted, usize) -> Result<(Found, usize), Halted>> Formulas<'_, F> {
 
     /// What follows `|->`.
     #[tactic(auto, using(parser_words::proofs::Steps::steps, raw_trees::specs::TreeLevels::fatom_points_to, raw_trees::specs::TreeLevels::fatom_points_to_any), unfolding(parser_words::proofs::Steps::reading))]
-    fn points_to(
-        &self,
-        place: Boxed<RawRel>,
-        at: usize,
-    ) -> Result<(RawFatom, usize), Halted>
+    fn points_to(&self, place: Boxed<RawRel>, at: usize) -> Result<(RawFatom, usize), Halted>
         requires { IsLevel F.Fn self.now.terms.operands.level }
         ensures { Gives self.now.terms.operands.level.cursor.tokens.now fatom_tree result (points_on (deeper 63 self.now.terms.operands.level.left) (rel_tree place) (drop at self.now.terms.operands.level.cursor.tokens.now)) }
     {
-        let (mono, at) = self.terms.operands.level.cursor.bracketed(self.terms.operands.level.left, at)?;
-        if self.terms.operands.level.cursor.is_sign(at, Sign::UnderscoreSign) {
+        let (mono, at) = self
+            .terms
+            .operands
+            .level
+            .cursor
+            .bracketed(self.terms.operands.level.left, at)?;
+        if self
+            .terms
+            .operands
+            .level
+            .cursor
+            .is_sign(at, Sign::UnderscoreSign)
+        {
             return Ok((RawFatom::PointsToAny { place, mono }, at + 1));
         }
         let (value, at) = self.terms.operands.boxed_rel(at)?;

@@ -7,6 +7,7 @@ ghost use Rattle.parser_formulas.specs.Quantifiers.{quantifier_tree};
 ghost use Rattle.parser_levels.specs.Levels.{IsLevel};
 ghost use Rattle.parser_words.specs.Results.{Gives};
 ghost use Rattle.raw_trees.specs.TreeViews.{conj_tree, disj_tree, formula_tree, sort_tree, star_tree};
+
 use crate::readers::Formulas;
 use htt_tokens::{Keyword, Kind, Sign};
 use parser_levels::{Found, Wanted};
@@ -70,10 +71,21 @@ impl<F: Fn(Wanted, usize) -> Result<(Found, usize), Halted>> Formulas<'_, F> {
     fn sort(&self, at: usize) -> Result<(RawSort, usize), Halted>
         ensures { Gives self.now.terms.operands.level.cursor.tokens.now sort_tree result (sort_at (deeper 63 self.now.terms.operands.level.left) (drop at self.now.terms.operands.level.cursor.tokens.now)) }
     {
-        if self.terms.operands.level.cursor.is_word(at, Keyword::HeapWord) {
+        if self
+            .terms
+            .operands
+            .level
+            .cursor
+            .is_word(at, Keyword::HeapWord)
+        {
             return Ok((RawSort::Heap, at + 1));
         }
-        let (mono, at) = self.terms.operands.level.cursor.mono(self.terms.operands.level.left, at)?;
+        let (mono, at) = self
+            .terms
+            .operands
+            .level
+            .cursor
+            .mono(self.terms.operands.level.left, at)?;
         Ok((RawSort::Mono(mono), at))
     }
 
@@ -104,7 +116,13 @@ impl<F: Fn(Wanted, usize) -> Result<(Found, usize), Halted>> Formulas<'_, F> {
     {
         let (disj, at) = self.disj(at)?;
         let disj = Boxed::new(self.terms.operands.level.cursor.alloc, disj)?;
-        if !self.terms.operands.level.cursor.is_sign(at, Sign::ImpliesSign) {
+        if !self
+            .terms
+            .operands
+            .level
+            .cursor
+            .is_sign(at, Sign::ImpliesSign)
+        {
             return Ok((RawFormula::Disj(disj), at));
         }
         let (formula, at) = self.terms.operands.level.boxed_formula(at + 1)?;
@@ -148,7 +166,13 @@ impl<F: Fn(Wanted, usize) -> Result<(Found, usize), Halted>> Formulas<'_, F> {
         ensures { Gives self.now.terms.operands.level.cursor.tokens.now star_tree result (star_at (deeper 63 self.now.terms.operands.level.left) (drop at self.now.terms.operands.level.cursor.tokens.now)) }
     {
         let (fatom, at) = self.fatom(at)?;
-        if !self.terms.operands.level.cursor.is_sign(at, Sign::DoubleStarSign) {
+        if !self
+            .terms
+            .operands
+            .level
+            .cursor
+            .is_sign(at, Sign::DoubleStarSign)
+        {
             return Ok((RawStar::Fatom(fatom), at));
         }
         let (star, at) = self.terms.operands.level.deeper_star(at + 1)?;

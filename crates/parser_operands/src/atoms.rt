@@ -7,6 +7,7 @@ ghost use Rattle.htt_grammar.specs.Reading.{deeper};
 ghost use Rattle.parser_levels.specs.Levels.{IsLevel};
 ghost use Rattle.parser_words.specs.Results.{Gives};
 ghost use Rattle.raw_trees.specs.TreeViews.{atom_tree, term_tree};
+
 use crate::operands::Operands;
 use htt_tokens::{Keyword, Kind, Sign};
 use parser_levels::{Found, Wanted};
@@ -139,12 +140,7 @@ impl<F: Fn(Wanted, usize) -> Result<(Found, usize), Halted>> Operands<'_, F> {
 
     /// What follows the comma of a pair.
     #[tactic(auto, using(parser_words::proofs::Steps::steps, raw_trees::specs::TreeLevels::atom_pair), unfolding(parser_words::proofs::Steps::reading))]
-    fn pair(
-        &self,
-        from: u64,
-        first: Boxed<RawTerm>,
-        at: usize,
-    ) -> Result<(RawAtom, usize), Halted>
+    fn pair(&self, from: u64, first: Boxed<RawTerm>, at: usize) -> Result<(RawAtom, usize), Halted>
         requires { IsLevel F.Fn self.now.level }
         ensures { Gives self.now.level.cursor.tokens.now atom_tree result (pair_on (deeper 63 self.now.level.left) from (term_tree first) (drop at self.now.level.cursor.tokens.now)) }
     {

@@ -12,15 +12,14 @@ ghost use Rattle.parser_words.specs.Results.{Gives, GivesMore, HasRoom};
 ghost use Rattle.raw_trees.specs.TreeLevels.{parts_tree, prod_rest, prod_tree, sum_rest, sum_tree};
 ghost use Rattle.raw_trees.specs.TreeViews.{appl_tree, part_tree, prod_operand_tree, rel_tree, sum_operand_tree};
 ghost use Rattle.raw_trees.specs.Trees.{no_parts, s_end, x_end};
+
 use crate::operands::{FURTHER, Operands};
 use crate::signs::{PlusSign, TimesSign};
 use htt_seq::Seq;
 use htt_tokens::{Keyword, Kind, Sign};
 use parser_levels::{Found, Wanted};
 use parser_words::{Halted, Phrase, Reason};
-use raw_trees::{
-    ProdOperand, RawAppl, RawPart, RawProd, RawRel, RawSum, SumOperand, UnaryWord,
-};
+use raw_trees::{ProdOperand, RawAppl, RawPart, RawProd, RawRel, RawSum, SumOperand, UnaryWord};
 use sqlite_items::Boxed;
 
 impl<F: Fn(Wanted, usize) -> Result<(Found, usize), Halted>> Operands<'_, F> {
@@ -84,12 +83,7 @@ impl<F: Fn(Wanted, usize) -> Result<(Found, usize), Halted>> Operands<'_, F> {
 
     /// What follows a word that stands before an atom.
     #[tactic(auto, using(parser_words::proofs::Steps::steps, raw_trees::specs::TreeLevels::appl_unary), unfolding(parser_words::proofs::Steps::reading))]
-    fn unary(
-        &self,
-        word: UnaryWord,
-        from: u64,
-        at: usize,
-    ) -> Result<(RawAppl, usize), Halted>
+    fn unary(&self, word: UnaryWord, from: u64, at: usize) -> Result<(RawAppl, usize), Halted>
         requires { IsLevel F.Fn self.now.level }
         ensures { Gives self.now.level.cursor.tokens.now appl_tree result (unary_on (deeper 63 self.now.level.left) word from (drop at self.now.level.cursor.tokens.now)) }
     {
@@ -156,11 +150,7 @@ impl<F: Fn(Wanted, usize) -> Result<(Found, usize), Halted>> Operands<'_, F> {
     }
 
     /// A further operand of a product.
-    fn prod_operand(
-        &self,
-        room: u32,
-        at: usize,
-    ) -> Result<Option<(ProdOperand, usize)>, Halted>
+    fn prod_operand(&self, room: u32, at: usize) -> Result<Option<(ProdOperand, usize)>, Halted>
         requires { IsLevel F.Fn self.now.level }
         ensures gives { GivesMore self.now.level.cursor.tokens.now prod_operand_tree x_end result (prod_on (deeper 63 self.now.level.left) room) (prod_on (deeper 63 self.now.level.left) (room - 1)) at }
         ensures room { HasRoom result room }
@@ -169,7 +159,11 @@ impl<F: Fn(Wanted, usize) -> Result<(Found, usize), Halted>> Operands<'_, F> {
             return Ok(None);
         };
         if room == 0 {
-            return Err(self.level.cursor.refuse(Reason::TooLong, Phrase::Application, at + 1));
+            return Err(
+                self.level
+                    .cursor
+                    .refuse(Reason::TooLong, Phrase::Application, at + 1),
+            );
         }
         let (operand, at) = self.appl(at + 1)?;
         Ok(Some((sign.joined(operand), at)))
@@ -220,11 +214,7 @@ impl<F: Fn(Wanted, usize) -> Result<(Found, usize), Halted>> Operands<'_, F> {
     }
 
     /// A further operand of a sum.
-    fn sum_operand(
-        &self,
-        room: u32,
-        at: usize,
-    ) -> Result<Option<(SumOperand, usize)>, Halted>
+    fn sum_operand(&self, room: u32, at: usize) -> Result<Option<(SumOperand, usize)>, Halted>
         requires { IsLevel F.Fn self.now.level }
         ensures gives { GivesMore self.now.level.cursor.tokens.now sum_operand_tree s_end result (sum_on (deeper 63 self.now.level.left) room) (sum_on (deeper 63 self.now.level.left) (room - 1)) at }
         ensures room { HasRoom result room }
@@ -233,7 +223,11 @@ impl<F: Fn(Wanted, usize) -> Result<(Found, usize), Halted>> Operands<'_, F> {
             return Ok(None);
         };
         if room == 0 {
-            return Err(self.level.cursor.refuse(Reason::TooLong, Phrase::Application, at + 1));
+            return Err(
+                self.level
+                    .cursor
+                    .refuse(Reason::TooLong, Phrase::Application, at + 1),
+            );
         }
         let (operand, at) = self.prod(at + 1)?;
         Ok(Some((sign.joined(operand), at)))

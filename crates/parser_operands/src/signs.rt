@@ -6,6 +6,7 @@ ghost use Rattle.parser_operands.specs.Signs.{plus_tree, times_tree};
 ghost use Rattle.raw_trees.specs.TreeLevels.{prod_tree};
 ghost use Rattle.raw_trees.specs.TreeViews.{appl_tree, prod_operand_tree, sum_operand_tree};
 ghost use Rattle.raw_trees.specs.Trees.{s_more, x_more};
+
 use htt_tokens::{Kind, Sign};
 use raw_trees::{ProdOperand, RawAppl, RawProd, SumOperand};
 

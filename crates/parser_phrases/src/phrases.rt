@@ -5,6 +5,7 @@ ghost use Rattle.htt_grammar.specs.Reading.{deeper};
 ghost use Rattle.parser_levels.specs.Levels.{found_tree, wanted_at};
 ghost use Rattle.parser_words.specs.Results.{Gives};
 ghost use Rattle.raw_trees.specs.TreeViews.{formula_tree, term_tree, ty_tree};
+
 use crate::wanted::{phrase_of, read_at};
 use parser_formulas::Formulas;
 use parser_levels::{Found, Level, Wanted};
@@ -33,9 +34,7 @@ impl Phrases<'_> {
             left: below,
             deeper: |what: Wanted, at: usize| -> Result<(Found, usize), Halted>
                 ensures { Gives self.entry.now.cursor.tokens.now found_tree result (wanted_at (deeper 63 below) what (drop at self.entry.now.cursor.tokens.now)) }
-            {
-                self.read(below, what, at)
-            },
+            { self.read(below, what, at) },
         };
         let terms = Terms {
             operands: Operands { level },

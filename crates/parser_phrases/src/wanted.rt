@@ -7,6 +7,7 @@ ghost use Rattle.parser_levels.specs.declared.found.Wanted.TheVariants as wanted
 ghost use Rattle.parser_phrases.specs.Wanted.{begins_wanted};
 ghost use Rattle.parser_words.specs.Beginnings.{begins_of};
 ghost use Rattle.parser_words.specs.Results.{Gives};
+
 use parser_formulas::Formulas;
 use parser_levels::{Found, Wanted};
 use parser_words::{Halted, Phrase};

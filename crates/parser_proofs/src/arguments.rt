@@ -9,6 +9,7 @@ ghost use Rattle.parser_words.specs.Results.{Gives, GivesMore, HasRoom, mapped};
 ghost use Rattle.raw_trees.specs.ProofViews.{arg_tree, motive_tree};
 ghost use Rattle.raw_trees.specs.Trees.{onto};
 ghost use Rattle.std.specs.Prelude.{[], drop, map, suc, ℕ, ◌-◌};
+
 use crate::proofs::{FURTHER, Proofs};
 use htt_tokens::{Kind, Sign};
 use parser_words::{Halted, Phrase, Reason};

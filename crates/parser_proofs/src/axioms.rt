@@ -6,6 +6,7 @@ ghost use Rattle.parser_words.specs.Results.{Gives};
 ghost use Rattle.raw_trees.specs.ProofLevels.{proof_tree};
 ghost use Rattle.raw_trees.specs.ProofViews.{end_tree};
 ghost use Rattle.std.specs.Prelude.{drop, ◌-◌};
+
 use crate::proofs::Proofs;
 use htt_seq::Seq;
 use htt_tokens::{Kind, Sign};

@@ -8,6 +8,7 @@ ghost use Rattle.raw_trees.specs.ProofLevels.{proof_tree, proof_trees};
 ghost use Rattle.raw_trees.specs.ProofViews.{end_tree};
 ghost use Rattle.raw_trees.specs.Trees.{no_proofs};
 ghost use Rattle.std.specs.Prelude.{drop, ◌-◌};
+
 use crate::level::ProofLevel;
 use crate::proofs::FURTHER;
 use htt_seq::Seq;
@@ -36,9 +37,7 @@ impl<F: Fn(usize) -> Result<(RawProof, usize), Halted> + Copy> ProofLevel<'_, F>
             Kind::Keyword(Keyword::SecondWord) => {
                 self.unary(token.from, UnaryRule::Second, at + 1)
             }
-            Kind::Keyword(Keyword::LeftWord) => {
-                self.unary(token.from, UnaryRule::Left, at + 1)
-            }
+            Kind::Keyword(Keyword::LeftWord) => { self.unary(token.from, UnaryRule::Left, at + 1) }
             Kind::Keyword(Keyword::RightWord) => {
                 self.unary(token.from, UnaryRule::Right, at + 1)
             }
@@ -62,12 +61,7 @@ impl<F: Fn(usize) -> Result<(RawProof, usize), Halted> + Copy> ProofLevel<'_, F>
 
     /// What follows the word of an end that has one proof.
     #[tactic(auto, using(parser_words::proofs::Steps::steps, raw_trees::specs::ProofLevels::end_unary), unfolding(parser_words::proofs::Steps::reading, htt_grammar::specs::Reading::unary_at))]
-    fn unary(
-        &self,
-        from: u64,
-        rule: UnaryRule,
-        at: usize,
-    ) -> Result<(RawEnd, usize), Halted>
+    fn unary(&self, from: u64, rule: UnaryRule, at: usize) -> Result<(RawEnd, usize), Halted>
         requires { IsProofLevel F.Fn self.now }
         ensures { Gives self.now.proofs.phrases.cursor.tokens.now end_tree result (unary_at (deeper 63 self.now.left) from rule (drop at self.now.proofs.phrases.cursor.tokens.now)) }
     {
@@ -165,11 +159,7 @@ impl<F: Fn(usize) -> Result<(RawProof, usize), Halted> + Copy> ProofLevel<'_, F>
 
     /// A comma and a further operand of `app`, if there is a comma.
     #[tactic(auto, using(parser_words::proofs::Steps::steps), unfolding(parser_words::proofs::Steps::reading))]
-    fn further_proof(
-        &self,
-        room: u32,
-        at: usize,
-    ) -> Result<Option<(RawProof, usize)>, Halted>
+    fn further_proof(&self, room: u32, at: usize) -> Result<Option<(RawProof, usize)>, Halted>
         requires { IsProofLevel F.Fn self.now }
         ensures gives { GivesMore self.now.proofs.phrases.cursor.tokens.now put_proof no_proofs result (proofs_on (deeper 63 self.now.left) room) (proofs_on (deeper 63 self.now.left) (room - 1)) at }
         ensures room { HasRoom result room }
@@ -179,7 +169,9 @@ impl<F: Fn(usize) -> Result<(RawProof, usize), Halted> + Copy> ProofLevel<'_, F>
         }
         if room == 0 {
             return Err(
-                self.proofs.phrases.cursor
+                self.proofs
+                    .phrases
+                    .cursor
                     .refuse(Reason::TooLong, Phrase::Proof, at + 1),
             );
         }

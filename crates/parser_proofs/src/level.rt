@@ -5,6 +5,7 @@ ghost use Rattle.htt_grammar.specs.Reading.{deeper};
 ghost use Rattle.parser_proofs.specs.Levels.{IsProofLevel};
 ghost use Rattle.parser_words.specs.Results.{Gives};
 ghost use Rattle.raw_trees.specs.ProofLevels.{proof_tree};
+
 use crate::proofs::Proofs;
 use parser_words::Halted;
 use raw_trees::RawProof;

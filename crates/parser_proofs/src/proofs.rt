@@ -4,6 +4,7 @@ ghost use Rattle.std.specs.Prelude.{drop};
 ghost use Rattle.htt_grammar.specs.Reading.{deeper};
 ghost use Rattle.parser_words.specs.Results.{Gives};
 ghost use Rattle.raw_trees.specs.ProofLevels.{proof_tree};
+
 use crate::level::ProofLevel;
 use parser_phrases::Phrases;
 use parser_words::{Halted, Phrase, Reason};
@@ -24,7 +25,11 @@ impl Proofs<'_> {
         ensures { Gives self.now.phrases.cursor.tokens.now proof_tree result ((deeper 63 left).proof (drop at self.now.phrases.cursor.tokens.now)) }
     {
         if left == 0 {
-            return Err(self.phrases.cursor.refuse(Reason::TooNested, Phrase::Proof, at));
+            return Err(
+                self.phrases
+                    .cursor
+                    .refuse(Reason::TooNested, Phrase::Proof, at),
+            );
         }
         let below = left - 1;
         let level = ProofLevel {
@@ -32,9 +37,7 @@ impl Proofs<'_> {
             left: below,
             deeper: |at: usize| -> Result<(RawProof, usize), Halted>
                 ensures { Gives self.entry.now.phrases.cursor.tokens.now proof_tree result ((deeper 63 below).proof (drop at self.entry.now.phrases.cursor.tokens.now)) }
-            {
-                self.deeper_proof(below, at)
-            },
+            { self.deeper_proof(below, at) },
         };
         level.proof(at)
     }

@@ -8,9 +8,10 @@ ghost use Rattle.raw_trees.specs.ProofLevels.{proof_tree};
 ghost use Rattle.raw_trees.specs.ProofViews.{end_tree, motive_tree};
 ghost use Rattle.raw_trees.specs.TreeViews.{term_tree};
 ghost use Rattle.std.specs.Prelude.{drop};
+
 use crate::level::ProofLevel;
-use htt_tokens::{Sign};
-use parser_words::{Halted};
+use htt_tokens::Sign;
+use parser_words::Halted;
 use raw_trees::{RawEnd, RawMotive, RawProof, RawTerm};
 use sqlite_items::Boxed;
 

@@ -9,6 +9,7 @@ ghost use Rattle.raw_trees.specs.ProofViews.{stmt_tree};
 ghost use Rattle.raw_trees.specs.TreeViews.{formula_tree};
 ghost use Rattle.raw_trees.specs.Trees.{onto};
 ghost use Rattle.std.specs.Prelude.{drop};
+
 use crate::level::ProofLevel;
 use crate::proofs::Proofs;
 use htt_seq::Seq;
@@ -121,11 +122,7 @@ impl<F: Fn(usize) -> Result<(RawProof, usize), Halted> + Copy> ProofLevel<'_, F>
 
     /// A proof behind its statements, which were read.
     #[tactic(auto, using(parser_words::proofs::Steps::steps), unfolding(parser_words::proofs::Steps::reading))]
-    fn ended(
-        &self,
-        statements: Vec<RawStmt>,
-        at: usize,
-    ) -> Result<(RawProof, usize), Halted>
+    fn ended(&self, statements: Vec<RawStmt>, at: usize) -> Result<(RawProof, usize), Halted>
         requires { IsProofLevel F.Fn self.now }
         ensures { Gives self.now.proofs.phrases.cursor.tokens.now proof_tree result (mapped (onto put_stmt statements.items) (ended_at (deeper 63 self.now.left) (drop at self.now.proofs.phrases.cursor.tokens.now))) }
     {

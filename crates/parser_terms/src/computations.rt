@@ -10,6 +10,7 @@ ghost use Rattle.parser_words.specs.Results.{Gives};
 ghost use Rattle.raw_trees.specs.TreeLevels.{comp_tree};
 ghost use Rattle.raw_trees.specs.TreeViews.{step_name, step_tree};
 ghost use Rattle.raw_trees.specs.Trees.{CompTree, c_step};
+
 use crate::readers::Terms;
 use htt_seq::Seq;
 use htt_tokens::{Keyword, Kind, Sign};
@@ -83,7 +84,11 @@ impl<F: Fn(Wanted, usize) -> Result<(Found, usize), Halted>> Terms<'_, F> {
         ensures gives { Gives self.now.operands.level.cursor.tokens.now step_tree result (alloc_on (deeper 63 self.now.operands.level.left) (drop at self.now.operands.level.cursor.tokens.now)) }
         ensures named { IfOk result (λ read. step_name read.0 ≡ name) }
     {
-        let (mono, at) = self.operands.level.cursor.bracketed(self.operands.level.left, at)?;
+        let (mono, at) = self
+            .operands
+            .level
+            .cursor
+            .bracketed(self.operands.level.left, at)?;
         let (value, at) = self.operands.atom(at)?;
         Ok((RawStep::Alloc { name, mono, value }, at))
     }
@@ -95,7 +100,11 @@ impl<F: Fn(Wanted, usize) -> Result<(Found, usize), Halted>> Terms<'_, F> {
         ensures gives { Gives self.now.operands.level.cursor.tokens.now step_tree result (get_on (deeper 63 self.now.operands.level.left) (drop at self.now.operands.level.cursor.tokens.now)) }
         ensures named { IfOk result (λ read. step_name read.0 ≡ name) }
     {
-        let (mono, at) = self.operands.level.cursor.bracketed(self.operands.level.left, at)?;
+        let (mono, at) = self
+            .operands
+            .level
+            .cursor
+            .bracketed(self.operands.level.left, at)?;
         let (place, at) = self.operands.atom(at)?;
         Ok((RawStep::Get { name, mono, place }, at))
     }
@@ -107,7 +116,11 @@ impl<F: Fn(Wanted, usize) -> Result<(Found, usize), Halted>> Terms<'_, F> {
         ensures gives { Gives self.now.operands.level.cursor.tokens.now step_tree result (set_on (deeper 63 self.now.operands.level.left) (drop at self.now.operands.level.cursor.tokens.now)) }
         ensures named { IfOk result (λ read. step_name read.0 ≡ name) }
     {
-        let (mono, at) = self.operands.level.cursor.bracketed(self.operands.level.left, at)?;
+        let (mono, at) = self
+            .operands
+            .level
+            .cursor
+            .bracketed(self.operands.level.left, at)?;
         let (place, at) = self.operands.atom(at)?;
         let (value, at) = self.operands.atom(at)?;
         Ok((
@@ -128,7 +141,11 @@ impl<F: Fn(Wanted, usize) -> Result<(Found, usize), Halted>> Terms<'_, F> {
         ensures gives { Gives self.now.operands.level.cursor.tokens.now step_tree result (free_on (deeper 63 self.now.operands.level.left) (drop at self.now.operands.level.cursor.tokens.now)) }
         ensures named { IfOk result (λ read. step_name read.0 ≡ name) }
     {
-        let (mono, at) = self.operands.level.cursor.bracketed(self.operands.level.left, at)?;
+        let (mono, at) = self
+            .operands
+            .level
+            .cursor
+            .bracketed(self.operands.level.left, at)?;
         let (place, at) = self.operands.atom(at)?;
         Ok((RawStep::Free { name, mono, place }, at))
     }
@@ -140,7 +157,11 @@ impl<F: Fn(Wanted, usize) -> Result<(Found, usize), Halted>> Terms<'_, F> {
         ensures gives { Gives self.now.operands.level.cursor.tokens.now step_tree result (if_on (deeper 63 self.now.operands.level.left) (drop at self.now.operands.level.cursor.tokens.now)) }
         ensures named { IfOk result (λ read. step_name read.0 ≡ name) }
     {
-        let (mono, at) = self.operands.level.cursor.bracketed(self.operands.level.left, at)?;
+        let (mono, at) = self
+            .operands
+            .level
+            .cursor
+            .bracketed(self.operands.level.left, at)?;
         let (test, at) = self.operands.atom(at)?;
         let at = self.operands.level.cursor.sign(at, Sign::OpenBraceSign)?;
         let (yes, at) = self.operands.level.deeper_comp(at)?;

@@ -9,6 +9,7 @@ ghost use Rattle.parser_words.specs.Results.{Gives, GivesMore, mapped};
 ghost use Rattle.raw_trees.specs.TreeLevels.{params_tree, term_trees, triple_tree};
 ghost use Rattle.raw_trees.specs.TreeViews.{param_tree, term_tree, ty_tree};
 ghost use Rattle.raw_trees.specs.Trees.{more_params, more_terms, no_params, no_terms, onto};
+
 use crate::readers::Terms;
 use htt_seq::Seq;
 use htt_tokens::{Keyword, Kind, Sign};
@@ -52,7 +53,12 @@ impl<F: Fn(Wanted, usize) -> Result<(Found, usize), Halted>> Terms<'_, F> {
         requires { IsLevel F.Fn self.now.operands.level }
         ensures { Gives self.now.operands.level.cursor.tokens.now term_tree result (fun_on (deeper 63 self.now.operands.level.left) from (drop at self.now.operands.level.cursor.tokens.now)) }
     {
-        if self.operands.level.cursor.is_sign(at, Sign::OpenBracketSign) {
+        if self
+            .operands
+            .level
+            .cursor
+            .is_sign(at, Sign::OpenBracketSign)
+        {
             self.mono_function(from, at + 1)
         } else {
             self.term_function(from, at)
@@ -187,7 +193,11 @@ impl<F: Fn(Wanted, usize) -> Result<(Found, usize), Halted>> Terms<'_, F> {
         let at = self.operands.level.cursor.sign(at, Sign::CloseBraceSign)?;
         let (name, at) = self.operands.level.cursor.binder(at)?;
         let at = self.operands.level.cursor.sign(at, Sign::ColonSign)?;
-        let (result, at) = self.operands.level.cursor.mono(self.operands.level.left, at)?;
+        let (result, at) = self
+            .operands
+            .level
+            .cursor
+            .mono(self.operands.level.left, at)?;
         let at = self.operands.level.cursor.sign(at, Sign::OpenBraceSign)?;
         let (post, at) = self.operands.level.deeper_formula(at)?;
         let at = self.operands.level.cursor.sign(at, Sign::CloseBraceSign)?;

@@ -7,6 +7,7 @@ ghost use Rattle.htt_grammar.specs.Reading.{deeper};
 ghost use Rattle.parser_levels.specs.Levels.{IsLevel};
 ghost use Rattle.parser_words.specs.Results.{Gives};
 ghost use Rattle.raw_trees.specs.TreeViews.{ty_tree};
+
 use crate::readers::Terms;
 use htt_tokens::{Kind, Sign};
 use parser_levels::{Found, Wanted};
@@ -143,7 +144,11 @@ impl<F: Fn(Wanted, usize) -> Result<(Found, usize), Halted>> Terms<'_, F> {
     fn mono_ty(&self, at: usize) -> Result<(RawTy, usize), Halted>
         ensures { Gives self.now.operands.level.cursor.tokens.now ty_tree result (mono_ty_on (deeper 63 self.now.operands.level.left) (drop at self.now.operands.level.cursor.tokens.now)) }
     {
-        let (mono, at) = self.operands.level.cursor.mono(self.operands.level.left, at)?;
+        let (mono, at) = self
+            .operands
+            .level
+            .cursor
+            .mono(self.operands.level.left, at)?;
         Ok((RawTy::Mono(mono), at))
     }
 }

@@ -23,4 +23,4 @@ loop-preserved g c = let pushed : c.push.new.self.items ≡ c.loop.terms.items +
 
 pub returns : goal.returns
 unfolding give terms_on
-returns g c = elim c.loop-test.branch [ | else-loop-test w ↦ loop_is_over c.args.self.now.operands.level.cursor.tokens.now (λ m. more_terms (term_tree m)) no_terms (terms_on (deeper 63 c.args.self.now.operands.level.left)) _ c.loop.terms.items _ _ c.loop.at w.loop-test.false c.loop.invariant refl | then-loop-test+in_ok-more_term+in-None w ↦ loop_ends c.args.self.now.operands.level.cursor.tokens.now (λ m. more_terms (term_tree m)) no_terms (terms_on (deeper 63 c.args.self.now.operands.level.left)) _ c.loop.terms.items _ _ _ c.loop.at w.loop-test.true c.loop.invariant w.in_ok-more_term.ensures w.in-None.is ]
+returns g c = elim c.loop-test.branch [ else-loop-test w ↦ loop_is_over c.args.self.now.operands.level.cursor.tokens.now (λ m. more_terms (term_tree m)) no_terms (terms_on (deeper 63 c.args.self.now.operands.level.left)) _ c.loop.terms.items _ _ c.loop.at w.loop-test.false c.loop.invariant refl | then-loop-test+in_ok-more_term+in-None w ↦ loop_ends c.args.self.now.operands.level.cursor.tokens.now (λ m. more_terms (term_tree m)) no_terms (terms_on (deeper 63 c.args.self.now.operands.level.left)) _ c.loop.terms.items _ _ _ c.loop.at w.loop-test.true c.loop.invariant w.in_ok-more_term.ensures w.in-None.is ]

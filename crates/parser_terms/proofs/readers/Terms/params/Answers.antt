@@ -22,4 +22,4 @@ loop-preserved g c = let pushed : c.push.new.self.items ≡ c.loop.params.items 
 
 pub returns : goal.returns
 unfolding give params_on
-returns g c = elim c.loop-test.branch [ | else-loop-test w ↦ loop_is_over c.args.self.now.operands.level.cursor.tokens.now param_tree no_params (params_on (deeper 63 c.args.self.now.operands.level.left)) _ c.loop.params.items _ _ c.loop.at w.loop-test.false c.loop.invariant refl | then-loop-test+in_ok-param+in-None w ↦ loop_ends c.args.self.now.operands.level.cursor.tokens.now param_tree no_params (params_on (deeper 63 c.args.self.now.operands.level.left)) _ c.loop.params.items _ _ _ c.loop.at w.loop-test.true c.loop.invariant w.in_ok-param.ensures w.in-None.is ]
+returns g c = elim c.loop-test.branch [ else-loop-test w ↦ loop_is_over c.args.self.now.operands.level.cursor.tokens.now param_tree no_params (params_on (deeper 63 c.args.self.now.operands.level.left)) _ c.loop.params.items _ _ c.loop.at w.loop-test.false c.loop.invariant refl | then-loop-test+in_ok-param+in-None w ↦ loop_ends c.args.self.now.operands.level.cursor.tokens.now param_tree no_params (params_on (deeper 63 c.args.self.now.operands.level.left)) _ c.loop.params.items _ _ _ c.loop.at w.loop-test.true c.loop.invariant w.in_ok-param.ensures w.in-None.is ]
