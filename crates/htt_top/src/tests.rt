@@ -172,7 +172,12 @@ fn texts_have_their_limits(rt: HostRuntime) -> Result<(), Fail> {
     };
     for (start, part, count, status) in [
         (b"type a = word".as_slice(), b"*word".as_slice(), 255, other),
-        (b"type a = word".as_slice(), b"*word".as_slice(), 256, nesting),
+        (
+            b"type a = word".as_slice(),
+            b"*word".as_slice(),
+            256,
+            nesting,
+        ),
         (b"def a : word = 1".as_slice(), b"+1".as_slice(), 63, other),
         (b"def a : word = 1".as_slice(), b"+1".as_slice(), 64, chain),
     ] {
