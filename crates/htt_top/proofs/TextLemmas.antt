@@ -174,9 +174,9 @@ HasDecls tokens x = (decls : List DeclTree) × (x ≡ Ok decls) × IsFile tokens
 parse_cases : (bytes : List ℕ) (tokens : List Token) (x : Result (List DeclTree) Refusal) → ParseGives bytes tokens x → x ≢ Err NoMemory → HasDecls tokens x ⊎ IsParsed bytes tokens x
 parse_cases bytes tokens (Ok decls) p m = inl (decls, refl, p.0, p.1)
 parse_cases bytes tokens (Err (Syntax at kinds.Token)) p m = inr (record { stop = p.0; is = ap (λ (s : ParseStop). Err (parse_refusal s)) p.3; read = p.1; refuses = p.2 })
-parse_cases bytes tokens (Err (Limit Nesting)) p m = inr (record { stop = p.1; is = ap (λ (s : ParseStop). Err (parse_refusal s)) p.4; read = p.2; refuses = p.3 })
-parse_cases bytes tokens (Err (Limit Chain)) p m = inr (record { stop = p.1; is = ap (λ (s : ParseStop). Err (parse_refusal s)) p.4; read = p.2; refuses = p.3 })
-parse_cases bytes tokens (Err (Limit Declarations)) p m = inr (record { stop = p.1; is = ap (λ (s : ParseStop). Err (parse_refusal s)) p.4; read = p.2; refuses = p.3 })
+parse_cases bytes tokens (Err (Limit Nesting)) p m = inr (record { stop = p.1.0; is = ap (λ (s : ParseStop). Err (parse_refusal s)) p.1.3; read = p.1.1; refuses = p.1.2 })
+parse_cases bytes tokens (Err (Limit Chain)) p m = inr (record { stop = p.1.0; is = ap (λ (s : ParseStop). Err (parse_refusal s)) p.1.3; read = p.1.1; refuses = p.1.2 })
+parse_cases bytes tokens (Err (Limit Declarations)) p m = inr (record { stop = p.1.0; is = ap (λ (s : ParseStop). Err (parse_refusal s)) p.1.3; read = p.1.1; refuses = p.1.2 })
 parse_cases bytes tokens (Err NoMemory) p m = absurd (m refl)
 parse_cases bytes tokens (Err (Syntax at kinds.Utf8)) p m = absurd p
 parse_cases bytes tokens (Err (Syntax at kinds.Char)) p m = absurd p
