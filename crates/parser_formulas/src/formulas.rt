@@ -108,14 +108,25 @@ impl<F: Fn(Wanted, usize) -> Result<(Found, usize), Halted>> Formulas<'_, F> {
         Ok((quantifier.over(from, name, sort, body), at))
     }
 
+    /// A chain of `\/`, in a box.
+    fn boxed_disj(&self, at: usize) -> Result<(Boxed<RawDisj>, usize), Halted>
+        requires { IsLevel F.Fn self.now.terms.operands.level }
+        ensures { Gives self.now.terms.operands.level.cursor.tokens.now disj_tree result (disj_at (deeper 63 self.now.terms.operands.level.left) (drop at self.now.terms.operands.level.cursor.tokens.now)) }
+    {
+        let (disj, at) = self.disj(at)?;
+        Ok((
+            Boxed::new(self.terms.operands.level.cursor.alloc, disj)?,
+            at,
+        ))
+    }
+
     /// A chain of `\/`, with what it implies.
     #[tactic(auto, using(parser_words::proofs::Steps::steps, raw_trees::specs::TreeLevels::formula_disj, raw_trees::specs::TreeLevels::formula_implies), unfolding(parser_words::proofs::Steps::reading))]
     fn implication(&self, at: usize) -> Result<(RawFormula, usize), Halted>
         requires { IsLevel F.Fn self.now.terms.operands.level }
         ensures { Gives self.now.terms.operands.level.cursor.tokens.now formula_tree result (implication_on (deeper 63 self.now.terms.operands.level.left) (drop at self.now.terms.operands.level.cursor.tokens.now)) }
     {
-        let (disj, at) = self.disj(at)?;
-        let disj = Boxed::new(self.terms.operands.level.cursor.alloc, disj)?;
+        let (disj, at) = self.boxed_disj(at)?;
         if !self
             .terms
             .operands
