@@ -140,6 +140,18 @@ impl<F: Fn(Wanted, usize) -> Result<(Found, usize), Halted>> Formulas<'_, F> {
         Ok((RawFormula::Implies(disj, formula), at))
     }
 
+    /// A chain of `\/` one level deeper, in a box.
+    fn further_disj(&self, at: usize) -> Result<(Boxed<RawDisj>, usize), Halted>
+        requires { IsLevel F.Fn self.now.terms.operands.level }
+        ensures { Gives self.now.terms.operands.level.cursor.tokens.now disj_tree result ((deeper 63 self.now.terms.operands.level.left).disj (drop at self.now.terms.operands.level.cursor.tokens.now)) }
+    {
+        let (disj, at) = self.terms.operands.level.deeper_disj(at)?;
+        Ok((
+            Boxed::new(self.terms.operands.level.cursor.alloc, disj)?,
+            at,
+        ))
+    }
+
     /// A chain of `\/`.
     #[tactic(auto, using(parser_words::proofs::Steps::steps, raw_trees::specs::TreeLevels::disj_conj, raw_trees::specs::TreeLevels::disj_or), unfolding(parser_words::proofs::Steps::reading, htt_grammar::specs::Phrases::disj_at))]
     pub fn disj(&self, at: usize) -> Result<(RawDisj, usize), Halted>
@@ -150,9 +162,20 @@ impl<F: Fn(Wanted, usize) -> Result<(Found, usize), Halted>> Formulas<'_, F> {
         if !self.terms.operands.level.cursor.is_sign(at, Sign::OrSign) {
             return Ok((RawDisj::Conj(conj), at));
         }
-        let (disj, at) = self.terms.operands.level.deeper_disj(at + 1)?;
-        let disj = Boxed::new(self.terms.operands.level.cursor.alloc, disj)?;
+        let (disj, at) = self.further_disj(at + 1)?;
         Ok((RawDisj::Or(conj, disj), at))
+    }
+
+    /// A chain of `/\` one level deeper, in a box.
+    fn further_conj(&self, at: usize) -> Result<(Boxed<RawConj>, usize), Halted>
+        requires { IsLevel F.Fn self.now.terms.operands.level }
+        ensures { Gives self.now.terms.operands.level.cursor.tokens.now conj_tree result ((deeper 63 self.now.terms.operands.level.left).conj (drop at self.now.terms.operands.level.cursor.tokens.now)) }
+    {
+        let (conj, at) = self.terms.operands.level.deeper_conj(at)?;
+        Ok((
+            Boxed::new(self.terms.operands.level.cursor.alloc, conj)?,
+            at,
+        ))
     }
 
     /// A chain of `/\`.
@@ -165,9 +188,20 @@ impl<F: Fn(Wanted, usize) -> Result<(Found, usize), Halted>> Formulas<'_, F> {
         if !self.terms.operands.level.cursor.is_sign(at, Sign::AndSign) {
             return Ok((RawConj::Star(star), at));
         }
-        let (conj, at) = self.terms.operands.level.deeper_conj(at + 1)?;
-        let conj = Boxed::new(self.terms.operands.level.cursor.alloc, conj)?;
+        let (conj, at) = self.further_conj(at + 1)?;
         Ok((RawConj::And(star, conj), at))
+    }
+
+    /// A chain of `**` one level deeper, in a box.
+    fn further_star(&self, at: usize) -> Result<(Boxed<RawStar>, usize), Halted>
+        requires { IsLevel F.Fn self.now.terms.operands.level }
+        ensures { Gives self.now.terms.operands.level.cursor.tokens.now star_tree result ((deeper 63 self.now.terms.operands.level.left).star (drop at self.now.terms.operands.level.cursor.tokens.now)) }
+    {
+        let (star, at) = self.terms.operands.level.deeper_star(at)?;
+        Ok((
+            Boxed::new(self.terms.operands.level.cursor.alloc, star)?,
+            at,
+        ))
     }
 
     /// A chain of `**`.
@@ -186,8 +220,7 @@ impl<F: Fn(Wanted, usize) -> Result<(Found, usize), Halted>> Formulas<'_, F> {
         {
             return Ok((RawStar::Fatom(fatom), at));
         }
-        let (star, at) = self.terms.operands.level.deeper_star(at + 1)?;
-        let star = Boxed::new(self.terms.operands.level.cursor.alloc, star)?;
+        let (star, at) = self.further_star(at + 1)?;
         Ok((RawStar::Times(fatom, star), at))
     }
 }

@@ -5,7 +5,6 @@ use Rattle.htt_tokens.specs.declared.tokens.Sign.TheVariants.{AndSign}
 use Rattle.raw_trees.specs.TreeLevels.{conj_star, conj_and}
 use Rattle.htt_grammar.specs.Readers.{first_is, same_kind}
 use Rattle.htt_grammar.specs.Phrases.{conj_at}
-use Rattle.parser_words.specs.declared.cursor.Halted.TheVariants.{NoMemory}
 use Rattle.parser_words.proofs.Steps.{stopped, after_err, that_first, that_other, reading}
 use Rattle.parser_formulas.proofs.readers.Formulas.conj.Goals as goal
 
@@ -21,9 +20,6 @@ pub returns-in_err-conj : goal.returns-in_err-conj
 unfolding reading conj_at
 returns-in_err-conj g c = let first : first_is (λ q. same_kind q (Sign AndSign)) (drop c.in_ok-star.at c.args.self.now.terms.operands.level.cursor.tokens.now) ≡ true = search rules in stopped _ _ _ _ _ c.from_residual-in_err-conj.ensures.1 (rw (c.in_ok-star.ensures, that_first c.args.self.now.terms.operands.level.cursor.tokens.now c.in_ok-star.at (Sign AndSign) _ _ first) (after_err _ _ _ _ c.in_err-conj.ensures))
 
-pub returns-in_err-conj-2 : goal.returns-in_err-conj-2
-returns-in_err-conj-2 g c = stopped _ _ _ NoMemory _ c.from_residual-in_err-conj-2.ensures.1 tt
-
 pub returns : goal.returns
 unfolding reading conj_at
-returns g c = let first : first_is (λ q. same_kind q (Sign AndSign)) (drop c.in_ok-star.at c.args.self.now.terms.operands.level.cursor.tokens.now) ≡ true = search rules in let boxed : c.in_ok-conj-2.conj ≡ c.in_ok-conj.conj = search rules in rw (c.in_ok-star.ensures, that_first c.args.self.now.terms.operands.level.cursor.tokens.now c.in_ok-star.at (Sign AndSign) _ _ first, c.in_ok-conj.ensures, conj_and, boxed) refl
+returns g c = let first : first_is (λ q. same_kind q (Sign AndSign)) (drop c.in_ok-star.at c.args.self.now.terms.operands.level.cursor.tokens.now) ≡ true = search rules in rw (c.in_ok-star.ensures, that_first c.args.self.now.terms.operands.level.cursor.tokens.now c.in_ok-star.at (Sign AndSign) _ _ first, c.in_ok-conj.ensures, conj_and) refl
