@@ -1,45 +1,45 @@
 -- A phrase that is the whole list of tokens.
-use Rattle.std.proofs.Common.{◌≡◌, ℕ, List, [], ◌∷◌, refl, sym, ◌∙◌, ap, drop}
+use Rattle.std.proofs.Common.{◌≡◌, ℕ, List, [], ◌∷◌, refl, ◌∙◌, ap}
 use Rattle.std.specs.Prelude.{Ok, Err}
 use Rattle.htt_tokens.specs.declared.tokens.Token.{Token}
-use Rattle.raw_trees.specs.Trees.{MonoTree}
 use Rattle.htt_grammar.specs.Marks.{Mark}
-use Rattle.htt_grammar.specs.Grammar.{mono}
-use Rattle.htt_grammar.specs.Derivations.{IsMono}
-use Rattle.htt_grammar.specs.Readers.{Halt, expected}
-use Rattle.htt_grammar.specs.Phrases.{mono_at}
-use Rattle.htt_grammar.specs.Reading.{deeper}
-use Rattle.htt_reading.specs.Laws.{read_mono, IsMonoWithin}
-use Rattle.htt_reading.proofs.Laws.{mono_is_derived}
+use Rattle.htt_grammar.specs.Readers.{Reader, Halt, expected}
 use Rattle.htt_refusals.specs.Refusals.{Refusal}
+use Rattle.htt_reading.specs.Laws.{read_file}
 use Rattle.htt_refusals.specs.Laws.{to_end}
-use Rattle.htt_refusals.proofs.Phrases.{whole_mono_is_refused}
+use Rattle.htt_refusals.proofs.Files.{file_is_refused}
 use Rattle.parser_words.specs.declared.cursor.Reason.TheVariants as reasons
 use Rattle.parser_words.specs.declared.cursor.Halted.{Halted}
 use Rattle.parser_words.specs.declared.cursor.Halted.TheVariants as halts
-use Rattle.parser_words.specs.Results.{why_of, StopsAs}
-use Rattle.parser_words.proofs.Monotypes.{deeper_some}
-use Rattle.htt_parser.specs.Refusals.{Refuses, stop_of, stop_at}
-use Rattle.htt_parser.specs.declared.parse.ParseStop.TheVariants as stops
+use Rattle.parser_words.specs.Results.{StopsAs}
+use Rattle.htt_parser.specs.Refusals.{Refuses, RefusesFile, stop_of}
+use Rattle.htt_parser.specs.declared.stops.ParseStop.TheVariants as stops
 
-outermost_is : (tokens : List Token) → read_mono tokens ≡ mono_at (deeper 63 255) tokens
-outermost_is tokens = ap (λ r. r tokens) (deeper_some 255)
+-- that what a reader refuses before the end is refused rightly
+abbrev pub IsRefused : {A : Type 0} → (A → List Mark) → Reader A → Type 0
+IsRefused marks read = (tokens : List Token) (halt : Halt) → to_end (read tokens) ≡ Err halt → Refusal marks tokens halt
 
-pub mono_whole : (tokens rest : List Token) (tree : MonoTree) → mono_at (deeper 63 255) tokens ≡ Ok (tree, rest) → rest ≡ [] → IsMono tokens tree × IsMonoWithin tree
-mono_whole tokens rest tree read end = mono_is_derived tokens tree (outermost_is tokens ∙ read ∙ ap (λ us. Ok (tree, us)) end)
+pub to_the_end : {A : Type 0} (read : Reader A) (tokens rest : List Token) (x : A) → read tokens ≡ Ok (x, rest) → rest ≡ [] → read tokens ≡ Ok (x, [])
+to_the_end read tokens rest x is end = is ∙ ap (λ us. Ok (x, us)) end
 
 -- a token behind a whole phrase
-pub mono_goes_on : (length : ℕ) (tokens rest others : List Token) (t : Token) (m : MonoTree) → mono_at (deeper 63 255) tokens ≡ Ok (m, rest) → rest ≡ t ∷ others → Refuses (mono 1) length tokens (stops.Expected t.from)
-mono_goes_on length tokens rest others t m read more =
+pub goes_on : {A : Type 0} (marks : A → List Mark) (read : Reader A) (law : IsRefused marks read) (length : ℕ) (tokens rest others : List Token) (t : Token) (x : A) → read tokens ≡ Ok (x, rest) → rest ≡ t ∷ others → Refuses marks length tokens (stops.Expected t.from)
+goes_on marks read law length tokens rest others t x is more =
     let halt : Halt = record { why = expected; rest = t ∷ others } in
-    (halt, whole_mono_is_refused tokens halt (ap to_end (outermost_is tokens ∙ read ∙ ap (λ us. Ok (m, us)) more)), refl)
+    (halt, law tokens halt (ap to_end (is ∙ ap (λ us. Ok (x, us)) more)), refl)
 
-refused_at : (length : ℕ) (tokens : List Token) (halt : Halt) → mono_at (deeper 63 255) tokens ≡ Err halt → Refusal (mono 1) tokens halt
-refused_at length tokens halt read = whole_mono_is_refused tokens halt (ap to_end (outermost_is tokens ∙ read))
+pub refused : {A : Type 0} (marks : A → List Mark) (read : Reader A) (law : IsRefused marks read) (tokens : List Token) (length : ℕ) (halted : Halted) → StopsAs tokens halted (read tokens) → Refuses marks length tokens (stop_of length tokens halted)
+refused marks read law tokens length halts.NoMemory h = tt
+refused marks read law tokens length (halts.At reasons.Expected place) h = (_, law tokens _ (ap to_end h), refl)
+refused marks read law tokens length (halts.At reasons.TooNested place) h = (_, law tokens _ (ap to_end h), refl)
+refused marks read law tokens length (halts.At reasons.TooLong place) h = (_, law tokens _ (ap to_end h), refl)
+refused marks read law tokens length (halts.At reasons.TooMany place) h = (_, law tokens _ (ap to_end h), refl)
 
-pub mono_refused : (tokens : List Token) (length : ℕ) (halted : Halted) → StopsAs tokens halted (mono_at (deeper 63 255) tokens) → Refuses (mono 1) length tokens (stop_of length tokens halted)
-mono_refused tokens length halts.NoMemory h = tt
-mono_refused tokens length (halts.At reasons.Expected place) h = (_, refused_at length tokens _ h, refl)
-mono_refused tokens length (halts.At reasons.TooNested place) h = (_, refused_at length tokens _ h, refl)
-mono_refused tokens length (halts.At reasons.TooLong place) h = (_, refused_at length tokens _ h, refl)
-mono_refused tokens length (halts.At reasons.TooMany place) h = (_, refused_at length tokens _ h, refl)
+-- ---- files
+
+pub refused_file : (tokens : List Token) (length : ℕ) (halted : Halted) → StopsAs tokens halted (read_file tokens) → RefusesFile length tokens (stop_of length tokens halted)
+refused_file tokens length halts.NoMemory h = tt
+refused_file tokens length (halts.At reasons.Expected place) h = (_, h, file_is_refused tokens _ h, refl)
+refused_file tokens length (halts.At reasons.TooNested place) h = (_, h, file_is_refused tokens _ h, refl)
+refused_file tokens length (halts.At reasons.TooLong place) h = (_, h, file_is_refused tokens _ h, refl)
+refused_file tokens length (halts.At reasons.TooMany place) h = (_, h, file_is_refused tokens _ h, refl)

@@ -1,14 +1,15 @@
 -- Which refusals are right, and where they stand in the text.
-use Rattle.std.specs.Prelude.{◌≡◌, ℕ, List, [], ◌∷◌, drop}
+use Rattle.std.specs.Prelude.{◌≡◌, ℕ, List, [], ◌∷◌, drop, Err}
 use Rattle.htt_tokens.specs.declared.tokens.Token.{Token}
 use Rattle.htt_grammar.specs.Marks.{Mark}
 use Rattle.htt_grammar.specs.Readers.{Why, expected, too_nested, too_long, too_many, Halt}
-use Rattle.htt_refusals.specs.Refusals.{Refusal}
+use Rattle.htt_reading.specs.Laws.{read_file}
+use Rattle.htt_refusals.specs.Refusals.{Refusal, FileRefusal}
 use Rattle.parser_words.specs.declared.cursor.Halted.{Halted}
 use Rattle.parser_words.specs.declared.cursor.Halted.TheVariants as halts
 use Rattle.parser_words.specs.Results.{why_of}
-use Rattle.htt_parser.specs.declared.parse.ParseStop.{ParseStop}
-use Rattle.htt_parser.specs.declared.parse.ParseStop.TheVariants as stops
+use Rattle.htt_parser.specs.declared.stops.ParseStop.{ParseStop}
+use Rattle.htt_parser.specs.declared.stops.ParseStop.TheVariants as stops
 
 -- the first byte of the first token, or the length of the text
 abbrev pub first_byte : ℕ → List Token → ℕ
@@ -33,3 +34,8 @@ stop_of length tokens halts.NoMemory = stops.NoMemory
 abbrev pub Refuses : {A : Type 0} → (A → List Mark) → ℕ → List Token → ParseStop → Type 0
 Refuses marks length tokens stops.NoMemory = Unit {0}
 Refuses marks length tokens stop = (halt : Halt) × Refusal marks tokens halt × (stop ≡ stop_at length halt)
+
+-- the same for a file, and that it is the written reader's
+abbrev pub RefusesFile : ℕ → List Token → ParseStop → Type 0
+RefusesFile length tokens stops.NoMemory = Unit {0}
+RefusesFile length tokens stop = (halt : Halt) × (read_file tokens ≡ Err halt) × FileRefusal tokens halt × (stop ≡ stop_at length halt)

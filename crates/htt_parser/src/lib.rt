@@ -1,9 +1,11 @@
-//! The public reader of phrases: a phrase that is the whole list of tokens, with its tree, or the
-//! place and the reason of the first token with which no tree goes on. So far it reads monotypes.
+//! The public readers: a phrase that is the whole list of tokens, or the declarations of a file, with
+//! its tree, or the place and the reason of the first token with which no tree goes on.
 #![tactic(auto)]
 
-mod parse;
+mod calls;
+mod stops;
 #[cfg(test)]
 mod tests;
 
-pub use parse::{ParseStop, parse_mono};
+pub use calls::{parse, parse_formula, parse_mono, parse_proof};
+pub use stops::ParseStop;

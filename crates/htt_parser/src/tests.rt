@@ -1,35 +1,272 @@
-//! Monotypes whose trees and refusals were found by hand.
+//! Texts with what is read from them and where they are refused, worked out by hand, and what the
+//! plain recogniser says of them.
 
-use crate::{ParseStop, parse_mono};
-use htt_tokens::{Keyword, Kind, Sign, Token};
-use raw_trees::{MonoName, RawBracket, RawRight};
+use crate::{ParseStop, parse, parse_formula, parse_mono, parse_proof};
+use htt_lexer::tokens;
+use htt_recogniser::{is_file, is_formula, is_proof};
+use raw_trees::{MonoName, RawBracket, RawDecl, RawRight};
 use std::test::Fail;
 
-/// A token at these bytes.
-fn token(kind: Kind, from: u64, to: u64) -> Token {
-    Token { kind, from, to }
+/// A call of the crate.
+#[derive(Clone, Copy)]
+enum Call {
+    File,
+    Formula,
+    Proof,
 }
 
-const OPEN: Kind = Kind::Sign(Sign::OpenParenSign);
+/// How the call refuses the text, if it does; texts that have no tokens aren't asked about.
+fn stop(rt: HostRuntime, call: Call, text: &str) -> Option<ParseStop> {
+    let Ok(found) = tokens(rt.alloc(), text.as_bytes()) else {
+        return Some(ParseStop::NoMemory);
+    };
+    let bytes = text.as_bytes();
+    match call {
+        Call::File => parse(rt.alloc(), bytes, &found).err(),
+        Call::Formula => parse_formula(rt.alloc(), bytes, &found).err(),
+        Call::Proof => parse_proof(rt.alloc(), bytes, &found).err(),
+    }
+}
 
-const CLOSE: Kind = Kind::Sign(Sign::CloseParenSign);
+/// Whether the recogniser finds the phrase of the call in the text.
+fn is_found(rt: HostRuntime, call: Call, text: &str) -> bool {
+    let Ok(found) = tokens(rt.alloc(), text.as_bytes()) else {
+        return false;
+    };
+    let answer = match call {
+        Call::File => is_file(rt.alloc(), &found),
+        Call::Formula => is_formula(rt.alloc(), &found),
+        Call::Proof => is_proof(rt.alloc(), &found),
+    };
+    answer == Ok(true)
+}
 
-const STAR: Kind = Kind::Sign(Sign::StarSign);
+/// Texts that are read.
+const READ: [(Call, &str); 44] = [
+    (Call::File, ""),
+    (Call::File, "-- nothing"),
+    (Call::File, "type t = word * (bool * loc) * unit"),
+    (Call::File, "type t = ((word)) type u = t"),
+    (Call::File, "pred p() = tt"),
+    (Call::File, "pred p[a, b](x : a, y : b) = x =[a] x"),
+    (Call::File, "pred p induct n (x : word) = {tt} {!p(n; x)}"),
+    (Call::File, "def x : word = 1 2 [word] (3, null) ()"),
+    (
+        Call::File,
+        "val f : (x : word) -> (_ : bool) -> unit = fun x . fun _ . ()",
+    ),
+    (Call::File, "val f : [a] -> a = fun [a] . fun x . x"),
+    (Call::File, "val f : {tt} x : word {tt} = do ret place 1"),
+    (
+        Call::File,
+        "val f : word = do x <- alloc[word] 1; y <- get[word] x; _ <- set[word] x y; ret y",
+    ),
+    (
+        Call::File,
+        "val f : word = do _ <- free[word] l; _ <- claim {emp}; x <- f 1; ret x",
+    ),
+    (
+        Call::File,
+        "val f : word = do x <- if[word] b {ret 1} {ret 2}; ret x",
+    ),
+    (
+        Call::File,
+        "val f : word = fix f (x : word) (_ : bool) : {tt} r : word {tt} . ret fst x",
+    ),
+    (
+        Call::File,
+        "def e : bool = eq[word](1, 2) & sel[bool](true, false, not x) << 1 >> 2",
+    ),
+    (
+        Call::File,
+        "def e : word = 1 + 2 - 3 | 4 ^ 5 * snd (x : word)",
+    ),
+    (Call::File, "proof f.1 = auto proof f.2 = intro u; trivial"),
+    (Call::Formula, "tt \\/ ff /\\ emp ** tt => tt"),
+    (Call::Formula, "all _ : heap . ex x : word * bool . tt"),
+    (Call::Formula, "x + 1 < y =[bool] true"),
+    (Call::Formula, "l |->[word] _ ** l |->[word * word] (1, 2)"),
+    (Call::Formula, "@mem^1 [Emp(init)]"),
+    (Call::Formula, "Join(h, a, b) /\\ Same(a, b)"),
+    (Call::Formula, "Cell[word](h, l, 1) /\\ Block[word](h, l)"),
+    (Call::Formula, "!p()"),
+    (Call::Formula, "!p[word, bool](1, 2)"),
+    (Call::Formula, "!q(1; 2)"),
+    (Call::Formula, "!q@h(1;)"),
+    (Call::Formula, "(fun x . x) =[word] y"),
+    (Call::Proof, "u"),
+    (Call::Proof, "gen _; intro u; second(u)"),
+    (
+        Call::Proof,
+        "open e v = axiom emp_some(); give(@e, trivial)",
+    ),
+    (
+        Call::Proof,
+        "have c : [tt] = refl; both(first(c), left(right(c)))",
+    ),
+    (Call::Proof, "app(u, v, w)"),
+    (Call::Proof, "inst(u, @h, x + 1)"),
+    (Call::Proof, "case(p, u . absurd(u), v . r)"),
+    (Call::Proof, "rewrite(p, x . [x =[word] 1], q)"),
+    (Call::Proof, "induct(x . [tt], 1, p, y u v . q)"),
+    (Call::Proof, "split(_ . [tt], true, p, q)"),
+    (Call::Proof, "axiom p[word]()"),
+    (Call::Proof, "axiom p.1(@h, x)"),
+    (Call::Proof, "lem[tt]"),
+    (Call::Proof, "the[tt](trivial)"),
+];
 
-const WORD: Kind = Kind::Keyword(Keyword::WordWord);
+/// Texts with the byte of their first wrong token.
+const REFUSED: [(Call, &str, u64); 44] = [
+    (Call::File, "val", 3),
+    (Call::File, "zz", 0),
+    (Call::File, "type t = word *", 15),
+    (Call::File, "type t = word type", 18),
+    (Call::File, "type t = (word", 14),
+    (Call::File, "pred p[](x : word) = tt", 7),
+    (Call::File, "pred p induct n () = {tt}", 25),
+    (Call::File, "def x word = 1", 6),
+    (Call::File, "val f : ((x : word) -> word) = 1", 12),
+    (Call::File, "val f : (_) -> word = 1", 10),
+    (Call::File, "val f : {tt} word {tt} = 1", 13),
+    (Call::File, "val f : word = do x <- alloc 1; ret x", 29),
+    (Call::File, "val f : word = do x <- f 1 ret x", 27),
+    (Call::File, "val f : word = do ret", 21),
+    (Call::File, "def e : word = eq(1, 2)", 17),
+    (Call::File, "def e : word = fun [x . x", 22),
+    (Call::File, "def e : word = 1 +", 18),
+    (Call::File, "proof f = auto", 8),
+    (Call::File, "proof f.1 = auto auto", 17),
+    (Call::Formula, "", 0),
+    (Call::Formula, "tt /\\ ex x : word . tt", 6),
+    (Call::Formula, "x < y < z =[bool] true", 6),
+    (Call::Formula, "ex word : heap . tt", 3),
+    (Call::Formula, "fun x . x =[word] y", 0),
+    (Call::Formula, "_ |->[word] l", 0),
+    (Call::Formula, "@k Emp(k)", 3),
+    (Call::Formula, "Join(h, a)", 9),
+    (Call::Formula, "Block(h, l)", 5),
+    (Call::Formula, "!q[word](1; 2)", 10),
+    (Call::Formula, "!q(1, 2;)", 7),
+    (Call::Formula, "!q@h(1)", 6),
+    (Call::Formula, "!q@h()", 5),
+    (Call::Formula, "!p(1,)", 5),
+    (Call::Formula, "!p[]()", 3),
+    (Call::Formula, "tt tt", 3),
+    (Call::Proof, "intro u;", 8),
+    (Call::Proof, "intro _; refl", 6),
+    (Call::Proof, "have c : tt = trivial; c", 9),
+    (Call::Proof, "app(u)", 5),
+    (Call::Proof, "inst(u)", 6),
+    (Call::Proof, "axiom p.0()", 10),
+    (Call::Proof, "rewrite(p, x =[word] 1, q)", 13),
+    (Call::Proof, "split(_ . tt, true, p, q)", 10),
+    (Call::Proof, "u u", 2),
+];
 
 #[test]
-fn brackets_are_kept_from_the_innermost(rt: HostRuntime) -> Result<(), Fail> {
-    let tokens = [
-        token(OPEN, 0, 1),
-        token(OPEN, 1, 2),
-        token(WORD, 2, 3),
-        token(CLOSE, 3, 4),
-        token(STAR, 4, 5),
-        token(Kind::Name, 5, 6),
-        token(CLOSE, 6, 7),
-    ];
-    let mono = parse_mono(rt.alloc(), b"((w)*a)", &tokens)?;
+fn texts_of_every_production_are_read(rt: HostRuntime) {
+    for (call, text) in READ {
+        let refused = stop(rt, call, text);
+        assert!(rt; refused.is_none(), "{text}");
+        assert!(rt; is_found(rt, call, text), "{text}");
+    }
+}
+
+#[test]
+fn refusals_stand_at_the_first_wrong_token(rt: HostRuntime) {
+    for (call, text, at) in REFUSED {
+        let refused = stop(rt, call, text);
+        assert!(rt; refused == Some(ParseStop::Expected { at }), "{text}");
+        assert!(rt; !is_found(rt, call, text), "{text}");
+    }
+}
+
+/// The text with this before it and that behind it, so often.
+fn around(
+    rt: HostRuntime,
+    before: &str,
+    text: &str,
+    behind: &str,
+    times: usize,
+) -> Result<String, Fail> {
+    let mut whole = String::new(rt.alloc());
+    for _ in 0..times {
+        whole.push_str(before)?;
+    }
+    whole.push_str(text)?;
+    for _ in 0..times {
+        whole.push_str(behind)?;
+    }
+    Ok(whole)
+}
+
+#[test]
+fn phrases_have_at_most_256_levels(rt: HostRuntime) -> Result<(), Fail> {
+    for (call, before, text, behind) in [
+        (Call::Formula, "[", "tt", "]"),
+        (Call::Formula, "tt=>", "tt", ""),
+        (Call::Proof, "left(", "u", ")"),
+    ] {
+        let last = around(rt, before, text, behind, 255)?;
+        assert!(rt; stop(rt, call, &last).is_none(), "{text}");
+        let deeper = around(rt, before, text, behind, 256)?;
+        let at = before.len() as u64 * 256;
+        assert!(rt;
+            stop(rt, call, &deeper) == Some(ParseStop::TooNested { at }),
+            "{text}"
+        );
+    }
+    Ok(())
+}
+
+#[test]
+fn chains_have_at_most_64_operands(rt: HostRuntime) -> Result<(), Fail> {
+    for (call, text, more, end, from) in [
+        (Call::Formula, "x", "+x", "=[word]y", 2),
+        (Call::Formula, "x", " x", "=[word]y", 2),
+        (Call::Formula, "x", "[word]", "=[word]y", 2),
+        (Call::Proof, "app(u", ",u", ")", 6),
+        (Call::Proof, "inst(u", ",x", ")", 7),
+    ] {
+        let mut last = around(rt, "", text, more, 63)?;
+        let at = from + more.len() as u64 * 63;
+        let mut longer = around(rt, "", text, more, 64)?;
+        last.push_str(end)?;
+        longer.push_str(end)?;
+        assert!(rt; stop(rt, call, &last).is_none(), "{text}{more}");
+        let refused = stop(rt, call, &longer);
+        assert!(rt;
+            refused == Some(ParseStop::TooLongChain { at }),
+            "{text}{more}"
+        );
+    }
+    Ok(())
+}
+
+#[test]
+fn a_file_has_at_most_10000_declarations(rt: HostRuntime) -> Result<(), Fail> {
+    let last = around(rt, "", "", "type t=word ", 10_000)?;
+    assert!(rt; stop(rt, Call::File, &last).is_none());
+    let more = around(rt, "", "", "type t=word ", 10_001)?;
+    let at = 120_000;
+    assert_eq!(rt;
+        stop(rt, Call::File, &more),
+        Some(ParseStop::TooMany { at })
+    );
+    let other = around(rt, last.as_str(), "word", "", 1)?;
+    assert_eq!(rt;
+        stop(rt, Call::File, &other),
+        Some(ParseStop::Expected { at })
+    );
+    Ok(())
+}
+
+#[test]
+fn trees_keep_what_stands_in_the_text(rt: HostRuntime) -> Result<(), Fail> {
+    let text = b"((word)*a)";
+    let found = tokens(rt.alloc(), text)?;
+    let mono = parse_mono(rt.alloc(), text, &found)?;
     assert_eq!(rt; mono.name, MonoName::Word { at: 2 });
     assert!(rt; matches!(mono.right, RawRight::Nothing));
     match mono.brackets.as_slice() {
@@ -43,42 +280,23 @@ fn brackets_are_kept_from_the_innermost(rt: HostRuntime) -> Result<(), Fail> {
 }
 
 #[test]
-fn refusals_stand_at_the_first_wrong_token(rt: HostRuntime) {
-    let none: [Token; 0] = [];
-    let two = [token(WORD, 0, 1), token(WORD, 2, 3)];
-    let open = [token(OPEN, 0, 1), token(WORD, 1, 2)];
-    let closed = [token(WORD, 0, 1), token(STAR, 1, 2), token(CLOSE, 2, 3)];
-    let lists = [
-        (b"".as_slice(), none.as_slice(), 0u64),
-        (b"w w".as_slice(), two.as_slice(), 2),
-        (b"(w".as_slice(), open.as_slice(), 2),
-        (b"w*)".as_slice(), closed.as_slice(), 2),
-    ];
-    for (text, tokens, at) in lists {
-        match parse_mono(rt.alloc(), text, tokens) {
-            Ok(_) => assert!(rt; false),
-            Err(stop) => assert_eq!(rt; stop, ParseStop::Expected { at }),
-        }
-    }
-}
-
-#[test]
-fn a_monotype_may_have_256_levels_and_no_more(rt: HostRuntime) -> Result<(), Fail> {
-    let text = [0u8; 513];
-    for factors in [256u64, 257] {
-        let mut tokens = Vec::new(rt.alloc());
-        tokens.push(token(WORD, 0, 1))?;
-        for factor in 1..factors {
-            tokens.push(token(STAR, 2 * factor - 1, 2 * factor))?;
-            tokens.push(token(WORD, 2 * factor, 2 * factor + 1))?;
-        }
-        match parse_mono(rt.alloc(), &text, &tokens) {
-            Ok(_) => assert_eq!(rt; factors, 256),
-            Err(stop) => {
-                assert_eq!(rt; factors, 257);
-                assert_eq!(rt; stop, ParseStop::TooNested { at: 512 });
+fn declarations_stand_in_their_order(rt: HostRuntime) -> Result<(), Fail> {
+    let text = b"type t = word proof t.7 = auto";
+    let found = tokens(rt.alloc(), text)?;
+    let decls = parse(rt.alloc(), text, &found)?;
+    assert_eq!(rt; decls.len(), 2);
+    assert!(rt; matches!(decls[0], RawDecl::Type { .. }));
+    assert!(rt;
+        matches!(
+            decls[1],
+            RawDecl::Proof {
+                at: 14,
+                number: 7,
+                ..
             }
-        }
-    }
+        )
+    );
+    let formula = parse_formula(rt.alloc(), b"", &[]).err();
+    assert_eq!(rt; formula, Some(ParseStop::Expected { at: 0 }));
     Ok(())
 }

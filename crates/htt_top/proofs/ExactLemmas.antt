@@ -2,7 +2,6 @@
 -- and no read failed. So one answer is due to a command.
 use Rattle.std.proofs.Common.{ℕ, ◌≡◌, ◌≢◌, ◌<◌, ◌≤◌, ◌⊎◌, List, length, Option, Some, None, Result, Ok, Err, refl, sym, ◌∙◌, ap, subst, arith, ⊎_elim, inl, inr}
 use Rattle.htt_base.specs.Outside.{Held, Told, Rose}
-use Rattle.htt_words.specs.declared.words.SyntaxKind.{SyntaxKind}
 use Rattle.htt_words.specs.declared.words.Which.{Which}
 use Rattle.htt_words.specs.declared.words.Which.TheVariants.{File, CodeFile, HeapFile}
 use Rattle.htt_values.specs.Heaps.{Heap}
@@ -14,9 +13,9 @@ use Rattle.code_format.specs.Rows.{IsRefused}
 use Rattle.code_format.proofs.LawProofs.{one_code_lem, coded_isnt_refused_lem, one_refusal_lem}
 use Rattle.word_machine.specs.declared.runs.End.{End}
 use Rattle.word_machine.specs.Runs.{EndsShipped}
-use Rattle.one_form.specs.declared.parser.Form.{Form as TextForm}
-use Rattle.one_form.specs.Form.{IsText}
-use Rattle.one_form.proofs.Meaning.{one_form}
+use Rattle.raw_trees.specs.Trees.{DeclTree}
+use Rattle.one_form.specs.declared.form.Form.{Form as TextForm}
+use Rattle.one_form.specs.Form.{IsForm}
 use Rattle.command_words.specs.Forms.{Form, go, run, HasForm, HasNoForm}
 use Rattle.command_words.proofs.FormLemmas.{one_form_lem}
 use Rattle.command_answers.specs.declared.answer.Refusal.{Refusal}
@@ -24,65 +23,14 @@ use Rattle.command_answers.specs.declared.answer.Refusal.TheVariants.{Usage, Rea
 use Rattle.command_answers.specs.Answers.{Answer, value, halt}
 use Rattle.command_answers.specs.Lines.{limit_of}
 use Rattle.htt_top.specs.Words.{step_limit}
-use Rattle.htt_top.specs.Stages.{Seen, Then, FileGives, LoadGives, CodeGives, HeapGives, StartGives, RunGives, FormGives, GoGives, answer_of_end, result_of}
+use Rattle.htt_top.specs.Stages.{Seen, Then, FileGives, LoadGives, CodeGives, HeapGives, StartGives, RunGives, TokensGive, ParseGives, DeclsGive, GoGives, answer_of_end}
 use Rattle.htt_top.specs.Due.{WordsGive, DueToForm, Due}
-use Rattle.htt_top.specs.Answers.{IsSameAnswer}
+use Rattle.htt_top.specs.Answers.{IsOtherFile, IsSyntax, IsSameAnswer}
 use Rattle.htt_top.proofs.EndLemmas.{one_end}
+use Rattle.htt_top.proofs.StageLemmas.{Agree, AgreeBy, some_agree, too_long, then_agree}
+use Rattle.htt_top.proofs.TextLemmas.{tokens_agree, parse_agrees, decls_agree}
 
--- ---- stages
-
--- two results of a stage are related, want of memory aside
-abbrev pub AgreeBy : {A : Type 0} → (Result A Refusal → Result A Refusal → Type 0) → (Result A Refusal → Type 0) → Type 0
-AgreeBy {A = A} Related stage = (x y : Result A Refusal) → stage x → stage y → x ≢ Err NoMemory → y ≢ Err NoMemory → Related x y
-
-abbrev pub Agree : {A : Type 0} → (Result A Refusal → Type 0) → Type 0
-Agree {A = A} stage = (x y : Result A Refusal) → stage x → stage y → x ≢ Err NoMemory → y ≢ Err NoMemory → x ≡ y
-
-abbrev value_result : {A : Type 0} → A → Result A Refusal
-value_result a = Ok a
-
-abbrev refusal_result : {A : Type 0} → Refusal → Result A Refusal
-refusal_result r = Err r
-
-values_agree : {A : Type 0} {a b : A} → value_result a ≡ value_result b → a ≡ b
-values_agree e = cc
-
-some_agree : {A : Type 0} {a b : A} → Some a ≡ Some b → a ≡ b
-some_agree e = cc
-
-refusals_agree : {A : Type 0} {r q : Refusal} → refusal_result {A = A} r ≡ refusal_result q → r ≡ q
-refusals_agree e = cc
-
-ok_is_no_err : {A : Type 0} {a : A} {r : Refusal} → value_result a ≡ refusal_result r → ⊥
-ok_is_no_err e = cc
-
-too_long : (a b n : ℕ) → a ≡ b → a ≤ n → n < b → ⊥
-too_long a b n e d f = omega arith
-
-then_agree : {A B : Type 0} (Related : Result B Refusal → Result B Refusal → Type 0) (related : (x : Result B Refusal) → Related x x)
-    (first : Result A Refusal → Type 0) (next : A → Result B Refusal → Type 0)
-    → Agree first → ((a : A) → AgreeBy Related (next a)) → AgreeBy Related (Then first next)
-then_agree {A = A} {B = B} Related related first next f n x y p q m k =
-    ⊎_elim
-    (λ (i : (refusal : Refusal) × first (Err refusal) × (x ≡ Err refusal)).
-    ⊎_elim
-    (λ (j : (refusal : Refusal) × first (Err refusal) × (y ≡ Err refusal)).
-    let e = refusals_agree (f (Err i.0) (Err j.0) i.1 j.1 (λ d. m (i.2 ∙ ap Err (refusals_agree d))) (λ d. k (j.2 ∙ ap Err (refusals_agree d)))) in
-    subst (Related x) (i.2 ∙ ap Err e ∙ sym j.2) (related x))
-    (λ (j : (a : A) × first (Ok a) × next a y).
-    absurd (ok_is_no_err (sym (f (Err i.0) (Ok j.0) i.1 j.1 (λ d. m (i.2 ∙ ap Err (refusals_agree d))) ok_is_no_err))))
-    q)
-    (λ (i : (a : A) × first (Ok a) × next a x).
-    ⊎_elim
-    (λ (j : (refusal : Refusal) × first (Err refusal) × (y ≡ Err refusal)).
-    absurd (ok_is_no_err (f (Ok i.0) (Err j.0) i.1 j.1 ok_is_no_err (λ d. k (j.2 ∙ ap Err (refusals_agree d))))))
-    (λ (j : (a : A) × first (Ok a) × next a y).
-    let e = values_agree (f (Ok i.0) (Ok j.0) i.1 j.1 ok_is_no_err ok_is_no_err) in
-    n i.0 x y i.2 (subst (λ a. next a y) (sym e) j.2) m k)
-    q)
-    p
-
--- ---- bytes as code, as a heap, as a text
+-- ---- bytes as code, as a heap
 
 load_cases : (bytes : List ℕ) (x : Result Code Refusal) → LoadGives bytes x → x ≢ Err NoMemory → ((code : Code) × (x ≡ Ok code) × Bytes bytes code) ⊎ ((at row : ℕ) × (x ≡ Err (BadCode at)) × IsRefused bytes at row)
 load_cases bytes (Ok code) p m = inl (code, refl, p)
@@ -148,23 +96,13 @@ heap_agrees bytes x y p q m k =
 
 -- ---- answers
 
-same_refl : (x : Answer) → IsSameAnswer x x
-same_refl (Ok outcome) = refl
-same_refl (Err (Syntax at kind)) = (at, kind, refl)
-same_refl (Err NoMemory) = refl
-same_refl (Err Usage) = refl
-same_refl (Err ReadFault) = refl
-same_refl (Err (Limit which)) = refl
-same_refl (Err (NotInferred at)) = refl
-same_refl (Err (BadCode at)) = refl
-same_refl (Err (BadHeap line)) = refl
-same_refl (Err (Fault kind location)) = refl
-same_refl (Err (Stopped bound count)) = refl
+same_refl : (words : List (List ℕ)) (s : Seen) (x : Answer) → IsSameAnswer words s x x
+same_refl words s x = inl refl
 
-same_of : (x y : Answer) → x ≡ y → IsSameAnswer x y
-same_of x y e = subst (IsSameAnswer x) e (same_refl x)
+same_by : (words : List (List ℕ)) (s : Seen) (stage : Answer → Type 0) → Agree stage → AgreeBy (IsSameAnswer words s) stage
+same_by words s stage agree x y p q m k = inl (sym (agree x y p q m k))
 
-runs_agree : (code : Code) (h : Heap) (steps : ℕ) → AgreeBy IsSameAnswer (RunGives code h steps)
+runs_agree : (code : Code) (h : Heap) (steps : ℕ) → Agree (RunGives code h steps)
 runs_agree code h steps x y p q m k =
     ⊎_elim
     (λ (i : x ≡ Err NoMemory). absurd (m i))
@@ -172,69 +110,9 @@ runs_agree code h steps x y p q m k =
     ⊎_elim
     (λ (j : y ≡ Err NoMemory). absurd (k j))
     (λ (j : (end : End) × EndsShipped code h steps end × (y ≡ answer_of_end end)).
-    same_of x y (i.2 ∙ one_end code h steps i.0 j.0 i.1 j.1 ∙ sym j.2))
+    i.2 ∙ one_end code h steps i.0 j.0 i.1 j.1 ∙ sym j.2)
     q)
     p
-
-form_cases : (f : TextForm) (x : Answer) → FormGives f x → x ≢ Err NoMemory → ((f.claimed ≡ result_of f) × (x ≡ Ok (value (result_of f)))) ⊎ ((f.claimed ≢ result_of f) × (x ≡ Err (NotInferred f.place)))
-form_cases f (Ok (value n)) p m = inl (p.0, ap (λ (n : ℕ). Ok (value n)) p.1)
-form_cases f (Ok (halt words h)) p m = absurd p
-form_cases f (Err (NotInferred at)) p m = inr (p.0, ap (λ (at : ℕ). Err (NotInferred at)) p.1)
-form_cases f (Err NoMemory) p m = absurd (m refl)
-form_cases f (Err Usage) p m = absurd p
-form_cases f (Err ReadFault) p m = absurd p
-form_cases f (Err (Limit which)) p m = absurd p
-form_cases f (Err (Syntax at kind)) p m = absurd p
-form_cases f (Err (BadCode at)) p m = absurd p
-form_cases f (Err (BadHeap line)) p m = absurd p
-form_cases f (Err (Fault kind location)) p m = absurd p
-form_cases f (Err (Stopped bound count)) p m = absurd p
-
-form_agrees : (f : TextForm) → Agree (FormGives f)
-form_agrees f x y p q m k =
-    ⊎_elim
-    (λ (i : (f.claimed ≡ result_of f) × (x ≡ Ok (value (result_of f)))).
-    ⊎_elim
-    (λ (j : (f.claimed ≡ result_of f) × (y ≡ Ok (value (result_of f)))). i.1 ∙ sym j.1)
-    (λ (j : (f.claimed ≢ result_of f) × (y ≡ Err (NotInferred f.place))). absurd (j.0 i.0))
-    (form_cases f y q k))
-    (λ (i : (f.claimed ≢ result_of f) × (x ≡ Err (NotInferred f.place))).
-    ⊎_elim
-    (λ (j : (f.claimed ≡ result_of f) × (y ≡ Ok (value (result_of f)))). absurd (i.0 j.0))
-    (λ (j : (f.claimed ≢ result_of f) × (y ≡ Err (NotInferred f.place))). i.1 ∙ sym j.1)
-    (form_cases f y q k))
-    (form_cases f x p m)
-
-text_cases : (bytes : List ℕ) (x : Answer) → GoGives bytes x → x ≢ Err NoMemory → ((f : TextForm) × IsText bytes f × FormGives f x) ⊎ ((at : ℕ) × (kind : SyntaxKind) × (x ≡ Err (Syntax at kind)) × ((f : TextForm) → IsText bytes f → ⊥))
-text_cases bytes (Ok outcome) p m = inl p
-text_cases bytes (Err (Syntax at kind)) p m = inr (at, kind, refl, p)
-text_cases bytes (Err NoMemory) p m = absurd (m refl)
-text_cases bytes (Err Usage) p m = inl p
-text_cases bytes (Err ReadFault) p m = inl p
-text_cases bytes (Err (Limit which)) p m = inl p
-text_cases bytes (Err (NotInferred at)) p m = inl p
-text_cases bytes (Err (BadCode at)) p m = inl p
-text_cases bytes (Err (BadHeap line)) p m = inl p
-text_cases bytes (Err (Fault kind location)) p m = inl p
-text_cases bytes (Err (Stopped bound count)) p m = inl p
-
-texts_agree : (bytes : List ℕ) → AgreeBy IsSameAnswer (GoGives bytes)
-texts_agree bytes x y p q m k =
-    ⊎_elim
-    (λ (i : (f : TextForm) × IsText bytes f × FormGives f x).
-    ⊎_elim
-    (λ (j : (f : TextForm) × IsText bytes f × FormGives f y).
-    let e : j.0 ≡ i.0 = one_form bytes j.0 i.0 j.1 i.1 in
-    same_of x y (form_agrees i.0 x y i.2 (subst (λ f. FormGives f y) e j.2) m k))
-    (λ (j : (at : ℕ) × (kind : SyntaxKind) × (y ≡ Err (Syntax at kind)) × ((f : TextForm) → IsText bytes f → ⊥)). absurd (j.3 i.0 i.1))
-    (text_cases bytes y q k))
-    (λ (i : (at : ℕ) × (kind : SyntaxKind) × (x ≡ Err (Syntax at kind)) × ((f : TextForm) → IsText bytes f → ⊥)).
-    ⊎_elim
-    (λ (j : (f : TextForm) × IsText bytes f × FormGives f y). absurd (i.3 j.0 j.1))
-    (λ (j : (at : ℕ) × (kind : SyntaxKind) × (y ≡ Err (Syntax at kind)) × ((f : TextForm) → IsText bytes f → ⊥)).
-    subst (λ (z : Answer). IsSameAnswer z y) (sym i.2) (j.0, j.1, j.2))
-    (text_cases bytes y q k))
-    (text_cases bytes x p m)
 
 words_cases : (words : List (List ℕ)) (x : Result Form Refusal) → WordsGive words x → x ≢ Err NoMemory → ((form : Form) × (x ≡ Ok form) × HasForm words form) ⊎ ((x ≡ Err Usage) × HasNoForm words)
 words_cases words (Ok form) p m = inl (form, refl, p)
@@ -307,18 +185,34 @@ module _ (s : Seen) (held : Held) (is_told : s.held ≡ Some held) (quiet : Rose
       (file_cases name which x p m)
 
   code_agrees : (name : List ℕ) → Agree (CodeGives s name)
-  code_agrees name = then_agree (λ x y. x ≡ y) (λ x. refl) (FileGives s name CodeFile) LoadGives (file_agrees name CodeFile) load_agrees
+  code_agrees name = then_agree (λ x y. x ≡ y) (λ x. refl) (FileGives s name CodeFile) LoadGives (file_agrees name CodeFile) (λ bytes read. load_agrees bytes)
 
   start_agrees : (name : Option (List ℕ)) → Agree (StartGives s name)
   start_agrees None x y p q m k = p ∙ sym q
-  start_agrees (Some name) x y p q m k = then_agree (λ x y. x ≡ y) (λ x. refl) (FileGives s name HeapFile) HeapGives (file_agrees name HeapFile) heap_agrees x y p q m k
+  start_agrees (Some name) x y p q m k = then_agree (λ x y. x ≡ y) (λ x. refl) (FileGives s name HeapFile) HeapGives (file_agrees name HeapFile) (λ bytes read. heap_agrees bytes) x y p q m k
 
-  commands_agree : (form : Form) → AgreeBy IsSameAnswer (DueToForm s form)
-  commands_agree (go file) = then_agree IsSameAnswer same_refl (FileGives s file File) GoGives (file_agrees file File) texts_agree
-  commands_agree (run code heap steps) =
-      then_agree IsSameAnswer same_refl (CodeGives s code) (λ c. Then (StartGives s heap) (λ h. RunGives c h (step_limit steps)))
+  decls_same : (words : List (List ℕ)) (bytes : List ℕ) (decls : List DeclTree) → (((f : TextForm) → IsForm bytes decls f → ⊥) → IsOtherFile words s) → AgreeBy (IsSameAnswer words s) (DeclsGive bytes decls)
+  decls_same words bytes decls other x y p q m k =
+      ⊎_elim
+      (λ (i : x ≡ y). inl (sym i))
+      (λ (i : ((f : TextForm) → IsForm bytes decls f → ⊥) × IsSyntax x × IsSyntax y). inr (other i.0, i.1, i.2))
+      (decls_agree bytes decls x y p q m k)
+
+  texts_same : (words : List (List ℕ)) (name bytes : List ℕ) → HasForm words (go name) → FileGives s name File (Ok bytes) → AgreeBy (IsSameAnswer words s) (GoGives bytes)
+  texts_same words name bytes named read =
+      then_agree (IsSameAnswer words s) (same_refl words s) (TokensGive bytes) (λ tokens. Then (ParseGives bytes tokens) (DeclsGive bytes))
+      (tokens_agree bytes)
+      (λ tokens cut. then_agree (IsSameAnswer words s) (same_refl words s) (ParseGives bytes tokens) (DeclsGive bytes)
+      (parse_agrees bytes tokens)
+      (λ decls parsed. decls_same words bytes decls (λ other. record { name = name; bytes = bytes; tokens = tokens; decls = decls; named = named; read = read; cut = cut; parsed = parsed; other = other })))
+
+  commands_agree : (words : List (List ℕ)) (form : Form) → HasForm words form → AgreeBy (IsSameAnswer words s) (DueToForm s form)
+  commands_agree words (go file) named = then_agree (IsSameAnswer words s) (same_refl words s) (FileGives s file File) GoGives (file_agrees file File) (λ bytes read. texts_same words file bytes named read)
+  commands_agree words (run code heap steps) named =
+      same_by words s _
+      (then_agree (λ x y. x ≡ y) (λ x. refl) (CodeGives s code) (λ c. Then (StartGives s heap) (λ h. RunGives c h (step_limit steps)))
       (code_agrees code)
-      (λ c. then_agree IsSameAnswer same_refl (StartGives s heap) (λ h. RunGives c h (step_limit steps)) (start_agrees heap) (λ h. runs_agree c h (step_limit steps)))
+      (λ c coded. then_agree (λ x y. x ≡ y) (λ x. refl) (StartGives s heap) (λ h. RunGives c h (step_limit steps)) (start_agrees heap) (λ h started. runs_agree c h (step_limit steps))))
 
-  pub answers_agree : (words : List (List ℕ)) → AgreeBy IsSameAnswer (Due words s)
-  answers_agree words = then_agree IsSameAnswer same_refl (WordsGive words) (DueToForm s) (words_agree words) commands_agree
+  pub answers_agree : (words : List (List ℕ)) → AgreeBy (IsSameAnswer words s) (Due words s)
+  answers_agree words = then_agree (IsSameAnswer words s) (same_refl words s) (WordsGive words) (DueToForm s) (words_agree words) (commands_agree words)

@@ -1,3 +1,4 @@
+pub mod StageLemmas
 pub mod EndLemmas
 pub mod ExactLemmas
 pub mod PrintedLemmas

@@ -15,7 +15,7 @@ WordsGive words (Err Usage) = HasNoForm words
 WordsGive words (Err NoMemory) = Unit {0}
 WordsGive words (Err refusal) = ⊥
 
--- `go`: reading the file, its size, its text
+-- `go`: reading the file, its size, its tokens, its declarations, what they say
 -- `run`: reading the code file, its size, its format; reading the heap file, its size, its format; running
 abbrev pub DueToForm : Seen → Form → Answer → Type 0
 DueToForm s (go file) = Then (FileGives s file File) GoGives

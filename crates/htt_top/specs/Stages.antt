@@ -2,7 +2,8 @@
 use Rattle.std.specs.Prelude.{ℕ, ◌≡◌, ◌≢◌, ◌+◌, ◌%◌, ◌^◌, ◌<◌, ◌≤◌, ◌⊎◌, List, length, Option, Some, None, Result, Ok, Err}
 use Rattle.htt_base.specs.Outside.{Held, Told, Rose}
 use Rattle.htt_words.specs.declared.words.Which.{Which}
-use Rattle.htt_words.specs.declared.words.Which.TheVariants.{CodeFile, HeapFile}
+use Rattle.htt_words.specs.declared.words.Which.TheVariants.{CodeFile, HeapFile, Declarations, Nesting, Chain}
+use Rattle.htt_words.specs.declared.words.SyntaxKind.TheVariants as kinds
 use Rattle.htt_values.specs.Heaps.{Heap, empty_heap}
 use Rattle.flat_heap.specs.Blocks.{blocks_of}
 use Rattle.heap_text.specs.HeapText.{IsHeapFile, IsBadLine}
@@ -12,8 +13,16 @@ use Rattle.code_format.specs.Rows.{IsRefused}
 use Rattle.word_machine.specs.declared.runs.End.{End}
 use Rattle.word_machine.specs.declared.runs.End.TheVariants as ends
 use Rattle.word_machine.specs.Runs.{EndsShipped}
-use Rattle.one_form.specs.declared.parser.Form.{Form}
-use Rattle.one_form.specs.Form.{IsText}
+use Rattle.htt_tokens.specs.declared.tokens.Token.{Token}
+use Rattle.htt_lexer.specs.declared.lexer.LexStop.TheVariants.{NotUtf8, BadChar, LiteralTooLarge}
+use Rattle.htt_lexer.specs.Refusals.{Refuses}
+use Rattle.htt_lexer.specs.Tokens.{AreTokens}
+use Rattle.raw_trees.specs.Trees.{DeclTree}
+use Rattle.htt_grammar.specs.Derivations.{IsFile, IsFileWithin}
+use Rattle.htt_parser.specs.declared.stops.ParseStop.TheVariants.{Expected, TooNested, TooLongChain, TooMany}
+use Rattle.htt_parser.specs.Refusals.{RefusesFile}
+use Rattle.one_form.specs.declared.form.Form.{Form}
+use Rattle.one_form.specs.Form.{IsForm}
 use Rattle.command_answers.specs.declared.answer.Refusal.{Refusal}
 use Rattle.command_answers.specs.declared.answer.Refusal.TheVariants.{ReadFault, Limit, Syntax, NotInferred, BadCode, BadHeap, Fault, Stopped, NoMemory}
 use Rattle.command_answers.specs.Answers.{Answer, value, halt}
@@ -90,8 +99,31 @@ FormGives f (Err (NotInferred at)) = (f.claimed ≢ result_of f) × (at ≡ f.pl
 FormGives f (Err NoMemory) = Unit {0}
 FormGives f (Err refusal) = ⊥
 
--- bytes as a text, which is a form or isn't
+-- bytes as tokens
+abbrev pub TokensGive : List ℕ → Result (List Token) Refusal → Type 0
+TokensGive bytes (Ok tokens) = AreTokens bytes tokens
+TokensGive bytes (Err (Syntax at kinds.Utf8)) = Refuses bytes (NotUtf8 at)
+TokensGive bytes (Err (Syntax at kinds.Char)) = Refuses bytes (BadChar at)
+TokensGive bytes (Err (Syntax at kinds.Literal)) = Refuses bytes (LiteralTooLarge at)
+TokensGive bytes (Err NoMemory) = Unit {0}
+TokensGive bytes (Err refusal) = ⊥
+
+-- the tokens of these bytes as declarations, within the limits
+abbrev pub ParseGives : List ℕ → List Token → Result (List DeclTree) Refusal → Type 0
+ParseGives bytes tokens (Ok decls) = IsFile tokens decls × IsFileWithin decls
+ParseGives bytes tokens (Err (Syntax at kinds.Token)) = RefusesFile (length bytes) tokens (Expected at)
+ParseGives bytes tokens (Err (Limit Nesting)) = (at : ℕ) × RefusesFile (length bytes) tokens (TooNested at)
+ParseGives bytes tokens (Err (Limit Chain)) = (at : ℕ) × RefusesFile (length bytes) tokens (TooLongChain at)
+ParseGives bytes tokens (Err (Limit Declarations)) = (at : ℕ) × RefusesFile (length bytes) tokens (TooMany at)
+ParseGives bytes tokens (Err NoMemory) = Unit {0}
+ParseGives bytes tokens (Err refusal) = ⊥
+
+-- declarations of these bytes, which are those of a form or aren't; the place and the kind are free
+abbrev pub DeclsGive : List ℕ → List DeclTree → Answer → Type 0
+DeclsGive bytes decls (Err (Syntax at kind)) = (f : Form) → IsForm bytes decls f → ⊥
+DeclsGive bytes decls (Err NoMemory) = Unit {0}
+DeclsGive bytes decls answer = (f : Form) × IsForm bytes decls f × FormGives f answer
+
+-- bytes as a text: its tokens, its declarations, and what they say
 abbrev pub GoGives : List ℕ → Answer → Type 0
-GoGives bytes (Err (Syntax at kind)) = (f : Form) → IsText bytes f → ⊥
-GoGives bytes (Err NoMemory) = Unit {0}
-GoGives bytes answer = (f : Form) × IsText bytes f × FormGives f answer
+GoGives bytes = Then (TokensGive bytes) (λ tokens. Then (ParseGives bytes tokens) (DeclsGive bytes))

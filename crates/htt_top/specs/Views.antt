@@ -1,15 +1,27 @@
 -- What is seen of the answers of the stages.
-use Rattle.std.specs.Prelude.{ℕ, ◌≡◌, ◌++◌, List, Option, Some, Result, Ok, Err, Vec}
+use Rattle.std.specs.Prelude.{ℕ, ◌≡◌, ◌++◌, List, map, Option, Some, Result, Ok, Err, Vec}
 use Rattle.std.specs.Global.{Global}
 use Rattle.htt_base.specs.Outside.{Told}
 use Rattle.htt_values.specs.Heaps.{Heap as Blocks}
 use Rattle.flat_heap.specs.Blocks.{blocks_of}
 use Rattle.flat_heap.specs.declared.heap.Heap.{Heap}
+use Rattle.htt_tokens.specs.declared.tokens.Token.{Token}
+use Rattle.raw_trees.specs.declared.decl.RawDecl.{RawDecl}
+use Rattle.raw_trees.specs.Trees.{DeclTree}
+use Rattle.raw_trees.specs.DeclViews.{decl_tree}
 use Rattle.command_answers.specs.declared.answer.Refusal.{Refusal}
 
 abbrev pub bytes_result : Result (Vec ℕ Global) Refusal → Result (List ℕ) Refusal
 bytes_result (Ok v) = Ok v.items
 bytes_result (Err refusal) = Err refusal
+
+abbrev pub tokens_result : Result (Vec Token Global) Refusal → Result (List Token) Refusal
+tokens_result (Ok v) = Ok v.items
+tokens_result (Err refusal) = Err refusal
+
+abbrev pub decls_result : Result (Vec RawDecl Global) Refusal → Result (List DeclTree) Refusal
+decls_result (Ok v) = Ok (map decl_tree v.items)
+decls_result (Err refusal) = Err refusal
 
 abbrev pub blocks_result : Result Heap Refusal → Result Blocks Refusal
 blocks_result (Ok heap) = Ok (blocks_of heap)

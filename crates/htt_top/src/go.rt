@@ -1,23 +1,27 @@
-//! The command `go`: the form that the bytes of a file say, whether its claim is right, the code for
-//! the result, and its run. The code goes through its written bytes, as that of a code file does.
+//! The command `go`: the form that the declarations of a file say, whether its claim is right, the
+//! code for the result, and its run. The code goes through its written bytes, as that of a code file does.
 
-ghost use Rattle.std.specs.Prelude.{◌≡◌, [], ◌∷◌, IfOk};
+ghost use Rattle.std.specs.Prelude.{◌≡◌, [], ◌∷◌, map, IfOk};
+ghost use Rattle.raw_trees.specs.DeclViews.{decl_tree};
 ghost use Rattle.word_loader.specs.Valid.{IsValid};
 ghost use Rattle.command_answers.specs.Answers.{answer_of};
 ghost use Rattle.htt_top.specs.Code.{code_of};
 ghost use Rattle.htt_words.specs.declared.words.Which.TheVariants.{File};
-ghost use Rattle.htt_top.specs.Stages.{FileGives, FormGives, GoGives, Then, result_of, seen};
+ghost use Rattle.htt_top.specs.Stages.{DeclsGive, FileGives, FormGives, GoGives, Then, result_of, seen};
 ghost use Rattle.htt_top.specs.Words.{ReadsOf};
 
 use crate::command::DEFAULT_STEPS;
 use crate::read::read_file;
+use crate::text::{decls_of, first_byte, tokens_of};
 use code_bytes::{LoadStop, load, write_code};
 use command_answers::{Refusal, Success};
 use flat_heap::Heap;
 use htt_base::Files;
 use htt_seq::Seq;
-use htt_words::Which;
-use one_form::{Form, FormStop, read_form};
+use htt_tokens::Token;
+use htt_words::{SyntaxKind, Which};
+use one_form::{Form, form_of};
+use raw_trees::RawDecl;
 use std::alloc::{AllocError, Global};
 use word_loader::{Code, Function, Instr};
 use word_machine::{End, run};
@@ -88,15 +92,31 @@ fn run_form(alloc: Global, form: &Form) -> Result<Success, Refusal>
     }
 }
 
+/// The answer to the declarations of a text: that of their form, where they are those of one.
+fn run_decls(
+    alloc: Global,
+    bytes: &[u8],
+    tokens: &[Token],
+    decls: &[RawDecl],
+) -> Result<Success, Refusal>
+    ensures { DeclsGive bytes.now (map decl_tree decls.now) (answer_of result) }
+{
+    match form_of(bytes, decls) {
+        Some(form) => run_form(alloc, &form),
+        None => Err(Refusal::Syntax {
+            at: first_byte(bytes, tokens),
+            kind: SyntaxKind::Token,
+        }),
+    }
+}
+
 /// The answer to the bytes of a file.
 fn run_text(alloc: Global, bytes: &[u8]) -> Result<Success, Refusal>
     ensures { GoGives bytes.now (answer_of result) }
 {
-    match read_form(alloc, bytes) {
-        Ok(form) => run_form(alloc, &form),
-        Err(FormStop::NotForm { at, kind }) => Err(Refusal::Syntax { at, kind }),
-        Err(FormStop::NoMemory) => Err(Refusal::NoMemory),
-    }
+    let tokens = tokens_of(alloc, bytes)?;
+    let decls = decls_of(alloc, bytes, &tokens)?;
+    run_decls(alloc, bytes, &tokens, &decls)
 }
 
 /// Reads a file and runs the program of its text.

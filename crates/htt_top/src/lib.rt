@@ -7,6 +7,7 @@ mod go;
 mod laws;
 mod read;
 mod run;
+mod text;
 
 pub use command::htt_command;
 pub use laws::heap_files_fit;

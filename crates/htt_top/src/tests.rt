@@ -3,7 +3,7 @@
 
 use crate::htt_command;
 use htt_base::{MemFiles, MemSink, Status};
-use htt_words::{Bound, Kind, Rule, Which};
+use htt_words::{Bound, Kind, Rule, SyntaxKind, Which};
 use std::alloc::{AllocError, Global};
 use std::test::Fail;
 
@@ -88,18 +88,102 @@ fn texts_have_their_answers(rt: HostRuntime) -> Result<(), Fail> {
     Ok(())
 }
 
+/// The form with blanks, comments and digits in other places, and a claim that is wrong in one of them.
+#[test]
+fn texts_are_read_by_their_tokens(rt: HostRuntime) -> Result<(), Fail> {
+    let wrong = Status::No {
+        decl: 1,
+        at: 150,
+        rule: Rule::Infer,
+    };
+    for (text, status) in [
+        (
+            b"val main:{tt}x:word{x=[word]0005}=do ret 002+03proof main.01=intro u;second(u)".as_slice(),
+            Status::Done,
+        ),
+        (
+            b"val--\nmain--\n:--\n{--\ntt--\n}--\nx--\n:--\nword--\n{--\nx--\n=--\n[--\nword--\n]--\n6--\n}--\n=--\ndo--\nret--\n2--\n+--\n3--\nproof--\nmain--\n.--\n1--\n=--\nintro--\nu--\n;--\nsecond--\n(--\nu--\n)--".as_slice(),
+            wrong,
+        ),
+        (
+            b"-- \xe2\x86\x92\rval\nval main:{tt}x:word{x=[word]5}=do\tret\r\n5 proof main.1=intro u;second(u)".as_slice(),
+            Status::Done,
+        ),
+    ] {
+        let (answer, _) = command(rt.alloc(), &["go", "F"], text, b"", &[], &[])?;
+        assert_eq!(rt; answer, status);
+    }
+    Ok(())
+}
+
+/// Texts that are refused, with the place and the kind. The last ones are files, but not of the form.
 #[test]
 fn other_texts_are_refused(rt: HostRuntime) -> Result<(), Fail> {
-    for text in [
-        b"".as_slice(),
-        b"\xff".as_slice(),
-        b"val".as_slice(),
-        NO_PROOF,
-        TOO_LARGE,
+    for (text, at, kind) in [
+        (b"\xff".as_slice(), 0, SyntaxKind::Utf8),
+        (b"val main -- \xe2".as_slice(), 12, SyntaxKind::Utf8),
+        (b"val\x0cmain".as_slice(), 3, SyntaxKind::Char),
+        (b"% 18446744073709551616".as_slice(), 0, SyntaxKind::Char),
+        (TOO_LARGE, 36, SyntaxKind::Literal),
+        (b"val  ".as_slice(), 5, SyntaxKind::Token),
+        (b"val main val".as_slice(), 9, SyntaxKind::Token),
+        (b"type a = word)".as_slice(), 13, SyntaxKind::Token),
+        (b"".as_slice(), 0, SyntaxKind::Token),
+        (NO_PROOF, 0, SyntaxKind::Token),
+        (b"-- a\n type a = word".as_slice(), 6, SyntaxKind::Token),
+        (
+            b"val main:{tt}x:word{x=[word]5}=do ret 5 proof main.2=intro u;second(u)".as_slice(),
+            0,
+            SyntaxKind::Token,
+        ),
+        (
+            b"val main:{tt}y:word{y=[word]5}=do ret 5 proof main.1=intro u;second(u)".as_slice(),
+            0,
+            SyntaxKind::Token,
+        ),
     ] {
         let (answer, printed) = command(rt.alloc(), &["go", "F"], text, b"", &[], &[])?;
-        assert!(rt; matches!(answer, Status::Syntax { .. }), "{answer:?}");
+        assert_eq!(rt; answer, Status::Syntax { at, kind });
         assert!(rt; printed.as_slice().starts_with(b"syntax "));
+    }
+    Ok(())
+}
+
+/// A text that goes on with a part, so many times.
+fn repeated(alloc: Global, start: &[u8], part: &[u8], count: u32) -> Result<Vec<u8>, AllocError> {
+    let mut text = start.to_vec(alloc)?;
+    for _ in 0..count {
+        text.extend_from_slice(part)?;
+    }
+    Ok(text)
+}
+
+#[test]
+fn texts_have_their_limits(rt: HostRuntime) -> Result<(), Fail> {
+    let other = Status::Syntax {
+        at: 0,
+        kind: SyntaxKind::Token,
+    };
+    let nesting = Status::Limit {
+        which: Which::Nesting,
+    };
+    let chain = Status::Limit {
+        which: Which::Chain,
+    };
+    for (start, part, count, status) in [
+        (b"type a = word".as_slice(), b"*word".as_slice(), 255, other),
+        (
+            b"type a = word".as_slice(),
+            b"*word".as_slice(),
+            256,
+            nesting,
+        ),
+        (b"def a : word = 1".as_slice(), b"+1".as_slice(), 63, other),
+        (b"def a : word = 1".as_slice(), b"+1".as_slice(), 64, chain),
+    ] {
+        let text = repeated(rt.alloc(), start, part, count)?;
+        let (answer, _) = command(rt.alloc(), &["go", "F"], &text, b"", &[], &[])?;
+        assert_eq!(rt; answer, status);
     }
     Ok(())
 }

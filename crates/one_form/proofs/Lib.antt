@@ -1,4 +1,7 @@
-pub mod Pieces
-pub mod Cutting
-pub mod Matching
+pub mod Lists
+pub mod Operands
+pub mod Claims
+pub mod Endings
+pub mod ReadTerms
+pub mod ReadClaims
 pub mod Meaning

@@ -1,4 +1,3 @@
-pub mod Tokens
 pub mod Form
-pub mod Pieces
 pub mod Matching
+pub mod Examples

@@ -1,17 +1,17 @@
-//! The reader of the one form of a file that is built so far: a program that returns a number or the
-//! sum of two, with a claim on its result and the proof of the claim.
+//! The one form of a file that is run so far: a program that returns a number or the sum of two, with
+//! a claim on its result and the proof of the claim.
 //!
-//! The text is first cut into tokens and then the tokens are compared with those of the form, so that
-//! blanks and comments are spoken of in one place only. What a text is, and that it says one thing at
-//! most, stands in `specs/Tokens.antt` and `specs/Form.antt`.
+//! The declarations are compared with those of the form, from the outside to the inside: each
+//! function looks at one level of a tree. What the declarations of the form are stands in
+//! `specs/Form.antt`.
 #![tactic(auto)]
 
+mod form;
+mod formulas;
 mod laws;
-mod lexer;
-mod parser;
-#[cfg(test)]
-mod tests;
-mod tokens;
+mod names;
+mod proofs_of_claims;
+mod terms;
 
-pub use laws::{example_reading, one_meaning, one_reading};
-pub use parser::{Form, FormStop, read_form};
+pub use form::{Form, form_of};
+pub use laws::{example_form, one_meaning};

@@ -1,6 +1,0 @@
-use Rattle.std.specs.Char.{is_ascii_digit}
-use Rattle.one_form.proofs.Pieces.{take_while-passes}
-use Rattle.one_form.proofs.lexer.number_piece.Goals as goal
-
-pub number_of-requires : goal.number_of-requires
-number_of-requires c = take_while-passes is_ascii_digit c.args.text.now _ c.digits_length-length.ensures

@@ -1,0 +1,4 @@
+pub mod Chains
+pub mod Further
+pub mod Lists
+pub mod ProofSteps

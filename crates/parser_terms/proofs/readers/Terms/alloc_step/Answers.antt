@@ -1,0 +1,16 @@
+use Rattle.std.proofs.Common.{◌-◌, refl}
+use Rattle.raw_trees.specs.TreeLevels.{step_alloc}
+use Rattle.parser_words.proofs.Steps.{stopped, after_err, reading}
+use Rattle.parser_terms.proofs.readers.Terms.alloc_step.Goals as goal
+
+pub returns-in_err-mono-clause-gives : goal.returns-in_err-mono-clause-gives
+unfolding reading
+returns-in_err-mono-clause-gives g c = stopped _ _ _ _ _ c.from_residual.ensures.1 (after_err _ _ _ _ c.in_err-mono.ensures)
+
+pub returns-in_err-value-clause-gives : goal.returns-in_err-value-clause-gives
+unfolding reading
+returns-in_err-value-clause-gives g c = stopped _ _ _ _ _ c.from_residual-in_err-value.ensures.1 (rw c.in_ok-mono.ensures (after_err _ _ _ _ c.in_err-value.ensures))
+
+pub returns-clause-gives : goal.returns-clause-gives
+unfolding reading
+returns-clause-gives g c = rw (c.in_ok-mono.ensures, c.in_ok-value.ensures, step_alloc) refl
