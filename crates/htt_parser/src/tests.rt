@@ -300,3 +300,17 @@ fn declarations_stand_in_their_order(rt: HostRuntime) -> Result<(), Fail> {
     assert_eq!(rt; formula, Some(ParseStop::Expected { at: 0 }));
     Ok(())
 }
+
+#[test]
+fn the_limit_is_answered_only_where_a_monotype_can_begin(rt: HostRuntime) -> Result<(), Fail> {
+    for (last, refusal) in [
+        ("word", ParseStop::TooNested { at: 1_536 }),
+        (")", ParseStop::Expected { at: 1_536 }),
+    ] {
+        let text = around(rt, "word *", last, "", 256)?;
+        let found = tokens(rt.alloc(), text.as_bytes())?;
+        let refused = parse_mono(rt.alloc(), text.as_bytes(), &found).err();
+        assert_eq!(rt; refused, Some(refusal), "{last}");
+    }
+    Ok(())
+}
