@@ -15,7 +15,7 @@ use Rattle.htt_grammar.proofs.Files.{file_gets}
 use Rattle.htt_reading.specs.Laws.{outermost}
 use Rattle.htt_reading.proofs.Words.{Stands}
 use Rattle.read_places.specs.Alike.{Alike}
-use Rattle.read_places.proofs.Follows.{Kept, Answers}
+use Rattle.read_places.proofs.Follows.{in_none, in_all, Kept, Answers}
 use Rattle.read_places.proofs.Words.{Follow}
 use Rattle.read_places.proofs.Files.{decl_follows, file_follows}
 use Rattle.read_completions.proofs.Halts.{Past, Stopped, fit_both}
@@ -33,11 +33,11 @@ use Rattle.htt_refusals.proofs.Places.{clash, one_more, wider, widest, knows_wid
 stands : Stands the_limits 0
 stands = record { level = lit≤ tt; chain = lit≤ tt }
 
-answers_wide : (m k : ℕ) (d : Deeper) → Follow false outermost d → (few : ℕ) (tokens : List Token) (halt : Halt) → file_on outermost m tokens ≡ Err halt → Answers false few (file_on d (m + k)) tokens (Err halt)
-answers_wide m k d follow few tokens halt e = subst (λ o. Answers false few (file_on d (m + k)) tokens o) e ((file_follows outermost d follow {i = length tokens} {j = few} m (m + k) (omega arith)).answers tokens (omega arith))
+answers_wide : (m k : ℕ) (d : Deeper) → Follow in_all outermost d → (few : ℕ) (tokens : List Token) (halt : Halt) → file_on outermost m tokens ≡ Err halt → Answers in_all few (file_on d (m + k)) tokens (Err halt)
+answers_wide m k d follow few tokens halt e = subst (λ o. Answers in_all few (file_on d (m + k)) tokens o) e ((file_follows outermost d follow {i = length tokens} {j = few} m (m + k) (omega arith)).answers tokens (omega arith))
 
-answers_same : (m few : ℕ) (tokens : List Token) (halt : Halt) → file_on outermost m tokens ≡ Err halt → Answers true few (file_on outermost m) tokens (Err halt)
-answers_same m few tokens halt e = subst (λ o. Answers true few (file_on outermost m) tokens o) e ((file_follows outermost outermost follow_outermost {i = length tokens} {j = few} m m refl).answers tokens (omega arith))
+answers_same : (m few : ℕ) (tokens : List Token) (halt : Halt) → file_on outermost m tokens ≡ Err halt → Answers in_none few (file_on outermost m) tokens (Err halt)
+answers_same m few tokens halt e = subst (λ o. Answers in_none few (file_on outermost m) tokens o) e ((file_follows outermost outermost follow_outermost {i = length tokens} {j = few} m m refl).answers tokens (omega arith))
 
 reads_wide : (m : ℕ) (tokens : List Token) (y : List DeclTree) → AllFit tokens (Grammar.file y) → file_on (widest (Grammar.file y)) (m + length y) tokens ≡ Ok (y, [])
 reads_wide m tokens y fit = (file_gets (widest (Grammar.file y)) (knows_widest (Grammar.file y)) {n = length tokens} (m + length y) y (omega arith)).reads tokens [] (omega arith) (spelled (wider (Grammar.file y)) tokens (Grammar.file y) fit (all_within (Grammar.file y))) tt
@@ -90,7 +90,7 @@ behind_one m x (Ok read) p h = tt
 behind_one m x (Err halt) (Err halted) h = tt
 behind_one m x (Err halt) (Ok read) h = λ is. longer m (length read.0) (h is)
 
-module _ (d : Deeper) (follow : Follow false outermost d) where
+module _ (d : Deeper) (follow : Follow in_all outermost d) where
   first_decl : (j : ℕ) (halt : Halt) (o : Result (DeclTree × List Token) Halt) → Many 0 (Err halt) (after o (λ x. file_on d j >>= (λ xs. give (x ∷ xs))))
   unfolding ◌>>=◌
   first_decl j halt (Ok read) = one_at_least read.0 halt (file_on d j read.1)
@@ -117,7 +117,7 @@ module _ (d : Deeper) (follow : Follow false outermost d) where
       by_decl m j (t ∷ ts) (decl_at outermost (t ∷ ts)) (decl_at d (t ∷ ts)) (same_ok (λ n k. decl_follows outermost d follow) (t ∷ ts))
       ((decl_ends outermost stands ending_outermost).halts.halted (t ∷ ts) (t ∷ ts) (λ ns end s. s) (λ a b. refl)) (λ mid. many m j mid)
 
-many_there : (m j : ℕ) (d : Deeper) → Follow false outermost d → (ts : List Token) (y : List DeclTree) (halt : Halt) → file_on outermost m ts ≡ Err halt → file_on d j ts ≡ Ok (y, []) → halt.why ≡ too_many → m < length y
+many_there : (m j : ℕ) (d : Deeper) → Follow in_all outermost d → (ts : List Token) (y : List DeclTree) (halt : Halt) → file_on outermost m ts ≡ Err halt → file_on d j ts ≡ Ok (y, []) → halt.why ≡ too_many → m < length y
 many_there m j d follow ts y halt e read = subst (λ o. Many m o (Ok (y, []))) e (subst (λ o. Many m (file_on outermost m ts) o) read (many d follow m j ts))
 
 too_few : (m n ten : ℕ) → m ≡ ten → n ≤ ten → m < n → ⊥
@@ -129,7 +129,7 @@ short ten tree few = record { decls = tree; count = subst (λ n. length tree ≤
 module _ (m : ℕ) (tokens : List Token) (halt : Halt) (e : file_on outermost m tokens ≡ Err halt) (before : List Token) (parts : tokens ≡ before ++ halt.rest) where
   none_alike : halt.why ≡ expected → (other : List Token) → Alike halt.rest other → (y : List DeclTree) → AllFit (before ++ other) (Grammar.file y) → ⊥
   none_alike is other alike y fit =
-      clash (answers_wide m (length y) (widest (Grammar.file y)) (follow_widest (Grammar.file y)) (length (before ++ other)) tokens halt e) before other parts alike (omega arith) (subst (λ w. Kept false w) (sym is) tt) y (reads_wide m (before ++ other) y fit)
+      clash (answers_wide m (length y) (widest (Grammar.file y)) (follow_widest (Grammar.file y)) (length (before ++ other)) tokens halt e) before other parts alike (omega arith) (subst (λ w. Kept in_all w) (sym is) tt) y (reads_wide m (before ++ other) y fit)
 
   none_goes_on : halt.why ≡ expected → (rest : List Token) → halt.rest ≡ rest → NoneGoesOn Grammar.file before rest
   none_goes_on is [] at_end = λ y fit. none_alike is [] (subst (λ ts. Alike ts []) (sym at_end) tt) y (subst (λ ts. AllFit ts (Grammar.file y)) (sym (append-nil before)) fit)

@@ -14,7 +14,7 @@ use Rattle.htt_grammar.proofs.Gets.{Gets}
 use Rattle.htt_grammar.proofs.Monotypes.{Knows}
 use Rattle.htt_reading.specs.Laws.{outermost}
 use Rattle.read_places.specs.Alike.{Alike}
-use Rattle.read_places.proofs.Follows.{Kept, Answers, Follows}
+use Rattle.read_places.proofs.Follows.{Greater, in_none, in_all, Kept, Answers, Follows}
 use Rattle.read_places.proofs.Words.{Follow}
 use Rattle.read_completions.proofs.Halts.{Completion, Past, Ends, Stopped}
 use Rattle.read_completions.proofs.Words.{Ending}
@@ -27,11 +27,11 @@ use Rattle.htt_refusals.specs.Refusals.{NoneGoesOn, NoneWithin, IsRight, Refusal
 use Rattle.htt_refusals.specs.Laws.{MonoIsRefused, FormulaIsRefused, ProofIsRefused, MonoIsEnded, FormulaIsEnded, ProofIsEnded, nothing_left, to_end, WholeMonoIsRefused, WholeFormulaIsRefused, WholeProofIsRefused}
 use Rattle.htt_refusals.proofs.Places.{clash, clash_ended, one_more, wider, widest, knows_widest, all_within, follow_widest, follow_outermost, ending_outermost, bar_widest, not_past, fit_whole}
 
-module _ {A : Type 0} (read : Deeper → Reader A) (marks : A → List Mark) (c : Kind → Bool) (gets : (lim : Limits) (d : Deeper) → Knows lim d 1 → (n : ℕ) (x : A) → Gets lim c n (read d) (marks x) x) (follows : (b : Bool) (d e : Deeper) → Follow b d e → (n m : ℕ) → Follows b n m (read d) (read e)) (ends : (lim : Limits) (d : Deeper) → Ending lim d 1 → Ends lim (read d) marks) (barred : (d : Deeper) → Bar the_limits outermost d 1 → Bars the_limits (λ ns. ns) (read outermost) (read d) marks) where
+module _ {A : Type 0} (read : Deeper → Reader A) (marks : A → List Mark) (c : Kind → Bool) (gets : (lim : Limits) (d : Deeper) → Knows lim d 1 → (n : ℕ) (x : A) → Gets lim c n (read d) (marks x) x) (follows : (b : Greater) (d e : Deeper) → Follow b d e → (n m : ℕ) → Follows b n m (read d) (read e)) (ends : (lim : Limits) (d : Deeper) → Ending lim d 1 → Ends lim (read d) marks) (barred : (d : Deeper) → Bar the_limits outermost d 1 → Bars the_limits (λ ns. ns) (read outermost) (read d) marks) where
   outer : Ends the_limits (read outermost) marks
   outer = ends the_limits outermost ending_outermost
 
-  answers : (b : Bool) (d : Deeper) → Follow b outermost d → (m : ℕ) (tokens : List Token) (o : Result (A × List Token) Halt) → read outermost tokens ≡ o → Answers b m (read d) tokens o
+  answers : (b : Greater) (d : Deeper) → Follow b outermost d → (m : ℕ) (tokens : List Token) (o : Result (A × List Token) Halt) → read outermost tokens ≡ o → Answers b m (read d) tokens o
   answers b d follow m tokens o e = subst (λ p. Answers b m (read d) tokens p) e ((follows b outermost d follow (length tokens) m).answers tokens (omega arith))
 
   reads_wide : (tokens : List Token) (y : A) → AllFit tokens (marks y) → read (widest (marks y)) tokens ≡ Ok (y, [])
@@ -40,7 +40,7 @@ module _ {A : Type 0} (read : Deeper → Reader A) (marks : A → List Mark) (c 
   module _ (tokens : List Token) (halt : Halt) (e : read outermost tokens ≡ Err halt) (before : List Token) (parts : tokens ≡ before ++ halt.rest) where
     none_alike : halt.why ≡ expected → (other : List Token) → Alike halt.rest other → (y : A) → AllFit (before ++ other) (marks y) → ⊥
     none_alike is other alike y fit =
-        clash (answers false (widest (marks y)) (follow_widest (marks y)) (length (before ++ other)) tokens (Err halt) e) before other parts alike (omega arith) (subst (λ w. Kept false w) (sym is) tt) y (reads_wide (before ++ other) y fit)
+        clash (answers in_all (widest (marks y)) (follow_widest (marks y)) (length (before ++ other)) tokens (Err halt) e) before other parts alike (omega arith) (subst (λ w. Kept in_all w) (sym is) tt) y (reads_wide (before ++ other) y fit)
 
     none_goes_on : halt.why ≡ expected → (rest : List Token) → halt.rest ≡ rest → NoneGoesOn marks before rest
     none_goes_on is [] at_end = λ y fit. none_alike is [] (subst (λ ts. Alike ts []) (sym at_end) tt) y (subst (λ ts. AllFit ts (marks y)) (sym (append-nil before)) fit)
@@ -52,7 +52,7 @@ module _ {A : Type 0} (read : Deeper → Reader A) (marks : A → List Mark) (c 
         let us = before ++ (t ∷ begins.more) in
         let fit : AllFit us (marks y) = subst (λ ts. AllFit ts (marks y)) (one_more before t begins.more) (fit_whole (before ++ (t ∷ [])) begins.more begins.first begins.others (marks y) begins.whole begins.fit begins.goes_on) in
         not_past (barred (widest (marks y)) (bar_widest (marks y))) before t begins.more halt.why limit
-        (answers_alike (answers true outermost follow_outermost (length us) tokens (Err halt) e) before (t ∷ begins.more) parts (subst (λ ts. Alike ts (t ∷ begins.more)) (sym there) refl) (omega arith) (kept_same halt.why))
+        (answers_alike (answers in_none outermost follow_outermost (length us) tokens (Err halt) e) before (t ∷ begins.more) parts (subst (λ ts. Alike ts (t ∷ begins.more)) (sym there) refl) (omega arith) (kept_same halt.why))
         y (reads_wide us y fit) begins.first begins.others begins.whole begins.fit begins.within
 
     is_right : (why : Why) (rest more : List Token) (others : List Mark) (tree : A) (first : List Mark) → marks tree ≡ first ++ others → AllFit before first → AllWithin the_limits first → AllFit more others → halt.why ≡ why → halt.rest ≡ rest → Past the_limits why rest more others → IsRight the_limits marks before why rest
@@ -81,7 +81,7 @@ module _ {A : Type 0} (read : Deeper → Reader A) (marks : A → List Mark) (c 
         parts = p.parts;
         derived = p.fit;
         within = p.within;
-        none = λ begins. clash_ended (answers false (widest (marks begins.tree)) (follow_widest (marks begins.tree)) (length (p.before ++ (token ∷ begins.more))) tokens (Ok (tree, token ∷ rest)) e) p.before begins.more p.parts (omega arith) begins.tree
+        none = λ begins. clash_ended (answers in_all (widest (marks begins.tree)) (follow_widest (marks begins.tree)) (length (p.before ++ (token ∷ begins.more))) tokens (Ok (tree, token ∷ rest)) e) p.before begins.more p.parts (omega arith) begins.tree
             (reads_wide (p.before ++ (token ∷ begins.more)) begins.tree (subst (λ ts. AllFit ts (marks begins.tree)) (one_more p.before token begins.more) begins.fit));
       }
 

@@ -14,7 +14,7 @@ use Rattle.htt_grammar.proofs.One.{levels, operands, within}
 use Rattle.htt_reading.specs.Laws.{outermost}
 use Rattle.htt_reading.proofs.Tells.{left_of}
 use Rattle.read_places.specs.Alike.{Alike}
-use Rattle.read_places.proofs.Follows.{Kept, Answers}
+use Rattle.read_places.proofs.Follows.{Greater, in_none, in_all, Kept, Answers}
 use Rattle.read_places.proofs.Words.{Follow}
 use Rattle.read_places.proofs.Files.{follow_self, follow_greater}
 use Rattle.read_completions.proofs.Halts.{fit_both}
@@ -29,12 +29,12 @@ use Rattle.read_limits.proofs.Files.{bar}
 
 -- ---- a reader that follows doesn't read on to the end
 
-pub clash : {A : Type 0} {b : Bool} {m : ℕ} {q : Reader A} {us : List Token} {halt : Halt} → Answers b m q us (Err halt) → (before other : List Token) → us ≡ before ++ halt.rest → Alike halt.rest other → length (before ++ other) ≤ m → Kept b halt.why → (y : A) → q (before ++ other) ≡ Ok (y, []) → ⊥
+pub clash : {A : Type 0} {b : Greater} {m : ℕ} {q : Reader A} {us : List Token} {halt : Halt} → Answers b m q us (Err halt) → (before other : List Token) → us ≡ before ++ halt.rest → Alike halt.rest other → length (before ++ other) ≤ m → Kept b halt.why → (y : A) → q (before ++ other) ≡ Ok (y, []) → ⊥
 clash got before other parts alike fits kept y read =
     let stops = answers_alike got before other parts alike fits kept in
     cc (sym read ∙ stops)
 
-pub clash_ended : {A : Type 0} {b : Bool} {m : ℕ} {q : Reader A} {us : List Token} {x : A} {token : Token} {rest : List Token} → Answers b m q us (Ok (x, token ∷ rest)) → (before other : List Token) → us ≡ before ++ (token ∷ rest) → length (before ++ (token ∷ other)) ≤ m → (y : A) → q (before ++ (token ∷ other)) ≡ Ok (y, []) → ⊥
+pub clash_ended : {A : Type 0} {b : Greater} {m : ℕ} {q : Reader A} {us : List Token} {x : A} {token : Token} {rest : List Token} → Answers b m q us (Ok (x, token ∷ rest)) → (before other : List Token) → us ≡ before ++ (token ∷ rest) → length (before ++ (token ∷ other)) ≤ m → (y : A) → q (before ++ (token ∷ other)) ≡ Ok (y, []) → ⊥
 unfolding left_of
 clash_ended {token = token} got before other parts fits y read =
     let ends = answers_alike got before (token ∷ other) parts refl fits tt in
@@ -58,10 +58,10 @@ knows_widest ms = knows (wider ms) (wider ms).chain (wider ms).nesting 1 (omega 
 pub all_within : (ms : List Mark) → AllWithin (wider ms) ms
 all_within ms = within ms (wider ms) (omega arith) (omega arith)
 
-pub follow_widest : (ms : List Mark) → Follow false outermost (widest ms)
+pub follow_widest : (ms : List Mark) → Follow in_all outermost (widest ms)
 follow_widest ms = follow_greater 63 (wider ms).chain 256 (wider ms).nesting (omega arith) (omega arith)
 
-pub follow_outermost : Follow true outermost outermost
+pub follow_outermost : Follow in_none outermost outermost
 follow_outermost = follow_self 63 256
 
 pub ending_outermost : Ending the_limits outermost 1
@@ -92,11 +92,11 @@ stands_within lim (b ∷ before) t (f ∷ first) m others [] rest fit fits same 
 stands_within lim (b ∷ before) t (f ∷ first) m others (a ∷ all) rest fit fits same within = stands_within lim before t first m others all rest fit.1 fits.1 (same_tail a f (all ++ rest) (first ++ (m ∷ others)) same) within.1
 
 -- a reader that stops at a limit, where another reads a tree whose marks up to there are within it
-pub not_past : {A : Type 0} {r q : Reader A} {marks : A → List Mark} → Bars the_limits (λ ns. ns) r q marks → (before : List Token) (t : Token) (more : List Token) (why : Why) → IsLimit why → r (before ++ (t ∷ more)) ≡ Err (record { why = why; rest = t ∷ more }) → (y : A) → q (before ++ (t ∷ more)) ≡ Ok (y, []) → (all rest : List Mark) → marks y ≡ all ++ rest → AllFit (before ++ (t ∷ [])) all → AllWithin the_limits all → ⊥
-not_past bars before t more why limit stops y reads all rest whole fits within =
+pub not_past : {A : Type 0} {lim : Limits} {r q : Reader A} {marks : A → List Mark} → Bars lim (λ ns. ns) r q marks → (before : List Token) (t : Token) (more : List Token) (why : Why) → IsLimit why → r (before ++ (t ∷ more)) ≡ Err (record { why = why; rest = t ∷ more }) → (y : A) → q (before ++ (t ∷ more)) ≡ Ok (y, []) → (all rest : List Mark) → marks y ≡ all ++ rest → AllFit (before ++ (t ∷ [])) all → AllWithin lim all → ⊥
+not_past {lim = lim} bars before t more why limit stops y reads all rest whole fits within =
     let p = stops_past bars (before ++ (t ∷ more)) (record { why = why; rest = t ∷ more }) y [] stops limit reads in
     let same : p.before ≡ before = append_cancel_right p.before before (t ∷ more) (sym p.parts) in
-    p.past (stands_within the_limits before t p.first p.mark p.others all rest (subst (λ ts. AllFit ts p.first) same p.fit) fits (sym whole ∙ p.whole) within)
+    p.past (stands_within lim before t p.first p.mark p.others all rest (subst (λ ts. AllFit ts p.first) same p.fit) fits (sym whole ∙ p.whole) within)
 
 -- tokens that fit the marks of a tree, put together
 pub fit_whole : (tokens more : List Token) (first others ms : List Mark) → ms ≡ first ++ others → AllFit tokens first → AllFit more others → AllFit (tokens ++ more) ms

@@ -10,7 +10,7 @@ use Rattle.htt_grammar.specs.Readers.{Reader, Halt, Why, expected, too_nested, t
 use Rattle.htt_grammar.proofs.Spells.{Spells, Opens, Begins}
 use Rattle.htt_reading.proofs.Tells.{Tells, join, same_kinds}
 use Rattle.read_limits.specs.Limits.{IsLimit}
-use Rattle.read_places.proofs.Follows.{Answers, Follows, alike_self}
+use Rattle.read_places.proofs.Follows.{Greater, Answers, Follows, alike_self}
 
 -- the tree begins with what was read before the stop, and goes on past the limits
 pub record Barrier {A : Type 0} (lim : Limits) (marks : A → List Mark) (ts : List Token) (halt : Halt) (tree : A) : Type 0 where
@@ -53,7 +53,7 @@ pub record Barred {A : Type 0} (lim : Limits) (reader other : Reader A) (marks :
   pub same : (ts : List Token) → SameOk (reader ts) (other ts)
   pub bars : Bars lim (λ ns. ns) reader other marks
 
-pub same_ok : {A : Type 0} {b : Bool} {r q : Reader A} → ((n m : ℕ) → Follows b n m r q) → (ts : List Token) → SameOk (r ts) (q ts)
+pub same_ok : {A : Type 0} {b : Greater} {r q : Reader A} → ((n m : ℕ) → Follows b n m r q) → (ts : List Token) → SameOk (r ts) (q ts)
 same_ok {A = A} {b = b} {r = r} {q = q} follows ts = by_answer (r ts) ((follows (length ts) (length ts)).answers ts (omega arith))
   where
     by_answer : (o : Result (A × List Token) Halt) → Answers b (length ts) q ts o → SameOk o (q ts)

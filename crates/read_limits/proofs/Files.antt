@@ -11,7 +11,6 @@ use Rattle.htt_grammar.specs.Readers.{measured, give, ◌>>=◌, if_first, after
 use Rattle.htt_grammar.specs.Phrases.{Deeper, a_name_there, is_close}
 use Rattle.htt_grammar.specs.Reading.{deeper, mono_parameter_at, mono_parameters_at, pred_on, induct_on, pred_case, body_case, body_at, typed_on, decl_case, decl_at, file_on}
 use Rattle.std.proofs.Common.{◌≡◌, ℕ, zero, suc, ◌+◌, ◌<◌, ◌≤◌, List, [], ◌∷◌, ◌++◌, refl, sym, ap, arith}
-use Rattle.std.specs.Prelude.{false}
 use Rattle.htt_reading.proofs.Tells.{list_in_brackets}
 use Rattle.htt_reading.proofs.Words.{Trusts, Stands}
 use Rattle.read_limits.proofs.Bars.{Bars, Barred, Case, same_ok, bars_then, bars_last, bars_give, bars_stop, bars_refuse, bars_reround, bars_either, bars_first, bars_deep, bars_many}
@@ -19,6 +18,7 @@ use Rattle.read_limits.proofs.Words.{Bar, at_word, a_word, a_sign', skip, binder
 use Rattle.htt_grammar.specs.Beginnings.{begins_mono, begins_ty, begins_term, begins_comp, begins_fatom, begins_formula, begins_proof}
 use Rattle.htt_grammar.proofs.Opens.{opens_ty, opens_term, opens_comp, opens_formula, opens_disj, opens_conj, opens_star, opens_mono, opens_proof}
 use Rattle.htt_reading.proofs.Files as told_here
+use Rattle.read_places.proofs.Follows.{in_all}
 use Rattle.read_places.proofs.Words.{Follow, Chain, chain_less, chain_none}
 use Rattle.read_places.proofs.Words as words
 use Rattle.read_places.proofs.Files.{follow_greater}
@@ -31,7 +31,7 @@ pub bar : (lim : Limits) (further more n m l : ℕ) → suc further ≡ lim.chai
 unfolding deeper
 bar lim further more zero m l chain room wide deep =
     let trust : Trusts lim (deeper further zero) l = told_here.trusts lim further zero l (omega (arith, chain)) (omega (arith, room)) in
-    let follow : Follow false (deeper further zero) (deeper more m) = follow_greater further more zero m wide deep in
+    let follow : Follow in_all (deeper further zero) (deeper more m) = follow_greater further more zero m wide deep in
     let past : lim.nesting < l = omega (arith, room) in
     record {
       trust = trust;
@@ -120,9 +120,9 @@ module _ {lim : Limits} (d d' : Deeper) (here : Stands lim 0) (trust : Bar lim d
   unfolding decl_at
   decl_barred = record { tells = told_here.decl_tells d here trust.trust; same = same_ok (λ n m. places.decl_follows d d' trust.follow); bars = bars_either _ _ decl_bars bars_stop }
 
-  pub file_bars : (m j : ℕ) → Chain false m j → Bars lim (λ ns. ns) (file_on d m) (file_on d' j) Grammar.file
+  pub file_bars : (m j : ℕ) → Chain in_all m j → Bars lim (λ ns. ns) (file_on d m) (file_on d' j) Grammar.file
   unfolding file_on
   file_bars zero zero chain = bars_first _ (bars_refuse _ _) (bars_give _ refl)
   file_bars zero (suc j) chain = bars_first _ (bars_many _) (bars_give _ refl)
-  file_bars (suc m) zero chain = absurd (chain_none false m chain)
-  file_bars (suc m) (suc j) chain = bars_first _ (bars_then decl_barred (λ x. bars_last (λ xs. x ∷ xs) (file_bars m j (chain_less false m j chain)) (λ xs. refl))) (bars_give _ refl)
+  file_bars (suc m) zero chain = absurd (chain_none in_all m chain)
+  file_bars (suc m) (suc j) chain = bars_first _ (bars_then decl_barred (λ x. bars_last (λ xs. x ∷ xs) (file_bars m j (chain_less in_all m j chain)) (λ xs. refl))) (bars_give _ refl)

@@ -13,7 +13,6 @@ use Rattle.htt_grammar.specs.Readers.{give, ◌>>=◌, token}
 use Rattle.htt_grammar.specs.Phrases.{Deeper}
 use Rattle.htt_grammar.specs.Reading.{arg_case, arg_at, more_args, args_there, motive_at, args_on, proofs_on, app_more, inst_more, unary_at, axiom_case, end_case, end_at, stmt_case, stmt_at, proof_on, proof_at}
 use Rattle.std.proofs.Common.{◌≡◌, ℕ, zero, suc, ◌+◌, List, [], ◌∷◌, ◌++◌, refl, sym, ap, arith, append_assoc}
-use Rattle.std.specs.Prelude.{false}
 use Rattle.htt_reading.proofs.Tells.{list_in_brackets}
 use Rattle.htt_reading.proofs.Words.{Stands}
 use Rattle.read_limits.proofs.Bars.{Bars, Barred, Case, same_ok, forms_then, forms_last, forms_give, bars_then, bars_last, bars_give, bars_stop, bars_refuse, bars_either, bars_first, bars_measured, bars_past}
@@ -22,6 +21,7 @@ use Rattle.htt_grammar.specs.Beginnings.{begins_arg, begins_proof}
 use Rattle.htt_grammar.proofs.Spells.{Begins, begins_of}
 use Rattle.htt_grammar.proofs.Opens.{opens_proof, opens_operand}
 use Rattle.htt_reading.proofs.Proofs as told_here
+use Rattle.read_places.proofs.Follows.{in_all}
 use Rattle.read_places.proofs.Words.{Chain, chain_less, chain_none}
 use Rattle.read_places.proofs.Proofs as places
 use Rattle.read_limits.proofs.Terms.{chain_next, chain_now, at_most, none_left}
@@ -47,39 +47,39 @@ module _ {lim : Limits} (d d' : Deeper) (l : ℕ) (here : Stands lim l) (trust :
   unfolding motive_at ◌⨟◌
   motive_barred = record { tells = told_here.motive_tells d l here trust.trust; same = same_ok (λ n m. places.motive_follows d d' trust.follow); bars = bars_then (binder_barred l here) (λ b. skip l here DotSign (λ _. skip l here OpenBracketSign (λ _. bars_then trust.formula (λ f. skip l here CloseBracketSign (λ _. bars_give _ refl))))) }
 
-  args_on_bars : (m j k : ℕ) → Chain false m j → k + m ≡ suc lim.chain → Bars lim (λ ns. ns) (args_on d m) (args_on d' j) (Grammar.args_after l k)
+  args_on_bars : (m j k : ℕ) → Chain in_all m j → k + m ≡ suc lim.chain → Bars lim (λ ns. ns) (args_on d m) (args_on d' j) (Grammar.args_after l k)
   unfolding args_on ◌⨟◌
   args_on_bars zero zero k chain room = or_sign l here CommaSign (bars_refuse _ _) (bars_give _ refl)
   args_on_bars zero (suc j) k chain room = or_sign l here CommaSign (bars_past (arg_at d') begins_arg (Grammar.arg l) k (none_left k lim.chain room) (opens_operand l) (λ a. forms_last (args_on d' j) (Grammar.args_after l (suc k)) (λ more. a ∷ more) (λ more. refl))) (bars_give _ refl)
-  args_on_bars (suc m) zero k chain room = absurd (chain_none false m chain)
-  args_on_bars (suc m) (suc j) k chain room = or_sign l here CommaSign (bars_then (numbered_barred begins_arg k (chain_now k m lim.chain room) here.chain (opens_operand l) arg_barred) (λ a. bars_last (λ more. a ∷ more) (args_on_bars m j (suc k) (chain_less false m j chain) (chain_next k m lim.chain room)) (λ more. refl))) (bars_give _ refl)
+  args_on_bars (suc m) zero k chain room = absurd (chain_none in_all m chain)
+  args_on_bars (suc m) (suc j) k chain room = or_sign l here CommaSign (bars_then (numbered_barred begins_arg k (chain_now k m lim.chain room) here.chain (opens_operand l) arg_barred) (λ a. bars_last (λ more. a ∷ more) (args_on_bars m j (suc k) (chain_less in_all m j chain) (chain_next k m lim.chain room)) (λ more. refl))) (bars_give _ refl)
 
   opens_next : (p : ProofTree) → Begins begins_proof (Grammar.proof (suc l) p)
   opens_next p = begins_of begins_proof (suc l) (Grammar.proof (suc l) p) (opens_proof (suc l) p)
 
-  proofs_on_bars : (m j k : ℕ) → Chain false m j → k + m ≡ suc lim.chain → Bars lim (λ ns. ns) (proofs_on d m) (proofs_on d' j) (Grammar.proofs_after l k)
+  proofs_on_bars : (m j k : ℕ) → Chain in_all m j → k + m ≡ suc lim.chain → Bars lim (λ ns. ns) (proofs_on d m) (proofs_on d' j) (Grammar.proofs_after l k)
   unfolding proofs_on Grammar.proof ◌⨟◌
   proofs_on_bars zero zero k chain room = or_sign l here CommaSign (bars_refuse _ _) (bars_give _ refl)
   proofs_on_bars zero (suc j) k chain room = or_sign l here CommaSign (bars_past d'.proof begins_proof (Grammar.proof (suc l)) k (none_left k lim.chain room) opens_next (λ p. forms_last (proofs_on d' j) (Grammar.proofs_after l (suc k)) (more_proofs p) (λ more. refl))) (bars_give _ refl)
-  proofs_on_bars (suc m) zero k chain room = absurd (chain_none false m chain)
-  proofs_on_bars (suc m) (suc j) k chain room = or_sign l here CommaSign (bars_then (numbered_barred begins_proof k (chain_now k m lim.chain room) here.chain opens_next trust.proof) (λ a. bars_last (more_proofs a) (proofs_on_bars m j (suc k) (chain_less false m j chain) (chain_next k m lim.chain room)) (λ more. refl))) (bars_give _ refl)
+  proofs_on_bars (suc m) zero k chain room = absurd (chain_none in_all m chain)
+  proofs_on_bars (suc m) (suc j) k chain room = or_sign l here CommaSign (bars_then (numbered_barred begins_proof k (chain_now k m lim.chain room) here.chain opens_next trust.proof) (λ a. bars_last (more_proofs a) (proofs_on_bars m j (suc k) (chain_less in_all m j chain) (chain_next k m lim.chain room)) (λ more. refl))) (bars_give _ refl)
 
   all_room : 2 + d.further ≡ suc lim.chain
   all_room = let h = trust.further in omega (arith, h)
 
-  app_bars : (m j at : ℕ) → Chain false m j → 2 + m ≡ suc lim.chain → (p : ProofTree) → Bars lim (λ ns. word_at l AppWord at ⨟ (sign l OpenParenSign ⨟ (Grammar.proof (suc l) p ⨟ (sign l CommaSign ⨟ ns)))) (app_more d at m p) (app_more d' at j p) (Grammar.ending l)
+  app_bars : (m j at : ℕ) → Chain in_all m j → 2 + m ≡ suc lim.chain → (p : ProofTree) → Bars lim (λ ns. word_at l AppWord at ⨟ (sign l OpenParenSign ⨟ (Grammar.proof (suc l) p ⨟ (sign l CommaSign ⨟ ns)))) (app_more d at m p) (app_more d' at j p) (Grammar.ending l)
   unfolding app_more Grammar.proof ◌⨟◌
   app_bars zero zero at chain room p = bars_refuse _ _
   app_bars zero (suc j) at chain room p = bars_past d'.proof begins_proof (Grammar.proof (suc l)) 2 (none_left 2 lim.chain room) opens_next (λ q. forms_then (proofs_on d' j) (Grammar.proofs_after l 3) (λ qs. forms_then _ (λ _. sign l CloseParenSign) (λ _. forms_give (e_app at p q qs) refl)))
-  app_bars (suc m) zero at chain room p = absurd (chain_none false m chain)
-  app_bars (suc m) (suc j) at chain room p = bars_then (numbered_barred begins_proof 2 (chain_now 2 m lim.chain room) here.chain opens_next trust.proof) (λ q. bars_then (record { tells = told_here.proofs_on_tell d l here trust.trust m 3 (at_most 3 m lim.chain (chain_next 2 m lim.chain room)); same = same_ok (λ i k. places.proofs_on_follow d d' trust.follow m j (chain_less false m j chain)); bars = proofs_on_bars m j 3 (chain_less false m j chain) (chain_next 2 m lim.chain room) }) (λ qs. skip l here CloseParenSign (λ _. bars_give _ refl)))
+  app_bars (suc m) zero at chain room p = absurd (chain_none in_all m chain)
+  app_bars (suc m) (suc j) at chain room p = bars_then (numbered_barred begins_proof 2 (chain_now 2 m lim.chain room) here.chain opens_next trust.proof) (λ q. bars_then (record { tells = told_here.proofs_on_tell d l here trust.trust m 3 (at_most 3 m lim.chain (chain_next 2 m lim.chain room)); same = same_ok (λ i k. places.proofs_on_follow d d' trust.follow m j (chain_less in_all m j chain)); bars = proofs_on_bars m j 3 (chain_less in_all m j chain) (chain_next 2 m lim.chain room) }) (λ qs. skip l here CloseParenSign (λ _. bars_give _ refl)))
 
-  inst_bars : (m j at : ℕ) → Chain false m j → 2 + m ≡ suc lim.chain → (p : ProofTree) → Bars lim (λ ns. word_at l InstWord at ⨟ (sign l OpenParenSign ⨟ (Grammar.proof (suc l) p ⨟ (sign l CommaSign ⨟ ns)))) (inst_more d at m p) (inst_more d' at j p) (Grammar.ending l)
+  inst_bars : (m j at : ℕ) → Chain in_all m j → 2 + m ≡ suc lim.chain → (p : ProofTree) → Bars lim (λ ns. word_at l InstWord at ⨟ (sign l OpenParenSign ⨟ (Grammar.proof (suc l) p ⨟ (sign l CommaSign ⨟ ns)))) (inst_more d at m p) (inst_more d' at j p) (Grammar.ending l)
   unfolding inst_more Grammar.proof ◌⨟◌
   inst_bars zero zero at chain room p = bars_refuse _ _
   inst_bars zero (suc j) at chain room p = bars_past (arg_at d') begins_arg (Grammar.arg l) 2 (none_left 2 lim.chain room) (opens_operand l) (λ a. forms_then (args_on d' j) (Grammar.args_after l 3) (λ more. forms_then _ (λ _. sign l CloseParenSign) (λ _. forms_give (e_inst at p a more) refl)))
-  inst_bars (suc m) zero at chain room p = absurd (chain_none false m chain)
-  inst_bars (suc m) (suc j) at chain room p = bars_then (numbered_barred begins_arg 2 (chain_now 2 m lim.chain room) here.chain (opens_operand l) arg_barred) (λ a. bars_then (record { tells = told_here.args_on_tell d l here trust.trust m 3 (at_most 3 m lim.chain (chain_next 2 m lim.chain room)); same = same_ok (λ i k. places.args_on_follow d d' trust.follow m j (chain_less false m j chain)); bars = args_on_bars m j 3 (chain_less false m j chain) (chain_next 2 m lim.chain room) }) (λ more. skip l here CloseParenSign (λ _. bars_give _ refl)))
+  inst_bars (suc m) zero at chain room p = absurd (chain_none in_all m chain)
+  inst_bars (suc m) (suc j) at chain room p = bars_then (numbered_barred begins_arg 2 (chain_now 2 m lim.chain room) here.chain (opens_operand l) arg_barred) (λ a. bars_then (record { tells = told_here.args_on_tell d l here trust.trust m 3 (at_most 3 m lim.chain (chain_next 2 m lim.chain room)); same = same_ok (λ i k. places.args_on_follow d d' trust.follow m j (chain_less in_all m j chain)); bars = args_on_bars m j 3 (chain_less in_all m j chain) (chain_next 2 m lim.chain room) }) (λ more. skip l here CloseParenSign (λ _. bars_give _ refl)))
 
   unary_bars : (at : ℕ) (w : UnaryRule) → Bars lim (λ ns. word_at l (Grammar.unary_rule w) at ⨟ ns) (unary_at d at w) (unary_at d' at w) (Grammar.ending l)
   unfolding unary_at Grammar.proof ◌⨟◌

@@ -12,13 +12,13 @@ use Rattle.htt_grammar.specs.Readers.{Reader, measured}
 use Rattle.htt_grammar.specs.Beginnings.{sum_sign_of, prod_sign_of, begins_mono, begins_atom, begins_appl}
 use Rattle.htt_grammar.specs.Phrases.{Deeper, mono_at, terms_on, terms_there, bracket_case, atom_case, atom_at, part_case, no_part_case, parts_on, unary_case, appl_at, on_prod_sign, prod_on, prod_at, on_sum_sign, sum_on, sum_at, rel_at, triple_at, params_on, term_case, term_at, starts_function, function_case, ty_case, ty_at, step_case, step_at, comp_on, comp_at}
 use Rattle.std.proofs.Common.{◌≡◌, ℕ, zero, suc, ◌+◌, ◌<◌, ◌≤◌, refl, arith, append-nil}
-use Rattle.std.specs.Prelude.{false}
 use Rattle.htt_reading.proofs.Tells.{tells_measured}
 use Rattle.htt_reading.proofs.Words.{Stands}
 use Rattle.read_limits.proofs.Bars.{Bars, Barred, Case, same_ok, forms_then, forms_last, bars_then, bars_last, bars_give, bars_stop, bars_refuse, bars_either, bars_cond, bars_first, bars_measured, bars_past}
 use Rattle.htt_grammar.proofs.Spells.{begins_of}
 use Rattle.htt_grammar.proofs.Opens.{opens_mono, opens_atom, opens_appl, opens_prod}
 use Rattle.htt_reading.proofs.Terms as told_terms
+use Rattle.read_places.proofs.Follows.{in_all}
 use Rattle.read_places.proofs.Words.{Chain, chain_less, chain_none}
 use Rattle.read_places.proofs.Terms as places
 use Rattle.read_limits.proofs.Words.{Bar, numbered_barred, at_word, at_sign, at_number, a_word, a_sign', a_name', or_sign, or_word, skip, binder_barred, name_barred, number_barred, mono_barred, bracketed_barred}
@@ -93,14 +93,14 @@ module _ {lim : Limits} (d d' : Deeper) (l : ℕ) (here : Stands lim l) (trust :
   part_bars n next other within more (Sign OpenBracketSign) s = a_sign' l here OpenBracketSign s (bars_then (numbered_barred begins_mono n within here.chain (λ x. begins_of begins_mono l (Grammar.mono l x) (opens_mono l x)) (mono_barred d d' l here trust)) (λ m. skip l here CloseBracketSign (λ _. bars_last (mono_part m) more (λ ps. refl))))
   part_bars n next other within more _ s = tt
 
-  parts_bars : (m j k : ℕ) → Chain false m j → k + m ≡ suc lim.chain → Bars lim (λ ns. ns) (parts_on d m) (parts_on d' j) (Grammar.parts l k)
+  parts_bars : (m j k : ℕ) → Chain in_all m j → k + m ≡ suc lim.chain → Bars lim (λ ns. ns) (parts_on d m) (parts_on d' j) (Grammar.parts l k)
   unfolding parts_on Grammar.term ◌⨟◌
   parts_bars zero zero k chain room = bars_either _ _ (no_part_bars k) (bars_first _ (bars_refuse _ _) (bars_give _ refl))
   parts_bars zero (suc j) k chain room = bars_either _ _ (past_part_bars k (parts_on d' j) (none_left k lim.chain room)) (bars_first _ (bars_past (atom_at d') begins_atom (Grammar.atom l) k (none_left k lim.chain room) (λ x. begins_of begins_atom l (Grammar.atom l x) (opens_atom l x)) (λ a. forms_last (parts_on d' j) (Grammar.parts l (suc k)) (atom_part a) (λ ps. refl))) (bars_give _ refl))
-  parts_bars (suc m) zero k chain room = absurd (chain_none false m chain)
+  parts_bars (suc m) zero k chain room = absurd (chain_none in_all m chain)
   parts_bars (suc m) (suc j) k chain room =
       let within = chain_now k m lim.chain room in
-      let more = parts_bars m j (suc k) (chain_less false m j chain) (chain_next k m lim.chain room) in
+      let more = parts_bars m j (suc k) (chain_less in_all m j chain) (chain_next k m lim.chain room) in
       bars_either _ _ (part_bars k (parts_on d m) (parts_on d' j) within more) (bars_first _ (bars_then (numbered_barred begins_atom k within here.chain (λ x. begins_of begins_atom l (Grammar.atom l x) (opens_atom l x)) atom_barred) (λ a. bars_last (atom_part a) more (λ ps. refl))) (bars_give _ refl))
 
   all_room : 2 + d.further ≡ suc lim.chain
@@ -124,12 +124,12 @@ module _ {lim : Limits} (d d' : Deeper) (l : ℕ) (here : Stands lim l) (trust :
   prod_sign_bars n next other bars (Sign ShiftRightSign) s = a_sign' l here ShiftRightSign s (bars shift_right)
   prod_sign_bars n next other bars _ s = tt
 
-  prod_rest_bars : (m j k : ℕ) → Chain false m j → k + m ≡ suc lim.chain → Bars lim (λ ns. ns) (prod_on d m) (prod_on d' j) (Grammar.prod_rest l k)
+  prod_rest_bars : (m j k : ℕ) → Chain in_all m j → k + m ≡ suc lim.chain → Bars lim (λ ns. ns) (prod_on d m) (prod_on d' j) (Grammar.prod_rest l k)
   unfolding prod_on Grammar.term ◌⨟◌
   prod_rest_bars zero zero k chain room = bars_either _ _ (prod_sign_bars k _ _ (λ o. bars_refuse _ _)) (bars_give _ refl)
   prod_rest_bars zero (suc j) k chain room = bars_either _ _ (prod_sign_bars k _ _ (λ o. bars_past (appl_at d') begins_appl (Grammar.appl l) k (none_left k lim.chain room) (λ x. begins_of begins_appl l (Grammar.appl l x) (opens_appl l x)) (λ a. forms_last (prod_on d' j) (Grammar.prod_rest l (suc k)) (x_more o a) (λ rest. refl)))) (bars_give _ refl)
-  prod_rest_bars (suc m) zero k chain room = absurd (chain_none false m chain)
-  prod_rest_bars (suc m) (suc j) k chain room = bars_either _ _ (prod_sign_bars k _ _ (λ o. bars_then (numbered_barred begins_appl k (chain_now k m lim.chain room) here.chain (λ x. begins_of begins_appl l (Grammar.appl l x) (opens_appl l x)) appl_barred) (λ a. bars_last (x_more o a) (prod_rest_bars m j (suc k) (chain_less false m j chain) (chain_next k m lim.chain room)) (λ rest. refl)))) (bars_give _ refl)
+  prod_rest_bars (suc m) zero k chain room = absurd (chain_none in_all m chain)
+  prod_rest_bars (suc m) (suc j) k chain room = bars_either _ _ (prod_sign_bars k _ _ (λ o. bars_then (numbered_barred begins_appl k (chain_now k m lim.chain room) here.chain (λ x. begins_of begins_appl l (Grammar.appl l x) (opens_appl l x)) appl_barred) (λ a. bars_last (x_more o a) (prod_rest_bars m j (suc k) (chain_less in_all m j chain) (chain_next k m lim.chain room)) (λ rest. refl)))) (bars_give _ refl)
 
   prod_barred : Barred lim (prod_at d) (prod_at d') (Grammar.prod l)
   unfolding prod_at Grammar.term
@@ -142,12 +142,12 @@ module _ {lim : Limits} (d d' : Deeper) (l : ℕ) (here : Stands lim l) (trust :
   sum_sign_bars n next other bars (Sign CaretSign) s = a_sign' l here CaretSign s (bars caret)
   sum_sign_bars n next other bars _ s = tt
 
-  sum_rest_bars : (m j k : ℕ) → Chain false m j → k + m ≡ suc lim.chain → Bars lim (λ ns. ns) (sum_on d m) (sum_on d' j) (Grammar.sum_rest l k)
+  sum_rest_bars : (m j k : ℕ) → Chain in_all m j → k + m ≡ suc lim.chain → Bars lim (λ ns. ns) (sum_on d m) (sum_on d' j) (Grammar.sum_rest l k)
   unfolding sum_on Grammar.term ◌⨟◌
   sum_rest_bars zero zero k chain room = bars_either _ _ (sum_sign_bars k _ _ (λ o. bars_refuse _ _)) (bars_give _ refl)
   sum_rest_bars zero (suc j) k chain room = bars_either _ _ (sum_sign_bars k _ _ (λ o. bars_past (prod_at d') begins_appl (Grammar.prod l) k (none_left k lim.chain room) (λ x. begins_of begins_appl l (Grammar.prod l x) (opens_prod l x)) (λ a. forms_last (sum_on d' j) (Grammar.sum_rest l (suc k)) (s_more o a) (λ rest. refl)))) (bars_give _ refl)
-  sum_rest_bars (suc m) zero k chain room = absurd (chain_none false m chain)
-  sum_rest_bars (suc m) (suc j) k chain room = bars_either _ _ (sum_sign_bars k _ _ (λ o. bars_then (numbered_barred begins_appl k (chain_now k m lim.chain room) here.chain (λ x. begins_of begins_appl l (Grammar.prod l x) (opens_prod l x)) prod_barred) (λ a. bars_last (s_more o a) (sum_rest_bars m j (suc k) (chain_less false m j chain) (chain_next k m lim.chain room)) (λ rest. refl)))) (bars_give _ refl)
+  sum_rest_bars (suc m) zero k chain room = absurd (chain_none in_all m chain)
+  sum_rest_bars (suc m) (suc j) k chain room = bars_either _ _ (sum_sign_bars k _ _ (λ o. bars_then (numbered_barred begins_appl k (chain_now k m lim.chain room) here.chain (λ x. begins_of begins_appl l (Grammar.prod l x) (opens_prod l x)) prod_barred) (λ a. bars_last (s_more o a) (sum_rest_bars m j (suc k) (chain_less in_all m j chain) (chain_next k m lim.chain room)) (λ rest. refl)))) (bars_give _ refl)
 
   sum_barred : Barred lim (sum_at d) (sum_at d') (Grammar.sum l)
   unfolding sum_at Grammar.term

@@ -17,7 +17,7 @@ use Rattle.std.specs.Prelude.{Bool, false, Some, None, Result, Ok, Err}
 use Rattle.htt_reading.proofs.Tells.{renumber}
 use Rattle.htt_reading.proofs.Words.{Trusts, Stands, numbered_tells, token_tells, opened, right_marks, in_brackets_again, after_name}
 use Rattle.htt_reading.proofs.Words as told
-use Rattle.read_places.proofs.Follows.{Follows, follow_token}
+use Rattle.read_places.proofs.Follows.{in_all, Follows, follow_token}
 use Rattle.read_limits.proofs.Bars.{Held, Barrier, Bars, Barred, Takes, Case, same_ok, forms_id, bars_then, bars_last, bars_give, bars_stop, bars_reround, bars_either, bars_measured, bars_that}
 use Rattle.htt_tokens.specs.declared.tokens.Token.{Token}
 use Rattle.htt_grammar.proofs.Spells.{Spells, Begins}
@@ -27,7 +27,7 @@ use Rattle.read_places.proofs.Words as places
 -- the second readers read the same as the first, and are barred where these stop at a limit
 pub record Bar (lim : Limits) (d d' : Deeper) (l : ℕ) : Type 0 where
   pub trust : Trusts lim d l
-  pub follow : Follow false d d'
+  pub follow : Follow in_all d d'
   pub further : suc d.further ≡ lim.chain
   pub ty : Barred lim d.ty d'.ty (Grammar.ty l)
   pub term : Barred lim d.term d'.term (Grammar.term l)
@@ -114,7 +114,7 @@ module _ {lim : Limits} (l : ℕ) (here : Stands lim l) where
 
   token_barred : (w : a_sign.Sign) → Barred lim (token (Sign w)) (token (Sign w)) (λ _. sign l w)
   unfolding token ◌⨟◌
-  token_barred w = record { tells = token_tells l here w; same = same_ok {b = false} (λ n m. follow_token (Sign w)); bars = or_sign w (bars_give tt refl) bars_stop }
+  token_barred w = record { tells = token_tells l here w; same = same_ok {b = in_all} (λ n m. follow_token (Sign w)); bars = or_sign w (bars_give tt refl) bars_stop }
 
   -- a sign that is wanted, and what follows
   pub skip : {A : Type 0} {round : List Mark → List Mark} {marks : A → List Mark} {k j : Unit {0} → Reader A} (w : a_sign.Sign) → ((x : Unit {0}) → Bars lim (λ ns. round (sign l w ⨟ ns)) (k x) (j x) marks) → Bars lim round (token (Sign w) >>= k) (token (Sign w) >>= j) marks
@@ -124,7 +124,7 @@ module _ {lim : Limits} (l : ℕ) (here : Stands lim l) where
 
   pub binder_barred : Barred lim a_binder a_binder (Grammar.binder l)
   unfolding a_binder ◌⨟◌
-  binder_barred = record { tells = told.binder_tells l here; same = same_ok {b = false} (λ n m. places.binder_follows); bars = bars_either _ _ cases bars_stop }
+  binder_barred = record { tells = told.binder_tells l here; same = same_ok {b = in_all} (λ n m. places.binder_follows); bars = bars_either _ _ cases bars_stop }
     where
       cases : (k : Kind) (s : Span) → Case lim (λ ns. ns) (Grammar.binder l) k s (binder_case k) (binder_case k)
       cases Name s = a_name' s (bars_give _ refl)
@@ -133,7 +133,7 @@ module _ {lim : Limits} (l : ℕ) (here : Stands lim l) where
 
   pub name_barred : Barred lim a_name_there a_name_there (name l)
   unfolding a_name_there ◌⨟◌
-  name_barred = record { tells = told.name_tells l here; same = same_ok {b = false} (λ n m. places.name_follows); bars = bars_either _ _ cases bars_stop }
+  name_barred = record { tells = told.name_tells l here; same = same_ok {b = in_all} (λ n m. places.name_follows); bars = bars_either _ _ cases bars_stop }
     where
       cases : (k : Kind) (s : Span) → Case lim (λ ns. ns) (name l) k s (name_case k) (name_case k)
       cases Name s = a_name' s (bars_give _ refl)
@@ -141,7 +141,7 @@ module _ {lim : Limits} (l : ℕ) (here : Stands lim l) where
 
   pub number_barred : Barred lim a_number_there a_number_there (number l)
   unfolding a_number_there ◌⨟◌
-  number_barred = record { tells = told.number_tells l here; same = same_ok {b = false} (λ n m. places.number_follows); bars = bars_either _ _ cases bars_stop }
+  number_barred = record { tells = told.number_tells l here; same = same_ok {b = in_all} (λ n m. places.number_follows); bars = bars_either _ _ cases bars_stop }
     where
       cases : (k : Kind) (s : Span) → Case lim (λ ns. ns) (number l) k s (number_case k) (number_case k)
       cases (Number v) s = a_number' v s (bars_give _ refl)
@@ -149,11 +149,11 @@ module _ {lim : Limits} (l : ℕ) (here : Stands lim l) where
 
   over_barred : Barred lim over_there over_there (Grammar.over l)
   unfolding over_there ◌⨟◌
-  over_barred = record { tells = told.over_tells l here; same = same_ok {b = false} (λ n m. places.over_follows); bars = or_sign CaretSign (bars_last Some number_barred.bars (λ x. refl)) (bars_give _ refl) }
+  over_barred = record { tells = told.over_tells l here; same = same_ok {b = in_all} (λ n m. places.over_follows); bars = or_sign CaretSign (bars_last Some number_barred.bars (λ x. refl)) (bars_give _ refl) }
 
   pub heap_barred : Barred lim a_heap a_heap (Grammar.heap l)
   unfolding a_heap ◌⨟◌
-  heap_barred = record { tells = told.heap_tells l here; same = same_ok {b = false} (λ n m. places.heap_follows); bars = bars_either _ _ cases bars_stop }
+  heap_barred = record { tells = told.heap_tells l here; same = same_ok {b = in_all} (λ n m. places.heap_follows); bars = bars_either _ _ cases bars_stop }
     where
       cases : (k : Kind) (s : Span) → Case lim (λ ns. ns) (Grammar.heap l) k s (heap_case k) (heap_case k)
       cases Name s = a_name' s (bars_give _ refl)
@@ -168,7 +168,7 @@ module _ {lim : Limits} (l : ℕ) (here : Stands lim l) where
   commas_bars r q marks item zero = bars_give _ refl
   commas_bars r q marks item (suc n) = or_sign CommaSign (bars_then item (λ x. bars_last (λ xs. x ∷ xs) (commas_bars r q marks item n) (λ xs. refl))) (bars_give _ refl)
 
-  pub more_barred : {A : Type 0} (r q : Reader A) (marks : A → List Mark) → ((n m : ℕ) → Follows false n m r q) → Barred lim r q marks → Barred lim (measured (after_commas (Sign CommaSign) r)) (measured (after_commas (Sign CommaSign) q)) (each_after (sign l CommaSign) marks)
+  pub more_barred : {A : Type 0} (r q : Reader A) (marks : A → List Mark) → ((n m : ℕ) → Follows in_all n m r q) → Barred lim r q marks → Barred lim (measured (after_commas (Sign CommaSign) r)) (measured (after_commas (Sign CommaSign) q)) (each_after (sign l CommaSign) marks)
   more_barred r q marks follows item = record {
     tells = told.more_tell l here r marks item.tells;
     same = same_ok (λ n m. places.more_follow r q follows);
@@ -188,7 +188,7 @@ module _ {lim : Limits} (d d' : Deeper) (l : ℕ) (here : Stands lim l) (trust :
   mono_name_bars _ s = tt
 
   mono_name_barred : Barred lim (either mono_name_case stop) (either mono_name_case stop) (Grammar.mono_name l)
-  mono_name_barred = record { tells = told.mono_name_tells d l here trust.trust; same = same_ok {b = false} (λ n m. places.mono_name_follows); bars = bars_either _ _ mono_name_bars bars_stop }
+  mono_name_barred = record { tells = told.mono_name_tells d l here trust.trust; same = same_ok {b = in_all} (λ n m. places.mono_name_follows); bars = bars_either _ _ mono_name_bars bars_stop }
 
   right_barred : Barred lim (mono_right d) (mono_right d') (right_marks l)
   unfolding mono_right right_marks ◌⨟◌

@@ -1,6 +1,5 @@
 -- The readers at every level, and those of declarations and files, follow one another.
 use Rattle.std.proofs.Common.{◌≡◌, ℕ, zero, suc, ◌≤◌, List, [], ◌∷◌, refl, sym, subst, arith}
-use Rattle.std.specs.Prelude.{Bool, true, false}
 use Rattle.htt_tokens.specs.declared.tokens.Kind.{Kind}
 use Rattle.htt_tokens.specs.declared.tokens.Kind.TheVariants.{Keyword, Sign}
 use Rattle.htt_tokens.specs.declared.tokens.Keyword.TheVariants.{TypeWord, PredWord, DefWord, ValWord, ProofWord, AutoWord, InductWord}
@@ -10,7 +9,7 @@ use Rattle.raw_trees.specs.Trees.{TyTree, TermTree, DeclTree}
 use Rattle.htt_grammar.specs.Readers.{measured, give, ◌>>=◌, if_first, after_commas, too_nested, too_many}
 use Rattle.htt_grammar.specs.Phrases.{Deeper, is_close}
 use Rattle.htt_grammar.specs.Reading.{at_level, deeper, mono_parameter_at, mono_parameters_at, pred_on, induct_on, pred_case, body_case, body_at, typed_on, decl_case, decl_at, file_on}
-use Rattle.read_places.proofs.Follows.{Kept, Follows, Both, follow_give, follow_stop, follow_refuse, follow_then, follow_either, follow_skip, follow_first}
+use Rattle.read_places.proofs.Follows.{Greater, in_none, in_chains, in_levels, in_all, Kept, Follows, Both, follow_give, follow_stop, follow_refuse, follow_then, follow_either, follow_skip, follow_first}
 use Rattle.read_places.proofs.Refuses.{refuses_then, follow_refused}
 use Rattle.read_places.proofs.Words.{Refused, Follow, Chain, chain_less, chain_none, binder_follows, name_follows, number_follows, mono_follows, more_follow}
 use Rattle.read_places.proofs.Refusing.{refused, decl_refuses}
@@ -18,7 +17,7 @@ use Rattle.read_places.proofs.Terms.{term_follows, comp_follows, ty_follows}
 use Rattle.read_places.proofs.Formulas.{formula_follows, disj_follows, conj_follows, star_follows}
 use Rattle.read_places.proofs.Proofs.{proof_follows}
 
-one_level : {b : Bool} (d d' : Deeper) → Refused (at_level d') → Follow b d d' → Follow b (at_level d) (at_level d')
+one_level : {b : Greater} (d d' : Deeper) → Refused (at_level d') → Follow b d d' → Follow b (at_level d) (at_level d')
 one_level d d' refused trust = record {
   further = trust.further;
   refused = refused;
@@ -33,12 +32,39 @@ one_level d d' refused trust = record {
   proof = proof_follows d d' trust;
 }
 
--- where the limits are the same
-pub follow_self : (further n : ℕ) → Follow true (deeper further n) (deeper further n)
+same_further : (more m : ℕ) → (deeper more m).further ≡ more
 unfolding deeper
-follow_self further zero = record {
-  further = refl;
-  refused = refused further zero;
+same_further more zero = refl
+same_further more (suc m) = same_further more m
+
+-- how many levels may be entered here, and there
+abbrev pub Levels : Greater → ℕ → ℕ → Type 0
+Levels in_none n m = n ≡ m
+Levels in_chains n m = n ≡ m
+Levels _ n m = n ≤ m
+
+levels_less : (b : Greater) (n m : ℕ) → Levels b (suc n) (suc m) → Levels b n m
+levels_less in_none n m h = omega (arith, h)
+levels_less in_chains n m h = omega (arith, h)
+levels_less _ n m h = omega (arith, h)
+
+levels_none : (b : Greater) (n : ℕ) → Levels b (suc n) zero → ⊥
+levels_none in_none n h = omega (arith, h)
+levels_none in_chains n h = omega (arith, h)
+levels_none _ n h = omega (arith, h)
+
+-- only greater limits let more levels be entered
+levels_more : (b : Greater) (m : ℕ) → Levels b zero (suc m) → Kept b too_nested → ⊥
+levels_more in_none m h kept = omega (arith, h)
+levels_more in_chains m h kept = omega (arith, h)
+levels_more _ m h kept = kept
+
+-- where the second may read as deep and as far, or deeper, or further
+pub follow_limits : (b : Greater) (further more n m : ℕ) → Chain b further more → Levels b n m → Follow b (deeper further n) (deeper more m)
+unfolding deeper
+follow_limits b further more zero zero wide deep = record {
+  further = wide;
+  refused = refused more zero;
   ty = follow_refuse _ _;
   term = follow_refuse _ _;
   comp = follow_refuse _ _;
@@ -49,23 +75,11 @@ follow_self further zero = record {
   mono = follow_refuse _ _;
   proof = follow_refuse _ _;
 }
-follow_self further (suc n) = one_level (deeper further n) (deeper further n) (refused further (suc n)) (follow_self further n)
-
-same_further : (more m : ℕ) → (deeper more m).further ≡ more
-unfolding deeper
-same_further more zero = refl
-same_further more (suc m) = same_further more m
-
-not_kept : Kept false too_nested → ⊥
-not_kept kept = let no : false ≡ true = kept in cc
-
--- where the second may read deeper and further
-pub follow_greater : (further more n m : ℕ) → further ≤ more → n ≤ m → Follow false (deeper further n) (deeper more m)
-unfolding deeper
-follow_greater further more zero m wide deep =
-    let refused' = refused more m in
+follow_limits b further more zero (suc m) wide deep =
+    let refused' = refused more (suc m) in
+    let not_kept = levels_more b m deep in
     record {
-      further = subst (λ x. further ≤ x) (sym (same_further more m)) wide;
+      further = subst (λ x. Chain b further x) (sym (same_further more (suc m))) wide;
       refused = refused';
       ty = follow_refused _ _ not_kept refused'.ty;
       term = follow_refused _ _ not_kept refused'.term;
@@ -77,14 +91,21 @@ follow_greater further more zero m wide deep =
       mono = follow_refused _ _ not_kept refused'.mono;
       proof = follow_refused _ _ not_kept refused'.proof;
     }
-follow_greater further more (suc n) zero wide deep = absurd (let no : ⊥ = omega (arith, deep) in no)
-follow_greater further more (suc n) (suc m) wide deep = one_level (deeper further n) (deeper more m) (refused more (suc m)) (follow_greater further more n m wide (omega (arith, deep)))
+follow_limits b further more (suc n) zero wide deep = absurd (levels_none b n deep)
+follow_limits b further more (suc n) (suc m) wide deep = one_level (deeper further n) (deeper more m) (refused more (suc m)) (follow_limits b further more n m wide (levels_less b n m deep))
 
-past_last : (b : Bool) (j : ℕ) → Chain b zero (suc j) → Kept b too_many → ⊥
-past_last true j h kept = omega (arith, h)
-past_last false j h kept = let no : false ≡ true = kept in cc
+pub follow_self : (further n : ℕ) → Follow in_none (deeper further n) (deeper further n)
+follow_self further n = follow_limits in_none further further n n refl refl
 
-module _ {b : Bool} (d d' : Deeper) (trust : Follow b d d') where
+pub follow_greater : (further more n m : ℕ) → further ≤ more → n ≤ m → Follow in_all (deeper further n) (deeper more m)
+follow_greater = follow_limits in_all
+
+past_last : (b : Greater) (j : ℕ) → Chain b zero (suc j) → Kept b too_many → ⊥
+past_last in_none j h kept = omega (arith, h)
+past_last in_levels j h kept = omega (arith, h)
+past_last _ j h kept = kept
+
+module _ {b : Greater} (d d' : Deeper) (trust : Follow b d d') where
   pub mono_parameter_follows : {i j : ℕ} → Follows b i j (mono_parameter_at d) (mono_parameter_at d')
   unfolding mono_parameter_at
   mono_parameter_follows = follow_then name_follows (λ x. follow_skip _ (λ _. follow_then trust.mono (λ z. follow_give _)))

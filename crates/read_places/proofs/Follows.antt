@@ -7,15 +7,22 @@ use Rattle.htt_tokens.specs.declared.tokens.Kind.{Kind}
 use Rattle.htt_tokens.specs.declared.tokens.Token.{Token}
 use Rattle.raw_trees.specs.declared.place.Span.{Span}
 use Rattle.htt_grammar.specs.Marks.{span_of}
-use Rattle.htt_grammar.specs.Readers.{Reader, Halt, Why, expected, give, after, ◌>>=◌, stop, refused, refuse, chosen, either, first_is, if_first, measured, same_kind, that, token}
+use Rattle.htt_grammar.specs.Readers.{Reader, Halt, Why, expected, too_nested, too_long, give, after, ◌>>=◌, stop, refused, refuse, chosen, either, first_is, if_first, measured, same_kind, that, token}
 use Rattle.read_places.specs.Alike.{Alike}
 
--- whether a reason is to be kept: one that speaks of a limit only where the limits are the same
-abbrev pub Kept : Bool → Why → Type 0
-Kept b expected = Unit {0}
-Kept b _ = b ≡ true
+-- in which limits the reader that follows may be greater
+pub data Greater : Type 0 where
+  in_none in_chains in_levels in_all : Greater
 
-abbrev pub Claimed : {A : Type 0} → Bool → Result (A × List Token) Halt → Type 0
+-- which reasons are kept: one that speaks of a limit only where this is the same
+abbrev pub Kept : Greater → Why → Type 0
+Kept b expected = Unit {0}
+Kept in_none _ = Unit {0}
+Kept in_chains too_nested = Unit {0}
+Kept in_levels too_long = Unit {0}
+Kept _ _ = ⊥
+
+abbrev pub Claimed : {A : Type 0} → Greater → Result (A × List Token) Halt → Type 0
 Claimed b (Ok read) = Unit {0}
 Claimed b (Err halt) = Kept b halt.why
 
@@ -28,13 +35,13 @@ with_rest (Ok read) other = Ok (read.0, other)
 with_rest (Err halt) other = Err (record { why = halt.why; rest = other })
 
 -- the answer to these tokens, and how the other reader answers to those that begin alike
-pub record Answers {A : Type 0} (b : Bool) (n : ℕ) (follower : Reader A) (us : List Token) (o : Result (A × List Token) Halt) : Type 0 where
+pub record Answers {A : Type 0} (b : Greater) (n : ℕ) (follower : Reader A) (us : List Token) (o : Result (A × List Token) Halt) : Type 0 where
   pub before : List Token
   pub parts : us ≡ before ++ rest_of o
   pub same : (other : List Token) → Alike (rest_of o) other → length (before ++ other) ≤ n → Claimed b o → follower (before ++ other) ≡ with_rest o other
 
 -- for lists of at most so many tokens
-pub record Follows {A : Type 0} (b : Bool) (n m : ℕ) (reader follower : Reader A) : Type 0 where
+pub record Follows {A : Type 0} (b : Greater) (n m : ℕ) (reader follower : Reader A) : Type 0 where
   pub answers : (us : List Token) → length us ≤ n → Answers b m follower us (reader us)
 
 -- ---- texts that begin alike
@@ -68,15 +75,15 @@ no_longer us before rest e = let whole = ap length e ∙ length-append before re
 
 -- ---- giving and stopping
 
-pub follow_give : {A : Type 0} {b : Bool} {n m : ℕ} (x : A) → Follows b n m (give x) (give x)
+pub follow_give : {A : Type 0} {b : Greater} {n m : ℕ} (x : A) → Follows b n m (give x) (give x)
 unfolding give
 follow_give x = record { answers = λ us short. record { before = []; parts = refl; same = λ other alike fits claimed. refl } }
 
-pub follow_stop : {A : Type 0} {b : Bool} {n m : ℕ} → Follows {A = A} b n m stop stop
+pub follow_stop : {A : Type 0} {b : Greater} {n m : ℕ} → Follows {A = A} b n m stop stop
 unfolding stop
 follow_stop = record { answers = λ us short. record { before = []; parts = refl; same = λ other alike fits claimed. refl } }
 
-pub follow_refuse : {A : Type 0} {b : Bool} {n m : ℕ} (why : Why) (begins : Kind → Bool) → Follows {A = A} b n m (refuse why begins) (refuse why begins)
+pub follow_refuse : {A : Type 0} {b : Greater} {n m : ℕ} (why : Why) (begins : Kind → Bool) → Follows {A = A} b n m (refuse why begins) (refuse why begins)
 unfolding refuse
 follow_refuse why begins = record {
   answers = λ us short. record { before = []; parts = refl; same = λ other alike fits claimed. ap (λ w. Err (record { why = w; rest = other })) (refused_alike why begins us other alike) };
@@ -84,7 +91,7 @@ follow_refuse why begins = record {
 
 -- ---- one after the other
 
-extended : {A B : Type 0} {b : Bool} {m : ℕ} {q : Reader A} (j : A → Reader B) {us : List Token} {x : A} {mid : List Token} (o : Result (B × List Token) Halt) → Answers b m q us (Ok (x, mid)) → ((before : List Token) → us ≡ before ++ mid → Answers b m (j x) mid o) → Answers b m (q >>= j) us o
+extended : {A B : Type 0} {b : Greater} {m : ℕ} {q : Reader A} (j : A → Reader B) {us : List Token} {x : A} {mid : List Token} (o : Result (B × List Token) Halt) → Answers b m q us (Ok (x, mid)) → ((before : List Token) → us ≡ before ++ mid → Answers b m (j x) mid o) → Answers b m (q >>= j) us o
 unfolding ◌>>=◌
 extended {b = b} {m = m} {q = q} j {us = us} {x = x} {mid = mid} o first next =
     let second = next first.before first.parts in
@@ -99,7 +106,7 @@ extended {b = b} {m = m} {q = q} j {us = us} {x = x} {mid = mid} o first next =
           ap (λ ts. after (q ts) j) whole ∙ ap (λ p. after p j) (first.same (second.before ++ other) near fits' tt) ∙ second.same other alike less claimed;
     }
 
-halted_first : {A B : Type 0} {b : Bool} {m : ℕ} {q : Reader A} (j : A → Reader B) {us : List Token} {halt : Halt} → Answers b m q us (Err halt) → Answers b m (q >>= j) us (Err halt)
+halted_first : {A B : Type 0} {b : Greater} {m : ℕ} {q : Reader A} (j : A → Reader B) {us : List Token} {halt : Halt} → Answers b m q us (Err halt) → Answers b m (q >>= j) us (Err halt)
 unfolding ◌>>=◌
 halted_first j first = record {
   before = first.before;
@@ -107,7 +114,7 @@ halted_first j first = record {
   same = λ other alike fits claimed. ap (λ p. after p j) (first.same other alike fits claimed);
 }
 
-pub follow_then : {A B : Type 0} {b : Bool} {n m : ℕ} {r q : Reader A} {k j : A → Reader B} → Follows b n m r q → ((x : A) → Follows b n m (k x) (j x)) → Follows b n m (r >>= k) (q >>= j)
+pub follow_then : {A B : Type 0} {b : Greater} {n m : ℕ} {r q : Reader A} {k j : A → Reader B} → Follows b n m r q → ((x : A) → Follows b n m (k x) (j x)) → Follows b n m (r >>= k) (q >>= j)
 unfolding ◌>>=◌
 follow_then {A = A} {B = B} {b = b} {n = n} {m = m} {r = r} {q = q} {k = k} {j = j} first next = record {
   answers = λ us short. by_first us (r us) short (first.answers us short);
@@ -119,12 +126,12 @@ follow_then {A = A} {B = B} {b = b} {n = n} {m = m} {r = r} {q = q} {k = k} {j =
 
 -- ---- by the first token
 
-abbrev pub Both : {A : Type 0} → Bool → ℕ → ℕ → Span → Option (Span → Reader A) → Option (Span → Reader A) → Type 0
+abbrev pub Both : {A : Type 0} → Greater → ℕ → ℕ → Span → Option (Span → Reader A) → Option (Span → Reader A) → Type 0
 Both b n m s None None = Unit {0}
 Both b n m s (Some next) (Some other) = Follows b n m (next s) (other s)
 Both b n m s _ _ = ⊥
 
-behind : {A : Type 0} {b : Bool} {m : ℕ} {q p : Reader A} {t : Token} {ts : List Token} {o : Result (A × List Token) Halt} → ((us : List Token) → p (t ∷ us) ≡ q us) → Answers b m q ts o → Answers b (suc m) p (t ∷ ts) o
+behind : {A : Type 0} {b : Greater} {m : ℕ} {q p : Reader A} {t : Token} {ts : List Token} {o : Result (A × List Token) Halt} → ((us : List Token) → p (t ∷ us) ≡ q us) → Answers b m q ts o → Answers b (suc m) p (t ∷ ts) o
 behind {m = m} {t = t} same got = record {
   before = t ∷ got.before;
   parts = ap (λ us. t ∷ us) got.parts;
@@ -144,7 +151,7 @@ one_alike t ts before rest other e h = first (before ++ other) (subst (λ us. Al
     first (u ∷ us) h = h
 
 -- the cases read so many tokens, and all of it one more, or as many
-either_to : {A : Type 0} {b : Bool} {n m i j : ℕ} {other next : Reader A} (choose choice : Kind → Option (Span → Reader A)) → i ≤ suc n → j ≤ suc m → ((k : Kind) (s : Span) → Both b n m s (choose k) (choice k)) → Follows b i j next other → Follows b i j (either choose next) (either choice other)
+either_to : {A : Type 0} {b : Greater} {n m i j : ℕ} {other next : Reader A} (choose choice : Kind → Option (Span → Reader A)) → i ≤ suc n → j ≤ suc m → ((k : Kind) (s : Span) → Both b n m s (choose k) (choice k)) → Follows b i j next other → Follows b i j (either choose next) (either choice other)
 unfolding either
 either_to {A = A} {b = b} {n = n} {m = m} {i = i} {j = j} {other = other} {next = next} choose choice small few cases rest = record { answers = by_first }
   where
@@ -175,15 +182,15 @@ either_to {A = A} {b = b} {n = n} {m = m} {i = i} {j = j} {other = other} {next 
         }
     by_first (t ∷ ts) short = by_case t ts (choose t.kind) (choice t.kind) refl short (cases t.kind (span_of t))
 
-pub follow_either : {A : Type 0} {b : Bool} {n m : ℕ} {other next : Reader A} (choose choice : Kind → Option (Span → Reader A)) → ((k : Kind) (s : Span) → Both b n m s (choose k) (choice k)) → Follows b n m next other → Follows b n m (either choose next) (either choice other)
+pub follow_either : {A : Type 0} {b : Greater} {n m : ℕ} {other next : Reader A} (choose choice : Kind → Option (Span → Reader A)) → ((k : Kind) (s : Span) → Both b n m s (choose k) (choice k)) → Follows b n m next other → Follows b n m (either choose next) (either choice other)
 follow_either choose choice cases rest = either_to choose choice (omega arith) (omega arith) cases rest
 
 -- where what follows is read with one token less
-pub follow_either_less : {A : Type 0} {b : Bool} {n m : ℕ} {other next : Reader A} (choose choice : Kind → Option (Span → Reader A)) → ((k : Kind) (s : Span) → Both b n m s (choose k) (choice k)) → Follows b (suc n) (suc m) next other → Follows b (suc n) (suc m) (either choose next) (either choice other)
+pub follow_either_less : {A : Type 0} {b : Greater} {n m : ℕ} {other next : Reader A} (choose choice : Kind → Option (Span → Reader A)) → ((k : Kind) (s : Span) → Both b n m s (choose k) (choice k)) → Follows b (suc n) (suc m) next other → Follows b (suc n) (suc m) (either choose next) (either choice other)
 follow_either_less choose choice cases rest = either_to choose choice (omega arith) (omega arith) cases rest
 
 -- a token that is chosen, then what follows, where this is read with one token less
-pub follow_eaten : {A B : Type 0} {b : Bool} {n m : ℕ} {k j : A → Reader B} (choose choice : Kind → Option (Span → Reader A)) → ((l : Kind) (s : Span) → Both b n m s (choose l) (choice l)) → ((x : A) → Follows b n m (k x) (j x)) → Follows b (suc n) (suc m) (either choose stop >>= k) (either choice stop >>= j)
+pub follow_eaten : {A B : Type 0} {b : Greater} {n m : ℕ} {k j : A → Reader B} (choose choice : Kind → Option (Span → Reader A)) → ((l : Kind) (s : Span) → Both b n m s (choose l) (choice l)) → ((x : A) → Follows b n m (k x) (j x)) → Follows b (suc n) (suc m) (either choose stop >>= k) (either choice stop >>= j)
 unfolding either ◌>>=◌ stop
 follow_eaten {A = A} {B = B} {b = b} {n = n} {m = m} {k = k} {j = j} choose choice cases next = record { answers = by_first }
   where
@@ -201,7 +208,7 @@ follow_eaten {A = A} {B = B} {b = b} {n = n} {m = m} {k = k} {j = j} choose choi
     by_first [] short = record { before = []; parts = refl; same = λ us alike fits claimed. ap (either choice stop >>= j) (nothing_alike us alike) ∙ ap (λ ts. Err (record { why = expected; rest = ts })) (sym (nothing_alike us alike)) }
     by_first (t ∷ ts) short = by_case t ts (choose t.kind) (choice t.kind) refl short (cases t.kind (span_of t))
 
-both_that : {A : Type 0} {b : Bool} {n m : ℕ} {next other : Reader A} (kind : Kind) → Follows b n m next other → (k : Kind) (s : Span) → Both b n m s (that kind next k) (that kind other k)
+both_that : {A : Type 0} {b : Greater} {n m : ℕ} {next other : Reader A} (kind : Kind) → Follows b n m next other → (k : Kind) (s : Span) → Both b n m s (that kind next k) (that kind other k)
 both_that {b = b} {n = n} {m = m} {next = next} {other = other} kind then k s = by_same (same_kind k kind)
   where
     by_same : (c : Bool) → Both b n m s (cond c (Some (λ _. next)) None) (cond c (Some (λ _. other)) None)
@@ -209,21 +216,21 @@ both_that {b = b} {n = n} {m = m} {next = next} {other = other} kind then k s = 
     by_same false = tt
 
 -- a token of this kind, or otherwise
-pub follow_that : {A : Type 0} {b : Bool} {n m : ℕ} {next other rest otherwise : Reader A} (kind : Kind) → Follows b n m next other → Follows b n m rest otherwise → Follows b n m (either (that kind next) rest) (either (that kind other) otherwise)
+pub follow_that : {A : Type 0} {b : Greater} {n m : ℕ} {next other rest otherwise : Reader A} (kind : Kind) → Follows b n m next other → Follows b n m rest otherwise → Follows b n m (either (that kind next) rest) (either (that kind other) otherwise)
 follow_that kind then else' = follow_either _ _ (both_that kind then) else'
 
-pub follow_that_less : {A : Type 0} {b : Bool} {n m : ℕ} {next other rest otherwise : Reader A} (kind : Kind) → Follows b n m next other → Follows b (suc n) (suc m) rest otherwise → Follows b (suc n) (suc m) (either (that kind next) rest) (either (that kind other) otherwise)
+pub follow_that_less : {A : Type 0} {b : Greater} {n m : ℕ} {next other rest otherwise : Reader A} (kind : Kind) → Follows b n m next other → Follows b (suc n) (suc m) rest otherwise → Follows b (suc n) (suc m) (either (that kind next) rest) (either (that kind other) otherwise)
 follow_that_less kind then else' = follow_either_less _ _ (both_that kind then) else'
 
-pub follow_token : {b : Bool} {n m : ℕ} (kind : Kind) → Follows b n m (token kind) (token kind)
+pub follow_token : {b : Greater} {n m : ℕ} (kind : Kind) → Follows b n m (token kind) (token kind)
 unfolding token
 follow_token kind = follow_that kind (follow_give tt) follow_stop
 
 -- a token that is wanted, and what follows
-pub follow_skip : {B : Type 0} {b : Bool} {n m : ℕ} {k j : Unit {0} → Reader B} (kind : Kind) → ((x : Unit {0}) → Follows b n m (k x) (j x)) → Follows b n m (token kind >>= k) (token kind >>= j)
+pub follow_skip : {B : Type 0} {b : Greater} {n m : ℕ} {k j : Unit {0} → Reader B} (kind : Kind) → ((x : Unit {0}) → Follows b n m (k x) (j x)) → Follows b n m (token kind >>= k) (token kind >>= j)
 follow_skip kind next = follow_then (follow_token kind) next
 
-pub follow_first : {A : Type 0} {b : Bool} {n m : ℕ} {one other uno otro : Reader A} (test : Kind → Bool) → Follows b n m one uno → Follows b n m other otro → Follows b n m (if_first test one other) (if_first test uno otro)
+pub follow_first : {A : Type 0} {b : Greater} {n m : ℕ} {one other uno otro : Reader A} (test : Kind → Bool) → Follows b n m one uno → Follows b n m other otro → Follows b n m (if_first test one other) (if_first test uno otro)
 unfolding if_first
 follow_first {A = A} {b = b} {n = n} {m = m} {one = one} {other = other} {uno = uno} {otro = otro} test yes' no' = record { answers = λ us short. by_test us (first_is test us) refl short }
   where
@@ -254,7 +261,7 @@ short_is_nothing [] h = refl
 short_is_nothing (t ∷ us) h = absurd (let no : ⊥ = omega (arith, h) in no)
 
 -- at no tokens both answer alike, and one turn more follows one turn more
-module _ {A I : Type 0} {b : Bool} (r q : I → ℕ → Reader A) (o : Result (A × List Token) Halt) (none : rest_of o ≡ []) (whole : with_rest o [] ≡ o) (at_end : (i : I) (n : ℕ) → r i n [] ≡ o) (at_end' : (i : I) (n : ℕ) → q i n [] ≡ o) (turn : (n m : ℕ) → ((i : I) → Follows b n m (r i n) (q i m)) → (i : I) → Follows b (suc n) (suc m) (r i (suc n)) (q i (suc m))) where
+module _ {A I : Type 0} {b : Greater} (r q : I → ℕ → Reader A) (o : Result (A × List Token) Halt) (none : rest_of o ≡ []) (whole : with_rest o [] ≡ o) (at_end : (i : I) (n : ℕ) → r i n [] ≡ o) (at_end' : (i : I) (n : ℕ) → q i n [] ≡ o) (turn : (n m : ℕ) → ((i : I) → Follows b n m (r i n) (q i m)) → (i : I) → Follows b (suc n) (suc m) (r i (suc n)) (q i (suc m))) where
   no_turn : (m : ℕ) (i : I) (us : List Token) → us ≡ [] → Answers b m (q i m) us (r i 0 us)
   no_turn m i us empty = record {
     before = [];

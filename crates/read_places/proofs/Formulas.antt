@@ -1,6 +1,5 @@
 -- The readers of formulas follow one another.
 use Rattle.std.proofs.Common.{ℕ}
-use Rattle.std.specs.Prelude.{Bool}
 use Rattle.htt_tokens.specs.declared.tokens.Kind.{Kind}
 use Rattle.htt_tokens.specs.declared.tokens.Kind.TheVariants.{Keyword, Sign}
 use Rattle.htt_tokens.specs.declared.tokens.Keyword.TheVariants.{EmpWord, TtWord, FfWord, AllWord, ExWord, CapitalEmpWord, CellWord, BlockWord, JoinWord, SameWord}
@@ -10,11 +9,11 @@ use Rattle.raw_trees.specs.declared.place.Binder.{Binder}
 use Rattle.raw_trees.specs.Trees.{TermTree, RelTree, FormulaTree, SortTree, TermTrees}
 use Rattle.htt_grammar.specs.Readers.{give, ◌>>=◌, token}
 use Rattle.htt_grammar.specs.Phrases.{Deeper, terms_there, sort_at, quantified, argument_case, use_case, fatom_case, relation_case, fatom_at, star_at, conj_at, disj_at, quantifier_case, formula_at}
-use Rattle.read_places.proofs.Follows.{Follows, Both, follow_give, follow_stop, follow_then, follow_either, follow_that, follow_skip}
+use Rattle.read_places.proofs.Follows.{Greater, Follows, Both, follow_give, follow_stop, follow_then, follow_either, follow_that, follow_skip}
 use Rattle.read_places.proofs.Words.{Follow, binder_follows, name_follows, heap_follows, mono_follows, bracketed_follows, more_monos_follow}
 use Rattle.read_places.proofs.Terms.{more_terms_follow, terms_follow, rel_follows}
 
-module _ {b : Bool} (d d' : Deeper) (trust : Follow b d d') where
+module _ {b : Greater} (d d' : Deeper) (trust : Follow b d d') where
   pub terms_then_follow : {A : Type 0} (i j : ℕ) (make : TermTrees → A) → Follows b i j (terms_there d >>= (λ ms. token (Sign CloseParenSign) >>= (λ _. give (make ms)))) (terms_there d' >>= (λ ms. token (Sign CloseParenSign) >>= (λ _. give (make ms))))
   terms_then_follow i j make = follow_then (terms_follow d d' trust) (λ ms. follow_skip _ (λ _. follow_give _))
 

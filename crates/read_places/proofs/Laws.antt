@@ -1,6 +1,6 @@
 -- A reader decides by the next token, and greater limits keep its answers.
 use Rattle.std.proofs.Common.{◌≡◌, ℕ, ◌≤◌, List, ◌++◌, length, refl, sym, ◌∙◌, subst, arith}
-use Rattle.std.specs.Prelude.{Bool, true, false, Result, Ok, Err}
+use Rattle.std.specs.Prelude.{Result, Ok, Err}
 use Rattle.std.proofs.lemmas.List.{append_cancel_right}
 use Rattle.htt_tokens.specs.declared.tokens.Token.{Token}
 use Rattle.htt_grammar.specs.Readers.{Reader, Halt, Why, expected}
@@ -8,39 +8,39 @@ use Rattle.htt_grammar.specs.Reading.{deeper, file_on}
 use Rattle.htt_reading.specs.Laws.{outermost}
 use Rattle.read_places.specs.Alike.{Alike}
 use Rattle.read_places.specs.Laws.{Decides, Keeps, MonoDecides, FormulaDecides, ProofDecides, FileDecides, MonoKeeps, FormulaKeeps, ProofKeeps, FileKeeps}
-use Rattle.read_places.proofs.Follows.{Kept, Claimed, Answers, Follows, rest_of, with_rest, alike_self}
+use Rattle.read_places.proofs.Follows.{Greater, in_none, in_chains, in_levels, in_all, Kept, Claimed, Answers, Follows, rest_of, with_rest, alike_self}
 use Rattle.read_places.proofs.Words.{Follow}
 use Rattle.read_places.proofs.Files.{follow_self, follow_greater, file_follows}
 
-pub kept_same : (why : Why) → Kept true why
+pub kept_same : (why : Why) → Kept in_none why
 kept_same expected = tt
-kept_same _ = refl
+kept_same _ = tt
 
 -- the reader that follows answers the same to whatever begins alike
-pub answers_alike : {A : Type 0} {b : Bool} {m : ℕ} {q : Reader A} {us : List Token} {o : Result (A × List Token) Halt} → Answers b m q us o → (before other : List Token) → us ≡ before ++ rest_of o → Alike (rest_of o) other → length (before ++ other) ≤ m → Claimed b o → q (before ++ other) ≡ with_rest o other
+pub answers_alike : {A : Type 0} {b : Greater} {m : ℕ} {q : Reader A} {us : List Token} {o : Result (A × List Token) Halt} → Answers b m q us o → (before other : List Token) → us ≡ before ++ rest_of o → Alike (rest_of o) other → length (before ++ other) ≤ m → Claimed b o → q (before ++ other) ≡ with_rest o other
 answers_alike {m = m} {q = q} {o = o} got before other parts alike fits claimed =
     let same : got.before ≡ before = append_cancel_right got.before before (rest_of o) (sym got.parts ∙ parts) in
     subst (λ ts. q (ts ++ other) ≡ with_rest o other) same (got.same other alike (subst (λ ts. length (ts ++ other) ≤ m) (sym same) fits) claimed)
 
-answers_of : {A : Type 0} {b : Bool} {r q : Reader A} → ((n m : ℕ) → Follows b n m r q) → (m : ℕ) (us : List Token) (o : Result (A × List Token) Halt) → r us ≡ o → Answers b m q us o
+answers_of : {A : Type 0} {b : Greater} {r q : Reader A} → ((n m : ℕ) → Follows b n m r q) → (m : ℕ) (us : List Token) (o : Result (A × List Token) Halt) → r us ≡ o → Answers b m q us o
 answers_of {b = b} {q = q} follows m us o e = subst (λ p. Answers b m q us p) e ((follows (length us) m).answers us (omega arith))
 
-decides : {A : Type 0} {r : Reader A} → ((n m : ℕ) → Follows true n m r r) → Decides r
+decides : {A : Type 0} {r : Reader A} → ((n m : ℕ) → Follows in_none n m r r) → Decides r
 decides follows = record {
   gives = λ before rest other tree alike e. answers_alike (answers_of follows (length (before ++ other)) (before ++ rest) (Ok (tree, rest)) e) before other refl alike (omega arith) tt;
   refuses = λ before rest other why alike e. answers_alike (answers_of follows (length (before ++ other)) (before ++ rest) (Err (record { why = why; rest = rest })) e) before other refl alike (omega arith) (kept_same why);
 }
 
-same_again : {A : Type 0} {q : Reader A} {us : List Token} {o : Result (A × List Token) Halt} → Answers false (length us) q us o → Claimed false o → q us ≡ with_rest o (rest_of o)
+same_again : {A : Type 0} {q : Reader A} {us : List Token} {o : Result (A × List Token) Halt} → Answers in_all (length us) q us o → Claimed in_all o → q us ≡ with_rest o (rest_of o)
 same_again {q = q} {us = us} {o = o} got claimed = subst (λ ts. q ts ≡ with_rest o (rest_of o)) (sym got.parts) (got.same (rest_of o) (alike_self (rest_of o)) (subst (λ ts. length ts ≤ length us) got.parts (omega arith)) claimed)
 
-keeps : {A : Type 0} {r q : Reader A} → ((n m : ℕ) → Follows false n m r q) → Keeps r q
+keeps : {A : Type 0} {r q : Reader A} → ((n m : ℕ) → Follows in_all n m r q) → Keeps r q
 keeps follows = record {
   gives = λ tokens tree rest e. same_again (answers_of follows (length tokens) tokens (Ok (tree, rest)) e) tt;
   refuses = λ tokens rest e. same_again (answers_of follows (length tokens) tokens (Err (record { why = expected; rest = rest })) e) tt;
 }
 
-outer : Follow true outermost outermost
+outer : Follow in_none outermost outermost
 outer = follow_self 63 256
 
 pub mono_decides : MonoDecides

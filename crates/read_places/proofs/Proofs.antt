@@ -1,6 +1,6 @@
 -- The readers of proofs follow one another.
 use Rattle.std.proofs.Common.{◌≡◌, ℕ, zero, suc, List, [], refl}
-use Rattle.std.specs.Prelude.{Bool, Err}
+use Rattle.std.specs.Prelude.{Err}
 use Rattle.htt_tokens.specs.declared.tokens.Kind.{Kind}
 use Rattle.htt_tokens.specs.declared.tokens.Kind.TheVariants.{Name, Keyword, Sign}
 use Rattle.htt_tokens.specs.declared.tokens.Keyword.TheVariants.{IntroWord, GenWord, HaveWord, OpenWord, BothWord, LeftWord, RightWord, GiveWord, TrivialWord, ReflWord, AbsurdWord, CaseWord, RewriteWord, InductWord, SplitWord, FirstWord, SecondWord, AppWord, InstWord, AxiomWord, LemWord, TheWord}
@@ -12,7 +12,7 @@ use Rattle.raw_trees.specs.Trees.{ArgTree, ProofTree, EndTree}
 use Rattle.htt_grammar.specs.Readers.{give, ◌>>=◌, token, expected, stop, either, if_first}
 use Rattle.htt_grammar.specs.Phrases.{Deeper}
 use Rattle.htt_grammar.specs.Reading.{arg_case, arg_at, more_args, args_there, motive_at, args_on, proofs_on, app_more, inst_more, unary_at, axiom_case, end_case, end_at, stmt_case, stmt_at, proof_on, proof_at}
-use Rattle.read_places.proofs.Follows.{Follows, Both, follow_give, follow_stop, follow_refuse, follow_then, follow_either, follow_eaten, follow_that, follow_skip, follow_first, follow_measured}
+use Rattle.read_places.proofs.Follows.{Greater, Follows, Both, follow_give, follow_stop, follow_refuse, follow_then, follow_either, follow_eaten, follow_that, follow_skip, follow_first, follow_measured}
 use Rattle.read_places.proofs.Refuses.{refuses_then, follow_refused}
 use Rattle.read_places.proofs.Words.{Follow, Chain, chain_less, chain_none, chain_more, binder_follows, name_follows, number_follows, heap_follows, mono_follows, more_follow, more_monos_follow}
 use Rattle.read_places.proofs.Refusing.{arg_refuses}
@@ -22,7 +22,7 @@ unfolding proof_on if_first end_at either ◌>>=◌ stop
 no_proof_more p zero = refl
 no_proof_more p (suc k) = refl
 
-module _ {b : Bool} (d d' : Deeper) (trust : Follow b d d') where
+module _ {b : Greater} (d d' : Deeper) (trust : Follow b d d') where
   arg_cases : (i j : ℕ) (k : Kind) (s : Span) → Both b i j s (arg_case k) (arg_case k)
   arg_cases i j (Sign AtSign) s = follow_then heap_follows (λ z. follow_give _)
   arg_cases i j _ s = tt

@@ -7,7 +7,7 @@ use Rattle.htt_tokens.specs.declared.tokens.Token.{Token}
 use Rattle.raw_trees.specs.declared.place.Span.{Span}
 use Rattle.htt_grammar.specs.Readers.{Reader, Why, expected, after, ◌>>=◌, stop, refused, refuse, chosen, either, first_is, if_first, measured}
 use Rattle.read_places.specs.Alike.{Alike}
-use Rattle.read_places.proofs.Follows.{Kept, Follows}
+use Rattle.read_places.proofs.Follows.{Greater, Kept, Follows}
 
 pub record Refuses {A : Type 0} (begins : Kind → Bool) (reader : Reader A) : Type 0 where
   pub refuses : (ts : List Token) → first_is begins ts ≡ false → reader ts ≡ Err (record { why = expected; rest = ts })
@@ -57,7 +57,7 @@ unfolding measured
 refuses_measured each = record { refuses = λ ts h. (each (length ts)).refuses ts h }
 
 -- a reader that refuses at a limit, and one that reads on
-pub follow_refused : {A : Type 0} {b : Bool} {n m : ℕ} {q : Reader A} (why : Why) (begins : Kind → Bool) → (Kept b why → ⊥) → Refuses begins q → Follows b n m (refuse why begins) q
+pub follow_refused : {A : Type 0} {b : Greater} {n m : ℕ} {q : Reader A} (why : Why) (begins : Kind → Bool) → (Kept b why → ⊥) → Refuses begins q → Follows b n m (refuse why begins) q
 unfolding refuse
 follow_refused {A = A} {b = b} {n = n} {m = m} {q = q} why begins not_kept refuses = record {
   answers = λ us short. record { before = []; parts = refl; same = λ other alike fits claimed. by_first us other alike claimed };

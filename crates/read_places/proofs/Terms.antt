@@ -1,6 +1,6 @@
 -- The readers of terms, types and computations follow one another.
 use Rattle.std.proofs.Common.{◌≡◌, ℕ, zero, suc, List, ◌++◌, refl, sym, ◌∙◌, subst}
-use Rattle.std.specs.Prelude.{Bool, Ok, Option, Some, None, Err, [], ◌∷◌}
+use Rattle.std.specs.Prelude.{Ok, Option, Some, None, Err, [], ◌∷◌}
 use Rattle.htt_tokens.specs.declared.tokens.Kind.{Kind}
 use Rattle.htt_tokens.specs.declared.tokens.Kind.TheVariants.{Name, Number, Keyword, Sign}
 use Rattle.htt_tokens.specs.declared.tokens.Token.{Token}
@@ -13,7 +13,7 @@ use Rattle.raw_trees.specs.Trees.{ProdSign, SumSign, TermTree, SumRestTree, Prod
 use Rattle.htt_grammar.specs.Readers.{Reader, measured, give, ◌>>=◌, stop, either, expected, too_long}
 use Rattle.htt_grammar.specs.Beginnings.{sum_sign_of, prod_sign_of}
 use Rattle.htt_grammar.specs.Phrases.{Deeper, terms_on, terms_there, bracket_case, atom_case, atom_at, part_case, no_part_case, parts_on, unary_case, appl_at, on_prod_sign, prod_on, prod_at, on_sum_sign, sum_on, sum_at, rel_at, triple_at, params_on, term_case, term_at, ty_at, step_case, step_at, comp_on, comp_at, a_binder}
-use Rattle.read_places.proofs.Follows.{Kept, Answers, Follows, Both, follow_give, follow_stop, follow_refuse, follow_then, follow_either, follow_eaten, follow_that, follow_that_less, follow_skip, follow_first, follow_measured}
+use Rattle.read_places.proofs.Follows.{Greater, Kept, Answers, Follows, Both, follow_give, follow_stop, follow_refuse, follow_then, follow_either, follow_eaten, follow_that, follow_that_less, follow_skip, follow_first, follow_measured}
 use Rattle.read_places.proofs.Refuses.{refuses_then, follow_refused}
 use Rattle.read_places.proofs.Words.{Follow, Chain, chain_less, chain_none, chain_more, binder_cases, binder_follows, name_follows, number_follows, mono_follows, right_follows, closes_follows, opens_follow, bracketed_follows, mono_refuses}
 use Rattle.read_places.proofs.Types.{behind_colon, open_case, stepwise_case, stepwise, by_steps}
@@ -36,22 +36,22 @@ no_comp_more p zero = refl
 no_comp_more p (suc k) = refl
 
 -- a reader that answers the same as one that follows
-follow_same : {A : Type 0} {b : Bool} {n m : ℕ} (r q r' q' : Reader A) → ((us : List Token) → r us ≡ r' us) → ((us : List Token) → q us ≡ q' us) → Follows b n m r' q' → Follows b n m r q
+follow_same : {A : Type 0} {b : Greater} {n m : ℕ} (r q r' q' : Reader A) → ((us : List Token) → r us ≡ r' us) → ((us : List Token) → q us ≡ q' us) → Follows b n m r' q' → Follows b n m r q
 follow_same {b = b} {m = m} r q r' q' one other follows = record {
   answers = λ us short.
       let got = subst (λ o. Answers b m q' us o) (sym (one us)) (follows.answers us short) in
       record { before = got.before; parts = got.parts; same = λ ts alike fits claimed. other (got.before ++ ts) ∙ got.same ts alike fits claimed };
 }
 
-of_prod_sign : {b : Bool} {i j : ℕ} (next other : ProdSign → Reader ProdRestTree) → ((o : ProdSign) → Follows b i j (next o) (other o)) → (s : Span) (o : Option ProdSign) → Both b i j s (on_prod_sign next o) (on_prod_sign other o)
+of_prod_sign : {b : Greater} {i j : ℕ} (next other : ProdSign → Reader ProdRestTree) → ((o : ProdSign) → Follows b i j (next o) (other o)) → (s : Span) (o : Option ProdSign) → Both b i j s (on_prod_sign next o) (on_prod_sign other o)
 of_prod_sign next other follows s None = tt
 of_prod_sign next other follows s (Some o) = follows o
 
-of_sum_sign : {b : Bool} {i j : ℕ} (next other : SumSign → Reader SumRestTree) → ((o : SumSign) → Follows b i j (next o) (other o)) → (s : Span) (o : Option SumSign) → Both b i j s (on_sum_sign next o) (on_sum_sign other o)
+of_sum_sign : {b : Greater} {i j : ℕ} (next other : SumSign → Reader SumRestTree) → ((o : SumSign) → Follows b i j (next o) (other o)) → (s : Span) (o : Option SumSign) → Both b i j s (on_sum_sign next o) (on_sum_sign other o)
 of_sum_sign next other follows s None = tt
 of_sum_sign next other follows s (Some o) = follows o
 
-module _ {b : Bool} (d d' : Deeper) (trust : Follow b d d') where
+module _ {b : Greater} (d d' : Deeper) (trust : Follow b d d') where
   -- ---- lists of terms
 
   terms_turn : (k j : ℕ) → ((i : Unit {0}) → Follows b k j (terms_on d k) (terms_on d' j)) → (i : Unit {0}) → Follows b (suc k) (suc j) (terms_on d (suc k)) (terms_on d' (suc j))

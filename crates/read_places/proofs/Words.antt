@@ -10,26 +10,30 @@ use Rattle.raw_trees.specs.Trees.{MonoTree}
 use Rattle.htt_grammar.specs.Readers.{Reader, expected, too_long, measured, give, ◌>>=◌, stop, either, after_commas}
 use Rattle.htt_grammar.specs.Beginnings.{begins_mono, begins_ty, begins_term, begins_comp, begins_fatom, begins_formula, begins_proof}
 use Rattle.htt_grammar.specs.Phrases.{Deeper, binder_case, a_binder, name_case, a_name_there, number_case, a_number_there, over_there, heap_case, a_heap, mono_right, mono_closes, mono_name_case, mono_inside, mono_case, mono_opens, mono_at, bracketed, more_monos}
-use Rattle.read_places.proofs.Follows.{Kept, Follows, Both, follow_give, follow_stop, follow_then, follow_either, follow_either_less, follow_that, follow_that_less, follow_skip, follow_measured}
+use Rattle.read_places.proofs.Follows.{Greater, in_none, in_chains, in_levels, in_all, Kept, Follows, Both, follow_give, follow_stop, follow_then, follow_either, follow_either_less, follow_that, follow_that_less, follow_skip, follow_measured}
 use Rattle.read_places.proofs.Refuses.{Refuses, refuses_stop, refuses_then, refuses_either, refuses_measured}
 
 -- how many operands may follow here, and there
-abbrev pub Chain : Bool → ℕ → ℕ → Type 0
-Chain true k j = k ≡ j
-Chain false k j = k ≤ j
+abbrev pub Chain : Greater → ℕ → ℕ → Type 0
+Chain in_none k j = k ≡ j
+Chain in_levels k j = k ≡ j
+Chain _ k j = k ≤ j
 
-pub chain_less : (b : Bool) (k j : ℕ) → Chain b (suc k) (suc j) → Chain b k j
-chain_less true k j h = omega (arith, h)
-chain_less false k j h = omega (arith, h)
+pub chain_less : (b : Greater) (k j : ℕ) → Chain b (suc k) (suc j) → Chain b k j
+chain_less in_none k j h = omega (arith, h)
+chain_less in_levels k j h = omega (arith, h)
+chain_less _ k j h = omega (arith, h)
 
-pub chain_none : (b : Bool) (k : ℕ) → Chain b (suc k) zero → ⊥
-chain_none true k h = omega (arith, h)
-chain_none false k h = omega (arith, h)
+pub chain_none : (b : Greater) (k : ℕ) → Chain b (suc k) zero → ⊥
+chain_none in_none k h = omega (arith, h)
+chain_none in_levels k h = omega (arith, h)
+chain_none _ k h = omega (arith, h)
 
 -- only greater limits let more operands follow
-pub chain_more : (b : Bool) (j : ℕ) → Chain b zero (suc j) → Kept b too_long → ⊥
-chain_more true j h kept = omega (arith, h)
-chain_more false j h kept = let no : false ≡ true = kept in cc
+pub chain_more : (b : Greater) (j : ℕ) → Chain b zero (suc j) → Kept b too_long → ⊥
+chain_more in_none j h kept = omega (arith, h)
+chain_more in_levels j h kept = omega (arith, h)
+chain_more _ j h kept = kept
 
 -- the readers of the phrases refuse what begins none
 pub record Refused (d : Deeper) : Type 0 where
@@ -44,7 +48,7 @@ pub record Refused (d : Deeper) : Type 0 where
   pub proof : Refuses begins_proof d.proof
 
 -- these readers of the phrases follow those
-pub record Follow (b : Bool) (d e : Deeper) : Type 0 where
+pub record Follow (b : Greater) (d e : Deeper) : Type 0 where
   pub further : Chain b d.further e.further
   pub refused : Refused e
   pub ty : {n m : ℕ} → Follows b n m d.ty e.ty
@@ -59,42 +63,42 @@ pub record Follow (b : Bool) (d e : Deeper) : Type 0 where
 
 -- ---- words
 
-pub binder_cases : (b : Bool) (n m : ℕ) (k : Kind) (s : Span) → Both b n m s (binder_case k) (binder_case k)
+pub binder_cases : (b : Greater) (n m : ℕ) (k : Kind) (s : Span) → Both b n m s (binder_case k) (binder_case k)
 binder_cases b n m Name s = follow_give _
 binder_cases b n m (Sign UnderscoreSign) s = follow_give _
 binder_cases b n m _ s = tt
 
-pub binder_follows : {b : Bool} {n m : ℕ} → Follows b n m a_binder a_binder
+pub binder_follows : {b : Greater} {n m : ℕ} → Follows b n m a_binder a_binder
 unfolding a_binder
 binder_follows = follow_either _ _ (binder_cases _ _ _) follow_stop
 
-name_cases : (b : Bool) (n m : ℕ) (k : Kind) (s : Span) → Both b n m s (name_case k) (name_case k)
+name_cases : (b : Greater) (n m : ℕ) (k : Kind) (s : Span) → Both b n m s (name_case k) (name_case k)
 name_cases b n m Name s = follow_give _
 name_cases b n m _ s = tt
 
-pub name_follows : {b : Bool} {n m : ℕ} → Follows b n m a_name_there a_name_there
+pub name_follows : {b : Greater} {n m : ℕ} → Follows b n m a_name_there a_name_there
 unfolding a_name_there
 name_follows = follow_either _ _ (name_cases _ _ _) follow_stop
 
-number_cases : (b : Bool) (n m : ℕ) (k : Kind) (s : Span) → Both b n m s (number_case k) (number_case k)
+number_cases : (b : Greater) (n m : ℕ) (k : Kind) (s : Span) → Both b n m s (number_case k) (number_case k)
 number_cases b n m (Number v) s = follow_give _
 number_cases b n m _ s = tt
 
-pub number_follows : {b : Bool} {n m : ℕ} → Follows b n m a_number_there a_number_there
+pub number_follows : {b : Greater} {n m : ℕ} → Follows b n m a_number_there a_number_there
 unfolding a_number_there
 number_follows = follow_either _ _ (number_cases _ _ _) follow_stop
 
-pub over_follows : {b : Bool} {n m : ℕ} → Follows b n m over_there over_there
+pub over_follows : {b : Greater} {n m : ℕ} → Follows b n m over_there over_there
 unfolding over_there
 over_follows = follow_that _ (follow_then number_follows (λ v. follow_give _)) (follow_give _)
 
-heap_cases : (b : Bool) (n m : ℕ) (k : Kind) (s : Span) → Both b n m s (heap_case k) (heap_case k)
+heap_cases : (b : Greater) (n m : ℕ) (k : Kind) (s : Span) → Both b n m s (heap_case k) (heap_case k)
 heap_cases b n m Name s = follow_give _
 heap_cases b n m (Keyword InitWord) s = follow_then over_follows (λ v. follow_give _)
 heap_cases b n m (Keyword MemWord) s = follow_then over_follows (λ v. follow_give _)
 heap_cases b n m _ s = tt
 
-pub heap_follows : {b : Bool} {n m : ℕ} → Follows b n m a_heap a_heap
+pub heap_follows : {b : Greater} {n m : ℕ} → Follows b n m a_heap a_heap
 unfolding a_heap
 heap_follows = follow_either _ _ (heap_cases _ _ _) follow_stop
 
@@ -105,16 +109,16 @@ unfolding after_commas either give
 no_more p zero = refl
 no_more p (suc k) = refl
 
-commas_turn : {A : Type 0} {b : Bool} (r q : Reader A) → ((i j : ℕ) → Follows b i j r q) → (k j : ℕ) → ((i : Unit {0}) → Follows b k j (after_commas (Sign CommaSign) r k) (after_commas (Sign CommaSign) q j)) → (i : Unit {0}) → Follows b (suc k) (suc j) (after_commas (Sign CommaSign) r (suc k)) (after_commas (Sign CommaSign) q (suc j))
+commas_turn : {A : Type 0} {b : Greater} (r q : Reader A) → ((i j : ℕ) → Follows b i j r q) → (k j : ℕ) → ((i : Unit {0}) → Follows b k j (after_commas (Sign CommaSign) r k) (after_commas (Sign CommaSign) q j)) → (i : Unit {0}) → Follows b (suc k) (suc j) (after_commas (Sign CommaSign) r (suc k)) (after_commas (Sign CommaSign) q (suc j))
 unfolding after_commas
 commas_turn r q item k j next i = follow_that_less _ (follow_then (item k j) (λ x. follow_then (next tt) (λ xs. follow_give _))) (follow_give _)
 
-pub more_follow : {A : Type 0} {b : Bool} {n m : ℕ} (r q : Reader A) → ((i j : ℕ) → Follows b i j r q) → Follows b n m (measured (after_commas (Sign CommaSign) r)) (measured (after_commas (Sign CommaSign) q))
+pub more_follow : {A : Type 0} {b : Greater} {n m : ℕ} (r q : Reader A) → ((i j : ℕ) → Follows b i j r q) → Follows b n m (measured (after_commas (Sign CommaSign) r)) (measured (after_commas (Sign CommaSign) q))
 more_follow r q item = follow_measured (λ (i : Unit {0}) k. after_commas (Sign CommaSign) r k) (λ i k. after_commas (Sign CommaSign) q k) (Ok ([], [])) refl refl (λ i k. no_more r k) (λ i k. no_more q k) (commas_turn r q item) tt
 
 -- ---- monotypes
 
-mono_name_cases : (b : Bool) (n m : ℕ) (k : Kind) (s : Span) → Both b n m s (mono_name_case k) (mono_name_case k)
+mono_name_cases : (b : Greater) (n m : ℕ) (k : Kind) (s : Span) → Both b n m s (mono_name_case k) (mono_name_case k)
 mono_name_cases b n m Name s = follow_give _
 mono_name_cases b n m (Keyword WordWord) s = follow_give _
 mono_name_cases b n m (Keyword BoolWord) s = follow_give _
@@ -122,10 +126,10 @@ mono_name_cases b n m (Keyword LocWord) s = follow_give _
 mono_name_cases b n m (Keyword UnitWord) s = follow_give _
 mono_name_cases b n m _ s = tt
 
-pub mono_name_follows : {b : Bool} {n m : ℕ} → Follows b n m (either mono_name_case stop) (either mono_name_case stop)
+pub mono_name_follows : {b : Greater} {n m : ℕ} → Follows b n m (either mono_name_case stop) (either mono_name_case stop)
 mono_name_follows = follow_either _ _ (mono_name_cases _ _ _) follow_stop
 
-module _ {b : Bool} (d e : Deeper) (trust : Follow b d e) where
+module _ {b : Greater} (d e : Deeper) (trust : Follow b d e) where
   pub right_follows : {n m : ℕ} → Follows b n m (mono_right d) (mono_right e)
   unfolding mono_right
   right_follows = follow_that _ (follow_then trust.mono (λ t. follow_give _)) (follow_give _)
