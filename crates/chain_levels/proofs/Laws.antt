@@ -1,5 +1,5 @@
 -- Where the tokens before a further operand have at most some level, it has no greater one.
-use Rattle.std.proofs.Common.{◌≡◌, ℕ, List, subst}
+use Rattle.std.proofs.Common.{ℕ, List, subst}
 use Rattle.htt_grammar.specs.Marks.{Mark}
 use Rattle.htt_grammar.specs.Grammar
 use Rattle.chain_levels.specs.Operands.{OperandsStandNoDeeper, InMonotypes, InFormulas, InProofs, InFiles}

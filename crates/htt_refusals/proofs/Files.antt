@@ -1,6 +1,6 @@
 -- Each refusal of a file is right.
 use Rattle.std.proofs.Common.{◌≡◌, ℕ, zero, suc, ◌+◌, ◌<◌, ◌≤◌, List, [], ◌∷◌, ◌++◌, length, refl, sym, ◌∙◌, ap, subst, arith, lit≤, append_assoc, append-nil}
-use Rattle.std.specs.Prelude.{true, false, Result, Ok, Err}
+use Rattle.std.specs.Prelude.{Result, Ok, Err}
 use Rattle.htt_tokens.specs.declared.tokens.Token.{Token}
 use Rattle.raw_trees.specs.Trees.{DeclTree}
 use Rattle.htt_grammar.specs.Marks.{Mark, Limits, Fits, AllFit, AllWithin, span_of, ◌⨟◌}

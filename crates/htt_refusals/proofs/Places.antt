@@ -1,6 +1,6 @@
 -- Where a reader stops, by the trees that its completions give and by the readers that may read on.
 use Rattle.std.proofs.Common.{◌≡◌, ℕ, ◌+◌, ◌≤◌, List, [], ◌∷◌, ◌++◌, length, refl, sym, ◌∙◌, ap, subst, arith, append_assoc}
-use Rattle.std.specs.Prelude.{Bool, true, false, Ok, Err}
+use Rattle.std.specs.Prelude.{Ok, Err}
 use Rattle.std.proofs.lemmas.List.{append_cancel_right}
 use Rattle.htt_tokens.specs.declared.tokens.Token.{Token}
 use Rattle.htt_grammar.specs.Marks.{Mark, Limits, IsWithin, AllFit, AllWithin}

@@ -13,7 +13,7 @@ use Rattle.htt_grammar.specs.Grammar
 use Rattle.htt_grammar.specs.Readers.{Reader, measured, ◌>>=◌, stop, either, that, token, after_commas, Halt}
 use Rattle.htt_grammar.specs.Phrases.{Deeper, binder_case, a_binder, name_case, a_name_there, number_case, a_number_there, over_there, heap_case, a_heap, mono_right, mono_closes, mono_name_case, mono_inside, mono_case, mono_opens, mono_at, bracketed, more_monos}
 use Rattle.std.proofs.Common.{◌≡◌, ℕ, zero, suc, ◌≤◌, List, [], ◌∷◌, ◌++◌, refl, sym, ap, subst, append-nil}
-use Rattle.std.specs.Prelude.{Bool, false, Some, None, Result, Ok, Err}
+use Rattle.std.specs.Prelude.{Bool, Some, None, Result, Ok, Err}
 use Rattle.htt_reading.proofs.Tells.{renumber}
 use Rattle.htt_reading.proofs.Words.{Trusts, Stands, numbered_tells, token_tells, opened, right_marks, in_brackets_again, after_name}
 use Rattle.htt_reading.proofs.Words as told

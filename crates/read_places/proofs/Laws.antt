@@ -8,7 +8,7 @@ use Rattle.htt_grammar.specs.Reading.{deeper, file_on}
 use Rattle.htt_reading.specs.Laws.{outermost}
 use Rattle.read_places.specs.Alike.{Alike}
 use Rattle.read_places.specs.Laws.{Decides, Keeps, MonoDecides, FormulaDecides, ProofDecides, FileDecides, MonoKeeps, FormulaKeeps, ProofKeeps, FileKeeps}
-use Rattle.read_places.proofs.Follows.{Greater, in_none, in_chains, in_levels, in_all, Kept, Claimed, Answers, Follows, rest_of, with_rest, alike_self}
+use Rattle.read_places.proofs.Follows.{Greater, in_none, in_all, Kept, Claimed, Answers, Follows, rest_of, with_rest, alike_self}
 use Rattle.read_places.proofs.Words.{Follow}
 use Rattle.read_places.proofs.Files.{follow_self, follow_greater, file_follows}
 

@@ -1,6 +1,6 @@
 -- The readers of names, numbers, heaps and monotypes follow one another.
 use Rattle.std.proofs.Common.{◌≡◌, ℕ, zero, suc, ◌≤◌, List, [], ◌∷◌, refl, arith}
-use Rattle.std.specs.Prelude.{Bool, true, false, None, Ok, Err}
+use Rattle.std.specs.Prelude.{true, false, None, Ok, Err}
 use Rattle.htt_tokens.specs.declared.tokens.Kind.{Kind}
 use Rattle.htt_tokens.specs.declared.tokens.Kind.TheVariants.{Name, Number, Keyword, Sign}
 use Rattle.htt_tokens.specs.declared.tokens.Keyword.TheVariants.{WordWord, BoolWord, LocWord, UnitWord, InitWord, MemWord}
@@ -10,7 +10,7 @@ use Rattle.raw_trees.specs.Trees.{MonoTree}
 use Rattle.htt_grammar.specs.Readers.{Reader, expected, too_long, measured, give, ◌>>=◌, stop, either, after_commas}
 use Rattle.htt_grammar.specs.Beginnings.{begins_mono, begins_ty, begins_term, begins_comp, begins_fatom, begins_formula, begins_proof}
 use Rattle.htt_grammar.specs.Phrases.{Deeper, binder_case, a_binder, name_case, a_name_there, number_case, a_number_there, over_there, heap_case, a_heap, mono_right, mono_closes, mono_name_case, mono_inside, mono_case, mono_opens, mono_at, bracketed, more_monos}
-use Rattle.read_places.proofs.Follows.{Greater, in_none, in_chains, in_levels, in_all, Kept, Follows, Both, follow_give, follow_stop, follow_then, follow_either, follow_either_less, follow_that, follow_that_less, follow_skip, follow_measured}
+use Rattle.read_places.proofs.Follows.{Greater, in_none, in_levels, Kept, Follows, Both, follow_give, follow_stop, follow_then, follow_either, follow_either_less, follow_that, follow_that_less, follow_skip, follow_measured}
 use Rattle.read_places.proofs.Refuses.{Refuses, refuses_stop, refuses_then, refuses_either, refuses_measured}
 
 -- how many operands may follow here, and there

@@ -1,24 +1,23 @@
 -- Files: no two refusals are right.
-use Rattle.std.proofs.Common.{◌≡◌, ℕ, ◌+◌, ◌≤◌, List, [], ◌∷◌, ◌++◌, length, refl, sym, ◌∙◌, ap, subst, arith}
+use Rattle.std.proofs.Common.{◌≡◌, ℕ, ◌+◌, List, [], ◌∷◌, ◌++◌, length, refl, sym, ◌∙◌, ap, subst, arith}
 use Rattle.std.specs.Prelude.{Result, Ok, Err}
 use Rattle.std.proofs.lemmas.List.{append_cancel_right}
 use Rattle.htt_tokens.specs.declared.tokens.Token.{Token}
 use Rattle.raw_trees.specs.Trees.{DeclTree}
-use Rattle.htt_grammar.specs.Marks.{Mark, Limits, AllFit}
+use Rattle.htt_grammar.specs.Marks.{Mark, Limits}
 use Rattle.htt_grammar.specs.Grammar
 use Rattle.htt_grammar.specs.Derivations.{the_limits}
 use Rattle.htt_grammar.specs.Readers.{Halt, Why, expected, too_nested, too_long, too_many}
-use Rattle.htt_grammar.specs.Phrases.{Deeper}
 use Rattle.htt_grammar.specs.Reading.{file_on}
 use Rattle.htt_grammar.proofs.Files.{file_gets}
 use Rattle.htt_reading.specs.Laws.{outermost, read_file}
 use Rattle.htt_reading.proofs.Laws.{file_is_derived}
 use Rattle.chain_levels.proofs.Laws.{in_files}
-use Rattle.read_places.proofs.Follows.{Greater, in_none, in_chains, in_levels, in_all}
+use Rattle.read_places.proofs.Follows.{Greater, in_none, in_levels}
 use Rattle.read_places.proofs.Words.{Chain}
 use Rattle.read_places.proofs.Files.{file_follows}
 use Rattle.read_limits.proofs.Files.{file_bars}
-use Rattle.htt_refusals.specs.Refusals.{Begins, GoesPast, IsTooDeep, IsTooFar, NoneGoesOn, NoneWithin, ShortFile, short_file, Full, IsRightInFile, FileRefusal}
+use Rattle.htt_refusals.specs.Refusals.{Begins, GoesPast, IsTooDeep, IsTooFar, NoneGoesOn, NoneWithin, short_file, IsRightInFile, FileRefusal}
 use Rattle.htt_refusals.proofs.Files.{file_is_refused}
 use Rattle.htt_refusals.proofs.One.{file_has_one_place, file_is_not_derived}
 use Rattle.refusal_reasons.specs.Laws.{FileHasOneRefusal}

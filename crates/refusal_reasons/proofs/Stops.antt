@@ -1,12 +1,12 @@
 -- Where reading stops at a limit, no tree goes on with the token past the other limit: with this one
 -- as great as the tree needs, reading would stop there as before, though the tree is within both.
 use Rattle.std.proofs.Common.{◌≡◌, ℕ, zero, suc, ◌+◌, ◌<◌, ◌≤◌, List, [], ◌∷◌, ◌++◌, length, refl, sym, ◌∙◌, subst, arith, append_assoc}
-use Rattle.std.specs.Prelude.{Bool, Result, Ok, Err}
+use Rattle.std.specs.Prelude.{Bool, Ok, Err}
 use Rattle.htt_tokens.specs.declared.tokens.Kind.{Kind}
 use Rattle.htt_tokens.specs.declared.tokens.Token.{Token}
 use Rattle.htt_grammar.specs.Marks.{Mark, Limits, IsWithin, AllFit, AllWithin}
 use Rattle.htt_grammar.specs.Derivations.{the_limits}
-use Rattle.htt_grammar.specs.Readers.{Reader, Halt, Why, too_nested, too_long}
+use Rattle.htt_grammar.specs.Readers.{Reader, Why, too_nested, too_long}
 use Rattle.htt_grammar.specs.Phrases.{Deeper}
 use Rattle.htt_grammar.specs.Reading.{deeper}
 use Rattle.htt_grammar.proofs.Spells.{spelled}
