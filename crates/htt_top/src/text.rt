@@ -1,5 +1,7 @@
 //! The tokens and the declarations of a text, and its refusals as a command answers them.
 
+ghost use Rattle.std.specs.Prelude.{◌≡◌, length};
+ghost use Rattle.htt_parser.specs.Refusals.{first_byte};
 ghost use Rattle.htt_top.specs.Stages.{ParseGives, TokensGive};
 ghost use Rattle.htt_top.specs.Views.{decls_result, tokens_result};
 
@@ -55,7 +57,9 @@ pub(crate) fn decls_of(
 }
 
 /// Where a text that has declarations, but not those of a form, is refused: at its first token.
-pub(crate) fn first_byte(bytes: &[u8], tokens: &[Token]) -> u64 {
+pub(crate) fn first_byte(bytes: &[u8], tokens: &[Token]) -> u64
+    ensures { result ≡ first_byte (length bytes.now) tokens.now }
+{
     match tokens.first() {
         Some(token) => token.from,
         None => bytes.len() as u64,
