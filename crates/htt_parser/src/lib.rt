@@ -3,6 +3,8 @@
 #![tactic(auto)]
 
 mod calls;
+#[cfg(test)]
+mod limits;
 mod stops;
 #[cfg(test)]
 mod tests;

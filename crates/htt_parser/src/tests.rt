@@ -9,14 +9,14 @@ use std::test::Fail;
 
 /// A call of the crate.
 #[derive(Clone, Copy)]
-enum Call {
+pub enum Call {
     File,
     Formula,
     Proof,
 }
 
 /// How the call refuses the text, if it does; texts that have no tokens aren't asked about.
-fn stop(rt: HostRuntime, call: Call, text: &str) -> Option<ParseStop> {
+pub fn stop(rt: HostRuntime, call: Call, text: &str) -> Option<ParseStop> {
     let Ok(found) = tokens(rt.alloc(), text.as_bytes()) else {
         return Some(ParseStop::NoMemory);
     };
@@ -182,86 +182,6 @@ fn refusals_stand_at_the_first_wrong_token(rt: HostRuntime) {
     }
 }
 
-/// The text with this before it and that behind it, so often.
-fn around(
-    rt: HostRuntime,
-    before: &str,
-    text: &str,
-    behind: &str,
-    times: usize,
-) -> Result<String, Fail> {
-    let mut whole = String::new(rt.alloc());
-    for _ in 0..times {
-        whole.push_str(before)?;
-    }
-    whole.push_str(text)?;
-    for _ in 0..times {
-        whole.push_str(behind)?;
-    }
-    Ok(whole)
-}
-
-#[test]
-fn phrases_have_at_most_256_levels(rt: HostRuntime) -> Result<(), Fail> {
-    for (call, before, text, behind) in [
-        (Call::Formula, "[", "tt", "]"),
-        (Call::Formula, "tt=>", "tt", ""),
-        (Call::Proof, "left(", "u", ")"),
-    ] {
-        let last = around(rt, before, text, behind, 255)?;
-        assert!(rt; stop(rt, call, &last).is_none(), "{text}");
-        let deeper = around(rt, before, text, behind, 256)?;
-        let at = before.len() as u64 * 256;
-        assert!(rt;
-            stop(rt, call, &deeper) == Some(ParseStop::TooNested { at }),
-            "{text}"
-        );
-    }
-    Ok(())
-}
-
-#[test]
-fn chains_have_at_most_64_operands(rt: HostRuntime) -> Result<(), Fail> {
-    for (call, text, more, end, from) in [
-        (Call::Formula, "x", "+x", "=[word]y", 2),
-        (Call::Formula, "x", " x", "=[word]y", 2),
-        (Call::Formula, "x", "[word]", "=[word]y", 2),
-        (Call::Proof, "app(u", ",u", ")", 6),
-        (Call::Proof, "inst(u", ",x", ")", 7),
-    ] {
-        let mut last = around(rt, "", text, more, 63)?;
-        let at = from + more.len() as u64 * 63;
-        let mut longer = around(rt, "", text, more, 64)?;
-        last.push_str(end)?;
-        longer.push_str(end)?;
-        assert!(rt; stop(rt, call, &last).is_none(), "{text}{more}");
-        let refused = stop(rt, call, &longer);
-        assert!(rt;
-            refused == Some(ParseStop::TooLongChain { at }),
-            "{text}{more}"
-        );
-    }
-    Ok(())
-}
-
-#[test]
-fn a_file_has_at_most_10000_declarations(rt: HostRuntime) -> Result<(), Fail> {
-    let last = around(rt, "", "", "type t=word ", 10_000)?;
-    assert!(rt; stop(rt, Call::File, &last).is_none());
-    let more = around(rt, "", "", "type t=word ", 10_001)?;
-    let at = 120_000;
-    assert_eq!(rt;
-        stop(rt, Call::File, &more),
-        Some(ParseStop::TooMany { at })
-    );
-    let other = around(rt, last.as_str(), "word", "", 1)?;
-    assert_eq!(rt;
-        stop(rt, Call::File, &other),
-        Some(ParseStop::Expected { at })
-    );
-    Ok(())
-}
-
 #[test]
 fn trees_keep_what_stands_in_the_text(rt: HostRuntime) -> Result<(), Fail> {
     let text = b"((word)*a)";
@@ -298,19 +218,5 @@ fn declarations_stand_in_their_order(rt: HostRuntime) -> Result<(), Fail> {
     );
     let formula = parse_formula(rt.alloc(), b"", &[]).err();
     assert_eq!(rt; formula, Some(ParseStop::Expected { at: 0 }));
-    Ok(())
-}
-
-#[test]
-fn the_limit_is_answered_only_where_a_monotype_can_begin(rt: HostRuntime) -> Result<(), Fail> {
-    for (last, refusal) in [
-        ("word", ParseStop::TooNested { at: 1_536 }),
-        (")", ParseStop::Expected { at: 1_536 }),
-    ] {
-        let text = around(rt, "word *", last, "", 256)?;
-        let found = tokens(rt.alloc(), text.as_bytes())?;
-        let refused = parse_mono(rt.alloc(), text.as_bytes(), &found).err();
-        assert_eq!(rt; refused, Some(refusal), "{last}");
-    }
     Ok(())
 }
