@@ -26,7 +26,7 @@ fn around(
 
 /// What nests a phrase: the call, what stands before all turns, a turn before the phrase, how many of
 /// its bytes stand before what is a level deeper, the phrase, a turn behind it, what stands behind all.
-const TURNS: [(Call, &str, &str, usize, &str, &str, &str); 30] = [
+const TURNS: [(Call, &str, &str, u64, &str, &str, &str); 30] = [
     (
         Call::File,
         "val f : ",
@@ -99,6 +99,11 @@ const TURNS: [(Call, &str, &str, usize, &str, &str, &str); 30] = [
     (Call::Proof, "", "the[tt](", 4, "u", ")", ""),
 ];
 
+/// The byte behind what stands before all turns and so many turns.
+fn behind_turns(start: &str, turn: &str, turns: u64) -> u64 {
+    (start.len() as u64).wrapping_add((turn.len() as u64).wrapping_mul(turns))
+}
+
 #[test]
 fn phrases_have_at_most_256_levels(rt: HostRuntime) -> Result<(), Fail> {
     let alloc = rt.alloc();
@@ -108,7 +113,7 @@ fn phrases_have_at_most_256_levels(rt: HostRuntime) -> Result<(), Fail> {
         assert!(rt; stop(rt, call, &last).is_none(), "{before}");
         let past = around(rt, before, text, behind, 256)?;
         let past = format!(in alloc; "{start}{past}{end}")?;
-        let at = (start.len() + before.len() * 255 + deeper) as u64;
+        let at = behind_turns(start, before, 255).wrapping_add(deeper);
         assert!(rt;
             stop(rt, call, &past) == Some(ParseStop::TooNested { at }),
             "{before}"
@@ -127,7 +132,7 @@ fn computations_and_their_results_are_levels(rt: HostRuntime) -> Result<(), Fail
         assert!(rt; stop(rt, Call::File, &last).is_none(), "{before}");
         let past = around(rt, before, "1", "", 128)?;
         let past = format!(in alloc; "{start}{past}")?;
-        let at = (start.len() + before.len() * 128) as u64;
+        let at = behind_turns(start, before, 128);
         assert!(rt;
             stop(rt, Call::File, &past) == Some(ParseStop::TooNested { at }),
             "{before}"
