@@ -3,14 +3,15 @@ use Rattle.std.proofs.Common.{◌≡◌, ℕ, ◌≤◌, List, ◌++◌, length,
 use Rattle.std.specs.Prelude.{Result, Ok, Err}
 use Rattle.std.proofs.lemmas.List.{append_cancel_right}
 use Rattle.htt_tokens.specs.declared.tokens.Token.{Token}
-use Rattle.htt_grammar.specs.Readers.{Reader, Halt, Why, expected}
+use Rattle.htt_grammar.specs.Readers.{Reader, Halt, Why, expected, too_nested, too_long}
+use Rattle.htt_grammar.specs.Phrases.{Deeper}
 use Rattle.htt_grammar.specs.Reading.{deeper, file_on}
 use Rattle.htt_reading.specs.Laws.{outermost}
 use Rattle.read_places.specs.Alike.{Alike}
-use Rattle.read_places.specs.Laws.{Decides, Keeps, MonoDecides, FormulaDecides, ProofDecides, FileDecides, MonoKeeps, FormulaKeeps, ProofKeeps, FileKeeps}
-use Rattle.read_places.proofs.Follows.{Greater, in_none, in_all, Kept, Claimed, Answers, Follows, rest_of, with_rest, alike_self}
-use Rattle.read_places.proofs.Words.{Follow}
-use Rattle.read_places.proofs.Files.{follow_self, follow_greater, file_follows}
+use Rattle.read_places.specs.Laws.{Decides, Keeps, KeepsStops, OtherLimitKeeps, MonoDecides, FormulaDecides, ProofDecides, FileDecides, MonoKeeps, FormulaKeeps, ProofKeeps, FileKeeps, MonoStopsStay, FormulaStopsStay, ProofStopsStay, FileStopsStay}
+use Rattle.read_places.proofs.Follows.{Greater, in_none, in_chains, in_levels, in_all, Kept, Claimed, Answers, Follows, rest_of, with_rest, alike_self}
+use Rattle.read_places.proofs.Words.{Follow, chain_same}
+use Rattle.read_places.proofs.Files.{follow_limits, follow_self, follow_greater, file_follows}
 
 pub kept_same : (why : Why) → Kept in_none why
 kept_same expected = tt
@@ -31,7 +32,7 @@ decides follows = record {
   refuses = λ before rest other why alike e. answers_alike (answers_of follows (length (before ++ other)) (before ++ rest) (Err (record { why = why; rest = rest })) e) before other refl alike (omega arith) (kept_same why);
 }
 
-same_again : {A : Type 0} {q : Reader A} {us : List Token} {o : Result (A × List Token) Halt} → Answers in_all (length us) q us o → Claimed in_all o → q us ≡ with_rest o (rest_of o)
+same_again : {A : Type 0} {b : Greater} {q : Reader A} {us : List Token} {o : Result (A × List Token) Halt} → Answers b (length us) q us o → Claimed b o → q us ≡ with_rest o (rest_of o)
 same_again {q = q} {us = us} {o = o} got claimed = subst (λ ts. q ts ≡ with_rest o (rest_of o)) (sym got.parts) (got.same (rest_of o) (alike_self (rest_of o)) (subst (λ ts. length ts ≤ length us) got.parts (omega arith)) claimed)
 
 keeps : {A : Type 0} {r q : Reader A} → ((n m : ℕ) → Follows in_all n m r q) → Keeps r q
@@ -69,3 +70,26 @@ proof_keeps further more n m wide deep = keeps (λ i j. (follow_greater further 
 
 pub file_keeps : FileKeeps
 file_keeps count many few further more n m wide deep = keeps (λ i j. file_follows (deeper further n) (deeper more m) (follow_greater further more n m wide deep) count many few)
+
+-- ---- where one limit is greater, a stop at the other stays
+
+keeps_stops : {A : Type 0} {b : Greater} {r q : Reader A} (why : Why) → Kept b why → ((n m : ℕ) → Follows b n m r q) → KeepsStops why r q
+keeps_stops why kept follows tokens rest e = same_again (answers_of follows (length tokens) tokens (Err (record { why = why; rest = rest })) e) kept
+
+other_limit : {A : Type 0} (read : Deeper → Reader A) → ((b : Greater) (d e : Deeper) → Follow b d e → (n m : ℕ) → Follows b n m (read d) (read e)) → OtherLimitKeeps read
+other_limit read follows = record {
+  levels = λ further more n wide. keeps_stops {b = in_chains} too_nested tt (follows in_chains (deeper further n) (deeper more n) (follow_limits in_chains further more n n wide refl));
+  chains = λ further n m deep. keeps_stops {b = in_levels} too_long tt (follows in_levels (deeper further n) (deeper further m) (follow_limits in_levels further further n m refl deep));
+}
+
+pub mono_stops_stay : MonoStopsStay
+mono_stops_stay = other_limit (λ d. d.mono) (λ b d e follow n m. follow.mono)
+
+pub formula_stops_stay : FormulaStopsStay
+formula_stops_stay = other_limit (λ d. d.formula) (λ b d e follow n m. follow.formula)
+
+pub proof_stops_stay : ProofStopsStay
+proof_stops_stay = other_limit (λ d. d.proof) (λ b d e follow n m. follow.proof)
+
+pub file_stops_stay : FileStopsStay
+file_stops_stay count = other_limit (λ d. file_on d count) (λ b d e follow n m. file_follows d e follow count count (chain_same b count))

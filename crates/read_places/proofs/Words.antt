@@ -19,6 +19,11 @@ Chain in_none k j = k ≡ j
 Chain in_levels k j = k ≡ j
 Chain _ k j = k ≤ j
 
+pub chain_same : (b : Greater) (k : ℕ) → Chain b k k
+chain_same in_none k = refl
+chain_same in_levels k = refl
+chain_same _ k = omega arith
+
 pub chain_less : (b : Greater) (k j : ℕ) → Chain b (suc k) (suc j) → Chain b k j
 chain_less in_none k j h = omega (arith, h)
 chain_less in_levels k j h = omega (arith, h)

@@ -2,7 +2,7 @@
 -- on no limit.
 use Rattle.std.specs.Prelude.{◌≡◌, ℕ, ◌≤◌, List, ◌++◌, Ok, Err}
 use Rattle.htt_tokens.specs.declared.tokens.Token.{Token}
-use Rattle.htt_grammar.specs.Readers.{Reader, Why, expected}
+use Rattle.htt_grammar.specs.Readers.{Reader, Why, expected, too_nested, too_long}
 use Rattle.htt_grammar.specs.Phrases.{Deeper}
 use Rattle.htt_grammar.specs.Reading.{deeper, file_on}
 use Rattle.htt_reading.specs.Laws.{read_mono, read_formula, read_proof, read_file}
@@ -46,3 +46,25 @@ ProofKeeps = GreaterKeep (λ d. d.proof)
 -- and those that may read more declarations
 abbrev pub FileKeeps : Type 0
 FileKeeps = (count many : ℕ) → count ≤ many → (further more n m : ℕ) → further ≤ more → n ≤ m → Keeps (file_on (deeper further n) count) (file_on (deeper more m) many)
+
+-- the other reader stops for this reason where the one does
+abbrev pub KeepsStops : {A : Type 0} → Why → Reader A → Reader A → Type 0
+KeepsStops why reader other = (tokens rest : List Token) → reader tokens ≡ Err (record { why = why; rest = rest }) → other tokens ≡ Err (record { why = why; rest = rest })
+
+-- a reader that may read further, but no deeper, stops at the same levels; one that may read deeper, but
+-- no further, in the same chains
+pub record OtherLimitKeeps {A : Type 0} (read : Deeper → Reader A) : Type 0 where
+  pub levels : (further more n : ℕ) → further ≤ more → KeepsStops too_nested (read (deeper further n)) (read (deeper more n))
+  pub chains : (further n m : ℕ) → n ≤ m → KeepsStops too_long (read (deeper further n)) (read (deeper further m))
+
+abbrev pub MonoStopsStay : Type 0
+MonoStopsStay = OtherLimitKeeps (λ d. d.mono)
+
+abbrev pub FormulaStopsStay : Type 0
+FormulaStopsStay = OtherLimitKeeps (λ d. d.formula)
+
+abbrev pub ProofStopsStay : Type 0
+ProofStopsStay = OtherLimitKeeps (λ d. d.proof)
+
+abbrev pub FileStopsStay : Type 0
+FileStopsStay = (count : ℕ) → OtherLimitKeeps (λ d. file_on d count)

@@ -2,7 +2,7 @@
 //! that doesn't speak of limits. A function without a body states laws by its contract.
 #![tactic(auto)]
 
-ghost use Rattle.read_places.specs.Laws.{FileDecides, FileKeeps, FormulaDecides, FormulaKeeps, MonoDecides, MonoKeeps, ProofDecides, ProofKeeps};
+ghost use Rattle.read_places.specs.Laws.{FileDecides, FileKeeps, FileStopsStay, FormulaDecides, FormulaKeeps, FormulaStopsStay, MonoDecides, MonoKeeps, MonoStopsStay, ProofDecides, ProofKeeps, ProofStopsStay};
 
 /// An answer is the same whatever follows the next token.
 pub fn readers_decide_by_the_next_token()
@@ -18,4 +18,12 @@ pub fn greater_limits_keep_answers()
     ensures formulas { FormulaKeeps }
     ensures proofs { ProofKeeps }
     ensures files { FileKeeps }
+{}
+
+/// Where one of the two limits is greater and the other is not, a stop at the other stays.
+pub fn a_greater_limit_keeps_stops_at_the_other()
+    ensures monotypes { MonoStopsStay }
+    ensures formulas { FormulaStopsStay }
+    ensures proofs { ProofStopsStay }
+    ensures files { FileStopsStay }
 {}

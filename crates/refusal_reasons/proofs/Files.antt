@@ -13,8 +13,7 @@ use Rattle.htt_grammar.proofs.Files.{file_gets}
 use Rattle.htt_reading.specs.Laws.{outermost, read_file}
 use Rattle.htt_reading.proofs.Laws.{file_is_derived}
 use Rattle.chain_levels.proofs.Laws.{in_files}
-use Rattle.read_places.proofs.Follows.{Greater, in_none, in_levels}
-use Rattle.read_places.proofs.Words.{Chain}
+use Rattle.read_places.proofs.Words.{chain_same}
 use Rattle.read_places.proofs.Files.{file_follows}
 use Rattle.read_limits.proofs.Files.{file_bars}
 use Rattle.htt_refusals.specs.Refusals.{Begins, GoesPast, IsTooDeep, IsTooFar, NoneGoesOn, NoneWithin, short_file, IsRightInFile, FileRefusal}
@@ -24,21 +23,16 @@ use Rattle.refusal_reasons.specs.Laws.{FileHasOneRefusal}
 use Rattle.refusal_reasons.proofs.Stops.{not_too_far, not_too_deep}
 use Rattle.refusal_reasons.proofs.Phrases.{begins_past, same_halt}
 
-as_many : (b : Greater) (m : ℕ) → Chain b m m
-as_many in_none m = refl
-as_many in_levels m = refl
-as_many _ m = omega arith
-
 -- declarations past a limit, whatever their number
 any_file : {past : Limits → Mark → Type 0} {before : List Token} {t : Token} → GoesPast the_limits past short_file before t → GoesPast the_limits past Grammar.file before t
 any_file goes = record { tree = goes.tree.decls; first = goes.first; mark = goes.mark; others = goes.others; more = goes.more; whole = goes.whole; fit = goes.fit; within = goes.within; next = goes.next; past = goes.past; goes_on = goes.goes_on }
 
 module _ (m : ℕ) where
   far_here : (before : List Token) (t : Token) (more : List Token) → file_on outermost m (before ++ (t ∷ more)) ≡ Err (record { why = too_nested; rest = t ∷ more }) → GoesPast the_limits IsTooFar Grammar.file before t → ⊥
-  far_here = not_too_far (λ d. file_on d m) (λ y d. file_on d (m + length y)) Grammar.file _ (λ y lim d know n. file_gets d know (m + length y) y (omega arith)) (λ b d e follow i j. file_follows d e follow m m (as_many b m)) (λ y lim d e stands bar. file_bars d e stands bar m (m + length y) (omega arith)) in_files
+  far_here = not_too_far (λ d. file_on d m) (λ y d. file_on d (m + length y)) Grammar.file _ (λ y lim d know n. file_gets d know (m + length y) y (omega arith)) (λ b d e follow i j. file_follows d e follow m m (chain_same b m)) (λ y lim d e stands bar. file_bars d e stands bar m (m + length y) (omega arith)) in_files
 
   deep_here : (before : List Token) (t : Token) (more : List Token) → file_on outermost m (before ++ (t ∷ more)) ≡ Err (record { why = too_long; rest = t ∷ more }) → GoesPast the_limits IsTooDeep Grammar.file before t → ⊥
-  deep_here = not_too_deep (λ d. file_on d m) (λ y d. file_on d (m + length y)) Grammar.file _ (λ y lim d know n. file_gets d know (m + length y) y (omega arith)) (λ b d e follow i j. file_follows d e follow m m (as_many b m)) (λ y lim d e stands bar. file_bars d e stands bar m (m + length y) (omega arith)) in_files
+  deep_here = not_too_deep (λ d. file_on d m) (λ y d. file_on d (m + length y)) Grammar.file _ (λ y lim d know n. file_gets d know (m + length y) y (omega arith)) (λ b d e follow i j. file_follows d e follow m m (chain_same b m)) (λ y lim d e stands bar. file_bars d e stands bar m (m + length y) (omega arith)) in_files
 
 module _ (before : List Token) (t : Token) (nest : GoesPast the_limits IsTooDeep short_file before t) (far : GoesPast the_limits IsTooFar short_file before t) (none : NoneWithin the_limits Grammar.file before t) where
   abbrev tokens : List Token
