@@ -116,6 +116,33 @@ const READ: [(Call, &str); 44] = [
     (Call::Proof, "the[tt](trivial)"),
 ];
 
+/// Programs as `docs/LANGUAGE.md` has them.
+const PROGRAMS: [&str; 5] = [
+    "type cell = word * loc
+pred same[a](x : a, y : a) = x =[a] y",
+    "pred lst induct n (p : loc) = {emp /\\ p =[loc] null}
+  {ex c : cell . p |->[cell] c ** !lst(n; snd c)}",
+    "def id : [a] -> (x : a) -> a = fun [a] . fun x . x",
+    "val swap : (l : loc) -> (k : loc) -> (a : word) -> (b : word) ->
+  {l |->[word] a ** k |->[word] b} z : unit {l |->[word] b ** k |->[word] a} =
+  fun l . fun k . fun a . fun b . do
+    x <- get[word] l;
+    y <- get[word] k;
+    _ <- set[word] l y;
+    _ <- set[word] k x;
+    ret ()
+proof swap.1 = auto",
+    "val drop : (n : word) -> (p : loc) -> {!lst(n; p)} u : unit {emp} =
+  fix drop (n : word) (p : loc) : {!lst(n; p)} u : unit {emp} .
+    u <- if[unit] eq[word](n, 0) {ret ()} {
+      c <- get[cell] p;
+      _ <- free[cell] p;
+      r <- drop (n - 1) (snd c);
+      ret r
+    };
+    ret u",
+];
+
 /// Texts with the byte of their first wrong token.
 const REFUSED: [(Call, &str, u64); 44] = [
     (Call::File, "val", 3),
@@ -170,6 +197,13 @@ fn texts_of_every_production_are_read(rt: HostRuntime) {
         let refused = stop(rt, call, text);
         assert!(rt; refused.is_none(), "{text}");
         assert!(rt; is_found(rt, call, text), "{text}");
+    }
+}
+
+#[test]
+fn programs_are_read(rt: HostRuntime) {
+    for text in PROGRAMS {
+        assert!(rt; stop(rt, Call::File, text).is_none(), "{text}");
     }
 }
 
