@@ -1,4 +1,6 @@
--- The operands of a chain stand at one level: none is the first token of its tree that is so deep.
+-- A further operand of a chain is never the first token of its tree that is so deep. Operands stand at
+-- one level, but for the arguments of `inst`: a heap stands at the chain's, a term one deeper, as the
+-- proof before them does.
 use Rattle.std.specs.Prelude.{◌≡◌, ℕ, ◌<◌, ◌≤◌, List, [], ◌∷◌, ◌++◌}
 use Rattle.htt_grammar.specs.Marks.{Mark}
 use Rattle.htt_grammar.specs.Grammar.{mono, formula, proof, file}

@@ -1,5 +1,5 @@
-//! The operands of a chain stand at one level, so a token that begins a further operand is no deeper
-//! than some token before it. A function without a body states laws by its contract.
+//! A token that begins a further operand of a chain is no deeper than some token before it. A function
+//! without a body states laws by its contract.
 #![tactic(auto)]
 
 ghost use Rattle.chain_levels.specs.Operands.{InFiles, InFormulas, InMonotypes, InProofs};

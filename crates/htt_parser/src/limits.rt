@@ -166,6 +166,27 @@ fn chains_have_at_most_64_operands(rt: HostRuntime) -> Result<(), Fail> {
 }
 
 #[test]
+fn no_token_is_past_both_limits(rt: HostRuntime) -> Result<(), Fail> {
+    for (call, turn, turns, chain, more, too_long, too_nested) in [
+        (Call::Formula, "[", 255, "x", " x", 383, 256),
+        (Call::Proof, "left(", 254, "inst(u", ",x", 1_403, 1_280),
+        (Call::Proof, "left(", 254, "inst(u", ",@h", 1_466, 1_280),
+        (Call::Proof, "left(", 254, "app(u", ",u", 1_402, 1_279),
+    ] {
+        let longer = around(rt, "", chain, more, 64)?;
+        let last = around(rt, turn, &longer, "", turns)?;
+        let refused = stop(rt, call, &last);
+        let at = too_long;
+        assert!(rt; refused == Some(ParseStop::TooLongChain { at }), "{more}");
+        let deeper = around(rt, turn, &longer, "", turns + 1)?;
+        let refused = stop(rt, call, &deeper);
+        let at = too_nested;
+        assert!(rt; refused == Some(ParseStop::TooNested { at }), "{more}");
+    }
+    Ok(())
+}
+
+#[test]
 fn a_file_has_at_most_10000_declarations(rt: HostRuntime) -> Result<(), Fail> {
     let last = around(rt, "", "", "type t=word ", 10_000)?;
     assert!(rt; stop(rt, Call::File, &last).is_none());
