@@ -128,7 +128,7 @@ pub enum Formula {
     Emp(u32),
     /// The heap is one block, at this location, which holds this value.
     Cell(Mono, u32, Term, Term),
-    /// The heap has, at this location, a block that holds some value.
+    /// The heap is one block, at this location, as wide as the monotype; it may hold any words.
     Block(Mono, u32, Term),
     /// The first heap is the other two, which share no location.
     Join(u32, u32, u32),

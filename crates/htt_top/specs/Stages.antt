@@ -51,7 +51,7 @@ FileGives s name which (Err ReadFault) = Rose s.before s.now
 FileGives s name which (Err NoMemory) = Unit {0}
 FileGives s name which (Err refusal) = ⊥
 
--- bytes as code
+-- bytes as code; the row of a refusal is dropped, since no line shows it
 abbrev pub LoadGives : List ℕ → Result Code Refusal → Type 0
 LoadGives bytes (Ok code) = Bytes bytes code
 LoadGives bytes (Err (BadCode at)) = (row : ℕ) × IsRefused bytes at row

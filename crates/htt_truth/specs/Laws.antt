@@ -58,7 +58,7 @@ pub record WorldsGive : Type 0 where
   pub heap_given : {c : List FirstOrder} {w : World} → IsWorld c w → (n : ℕ) → slice_get c n ≡ Some o_heap → IsHeap (heap_at w n)
 
 -- The formulas of one heap, in other words: no location is in use; the heap is a single block, which
--- holds the value; it is a single block of the width. A cell is a block.
+-- holds the value; it is absurd that it isn't a single block of the width. A cell is a block.
 pub record HeapFormulas : Type 0 where
   pub emp_is_unused : (table : List RecTree) (w : World) (h : ℕ) → Holds (recs_of table) w (f_emp h) ↔ ((l : ℕ) → InUse (heap_at w h) l → ⊥)
   pub cell_is_single : (table : List RecTree) (w : World) (t : MonoTree) (h : ℕ) (M N : TermTree) → Holds (recs_of table) w (f_cell t h M N) ↔ IsSame (heap_at w h) (single_block (loc_of (term_value w M)) (encoding (term_value w N)))

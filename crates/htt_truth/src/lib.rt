@@ -24,12 +24,13 @@ pub fn worlds_give()
 {}
 
 /// `Emp` is true where no location is in use, a cell where the heap is the one block that holds the
-/// value, a block where it is one block of the width.
+/// value, a block where it is absurd that the heap isn't one block of the width.
 pub fn heap_formulas()
     ensures law { HeapFormulas }
 {}
 
-/// A star is true exactly where two disjoint parts of the heap make its two formulas true.
+/// A star is true exactly where it is absurd that no two disjoint parts of the heap make its two
+/// formulas true.
 pub fn star_is_split()
     ensures law { StarIsSplit }
 {}
