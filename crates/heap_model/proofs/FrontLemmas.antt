@@ -1,12 +1,13 @@
 -- The value at the front of words.
-use Rattle.std.proofs.Common.{◌≡◌, ◌≢◌, ℕ, zero, suc, ◌+◌, ◌-◌, ◌<◌, ◌≤◌, List, [], ◌∷◌, length, take, drop, get_or, Option, Some, None, nat_eq, refl, sym, ap, ◌∙◌, arith}
+use Rattle.std.proofs.Common.{◌≡◌, ◌≢◌, ℕ, zero, suc, ◌+◌, ◌-◌, ◌<◌, ◌≤◌, List, [], ◌∷◌, length, take, drop, get_or, Option, Some, None, nat_eq, refl, sym, ap}
+use Rattle.std.proofs.Common.{◌∙◌, arith}
 use Rattle.std.proofs.lemmas.Bool.Decides.{nat_tests}
 use Rattle.std.proofs.lemmas.List.{length-drop}
 use Rattle.std.proofs.Math.Seq.{take-length}
 use Rattle.htt_syntax.specs.Trees.{MonoTree, m_word, m_bool, m_loc, m_pair}
-use Rattle.htt_values.specs.Values.{Value, v_word, v_bool, v_loc, v_pair, IsWord, width, value_of_words, pair_of}
-use Rattle.htt_values.proofs.Decoding.{decodes}
-use Rattle.htt_values.proofs.Encoding.{encoding_is_as_wide}
+use Rattle.theory_values.specs.Values.{Value, v_word, v_bool, v_loc, v_pair, IsWord, width, value_of_words, pair_of}
+use Rattle.theory_values.proofs.Decoding.{decodes}
+use Rattle.theory_values.proofs.Encoding.{encoding_is_as_wide}
 use Rattle.heap_model.specs.Fronts.{front_value}
 
 -- words that have a value are as many as the monotype is wide
@@ -60,7 +61,10 @@ drop_of_take (suc m) n [] = ap (λ k. drop (suc m) (take k [])) (suc_more m n) �
 drop_of_take (suc m) n (x ∷ xs) = ap (λ k. drop (suc m) (take k (x ∷ xs))) (suc_more m n) ∙ drop_of_take m n xs
 
 pub front_of_pair : (t u : MonoTree) (words : List ℕ) → front_value (m_pair t u) words ≡ pair_of (front_value t words) (front_value u (drop (width t) words))
-front_of_pair t u words = ap (λ xs. pair_of (value_of_words t xs) (value_of_words u (drop (width t) (take (width t + width u) words)))) (take_of_take (width t) (width u) words) ∙ ap (λ xs. pair_of (front_value t words) (value_of_words u xs)) (drop_of_take (width t) (width u) words)
+front_of_pair t u words =
+    ap (λ xs. pair_of (value_of_words t xs) (value_of_words u (drop (width t) (take (width t + width u) words))))
+    (take_of_take (width t) (width u) words)
+    ∙ ap (λ xs. pair_of (front_value t words) (value_of_words u xs)) (drop_of_take (width t) (width u) words)
 
 pub no_first : (t u : MonoTree) (words : List ℕ) → front_value t words ≡ None → front_value (m_pair t u) words ≡ None
 no_first t u words e = front_of_pair t u words ∙ ap (λ o. pair_of o (front_value u (drop (width t) words))) e
@@ -72,17 +76,31 @@ pair_of_none (Some v) = refl
 pub no_second : (t u : MonoTree) (words : List ℕ) → front_value u (drop (width t) words) ≡ None → front_value (m_pair t u) words ≡ None
 no_second t u words e = front_of_pair t u words ∙ ap (pair_of (front_value t words)) e ∙ pair_of_none (front_value t words)
 
-pub both_parts : (t u : MonoTree) (words : List ℕ) (x y : Value) → front_value t words ≡ Some x → front_value u (drop (width t) words) ≡ Some y → front_value (m_pair t u) words ≡ Some (v_pair x y)
+pub both_parts : (t u : MonoTree) (words : List ℕ) (x y : Value)
+    → front_value t words ≡ Some x
+    → front_value u (drop (width t) words) ≡ Some y
+    → front_value (m_pair t u) words ≡ Some (v_pair x y)
 both_parts t u words x y e f = front_of_pair t u words ∙ ap (λ o. pair_of o (front_value u (drop (width t) words))) e ∙ ap (pair_of (Some x)) f
 
 rest_is : (n : ℕ) (words : List ℕ) → take (length words - n) (drop n words) ≡ drop n words
 rest_is n words = ap (λ k. take k (drop n words)) (sym (length-drop n words)) ∙ take-length (drop n words)
 
 -- the second part is read from what the first one left
-pub pair_refused : (t u : MonoTree) (words : List ℕ) (n : ℕ) → n ≡ width t → front_value u (take (length words - n) (drop n words)) ≡ None → front_value (m_pair t u) words ≡ None
+pub pair_refused : (t u : MonoTree) (words : List ℕ) (n : ℕ)
+    → n ≡ width t
+    → front_value u (take (length words - n) (drop n words)) ≡ None
+    → front_value (m_pair t u) words ≡ None
 pair_refused t u words n w e = no_second t u words (ap (front_value u) (ap (λ k. drop k words) (sym w) ∙ sym (rest_is n words)) ∙ e)
 
-pub pair_read : (t u : MonoTree) (words : List ℕ) (n m : ℕ) (x y v : Value) → front_value t words ≡ Some x → n ≡ width t → width t ≤ length words → front_value u (take (length words - n) (drop n words)) ≡ Some y → m ≡ width u → width u ≤ length (take (length words - n) (drop n words)) → v ≡ v_pair x y → (front_value (m_pair t u) words ≡ Some v) × (n + m ≡ width t + width u) × (width t + width u ≤ length words)
+pub pair_read : (t u : MonoTree) (words : List ℕ) (n m : ℕ) (x y v : Value)
+    → front_value t words ≡ Some x
+    → n ≡ width t
+    → width t ≤ length words
+    → front_value u (take (length words - n) (drop n words)) ≡ Some y
+    → m ≡ width u
+    → width u ≤ length (take (length words - n) (drop n words))
+    → v ≡ v_pair x y
+    → (front_value (m_pair t u) words ≡ Some v) × (n + m ≡ width t + width u) × (width t + width u ≤ length words)
 pair_read t u words n m x y v e w fits f z left_fits g = (
   both_parts t u words x y e (ap (front_value u) (ap (λ k. drop k words) (sym w) ∙ sym (rest_is n words)) ∙ f) ∙ ap Some (sym g),
   omega (arith, w, z),
@@ -91,11 +109,16 @@ pair_read t u words n m x y v e w fits f z left_fits g = (
 
 -- ---- one word
 
-pub nothing_in_front : (words : List ℕ) → length words ≡ 0 → (front_value m_word words ≡ None) × (front_value m_bool words ≡ None) × (front_value m_loc words ≡ None)
+pub nothing_in_front : (words : List ℕ)
+    → length words ≡ 0
+    → (front_value m_word words ≡ None) × (front_value m_bool words ≡ None) × (front_value m_loc words ≡ None)
 nothing_in_front [] e = (refl, refl, refl)
 nothing_in_front (w ∷ ws) e = absurd (omega (arith, e))
 
-pub word_in_front : (words : List ℕ) → 0 < length words → IsWord (get_or words 0 0) → (front_value m_word words ≡ Some (v_word (get_or words 0 0))) × (front_value m_loc words ≡ Some (v_loc (get_or words 0 0)))
+pub word_in_front : (words : List ℕ)
+    → 0 < length words
+    → IsWord (get_or words 0 0)
+    → (front_value m_word words ≡ Some (v_word (get_or words 0 0))) × (front_value m_loc words ≡ Some (v_loc (get_or words 0 0)))
 word_in_front [] l i = absurd (omega (arith, l))
 word_in_front (w ∷ ws) l i = (grind (arith, nat_tests), grind (arith, nat_tests))
 

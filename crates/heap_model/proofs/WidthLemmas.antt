@@ -1,8 +1,8 @@
 -- The width of a monotype is at most its size.
 use Rattle.std.proofs.Common.{◌≡◌, ◌≤◌, subst, arith}
 use Rattle.htt_syntax.specs.Trees.{MonoTree, m_word, m_bool, m_loc, m_unit, m_pair, m_var}
-use Rattle.htt_values.specs.Values.{IsClosed, closed_pair, width}
-use Rattle.tree_counts.specs.Nodes.{nodes_mono}
+use Rattle.theory_values.specs.Values.{IsClosed, closed_pair, width}
+use Rattle.theory_counts.specs.Nodes.{nodes_mono}
 
 pub parts_closed : {t u : MonoTree} → IsClosed (m_pair t u) → IsClosed t × IsClosed u
 parts_closed (closed_pair a b) = (a, b)

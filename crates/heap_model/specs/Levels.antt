@@ -3,7 +3,7 @@ use Rattle.std.specs.Prelude.{ℕ, Bool, ◌≡◌, refl}
 use Rattle.heap_model.specs.declared.value.Value.{Value}
 use Rattle.heap_model.specs.declared.value.Value.TheVariants as variants
 use Rattle.heap_model.specs.declared.value.Value.TheBlock as block
-use Rattle.htt_values.specs.Values.{v_word, v_bool, v_loc, v_unit, v_pair}
+use Rattle.theory_values.specs.Values.{v_word, v_bool, v_loc, v_unit, v_pair}
 use Rattle.heap_model.specs.Views.{value_tree}
 
 pub value_word : (n : ℕ) → value_tree (variants.Word n) ≡ v_word n

@@ -2,7 +2,7 @@
 -- brackets.
 use Rattle.std.specs.Prelude.{ℕ, zero, suc, List, ◌++◌, true, false, codes}
 use Rattle.std.specs.Fmt.{decimal}
-use Rattle.htt_values.specs.Values.{Value, v_word, v_bool, v_loc, v_unit, v_pair}
+use Rattle.theory_values.specs.Values.{Value, v_word, v_bool, v_loc, v_unit, v_pair}
 
 -- location 0 is `null`
 abbrev pub place_text : ℕ → List ℕ

@@ -3,9 +3,9 @@
 
 ghost use Rattle.std.specs.Prelude.{◌≡◌, ◌++◌, ◌<◌, ◌≤◌, ◌^◌, option_map, IfOk, OnOk};
 ghost use Rattle.htt_syntax.specs.Views.{mono_tree};
-ghost use Rattle.htt_values.specs.Values.{IsClosed, width, encoding, value_of_words};
+ghost use Rattle.theory_values.specs.Values.{IsClosed, width, encoding, value_of_words};
 ghost use Rattle.heap_model.specs.Views.{value_tree};
-ghost use Rattle.tree_counts.specs.Nodes.{nodes_mono};
+ghost use Rattle.theory_counts.specs.Nodes.{nodes_mono};
 
 use crate::decoding::front_of;
 use crate::value::Value;

@@ -4,7 +4,7 @@
 ghost use Rattle.std.specs.Prelude.{◌≡◌, IfOk};
 ghost use Rattle.htt_syntax.specs.Trees.{m_word, m_bool, m_loc};
 ghost use Rattle.htt_syntax.specs.Views.{mono_tree};
-ghost use Rattle.htt_values.specs.Values.{v_pair};
+ghost use Rattle.theory_values.specs.Values.{v_pair};
 ghost use Rattle.heap_model.specs.Fronts.{IsFront};
 ghost use Rattle.heap_model.specs.Views.{value_tree};
 

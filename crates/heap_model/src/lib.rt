@@ -10,8 +10,8 @@ mod text;
 mod value;
 
 pub use coding::{decode, encode, width};
-pub use flat_heap::Heap;
-pub use heap_text::{HeapStop, read_heap, write_heap};
+pub use heap_model_flat::Heap;
+pub use heap_model_text::{HeapStop, read_heap, write_heap};
 pub use laws::worked_examples;
 pub use text::write_value;
 pub use value::Value;

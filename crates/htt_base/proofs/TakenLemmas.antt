@@ -11,6 +11,9 @@ take_whole n bytes taken e fewer =
     let all : min n (length bytes) ≡ length bytes = omega arith in
     e ∙ sym (take_min n bytes) ∙ rw all (take-length bytes)
 
-pub taken_whole : (known : Option (List ℕ)) (n : ℕ) (taken : List ℕ) → IfSome (option_map (take n) known) (λ xs. taken ≡ xs) → length taken < n → IfSome known (λ bytes. taken ≡ bytes)
+pub taken_whole : (known : Option (List ℕ)) (n : ℕ) (taken : List ℕ)
+    → IfSome (option_map (take n) known) (λ xs. taken ≡ xs)
+    → length taken < n
+    → IfSome known (λ bytes. taken ≡ bytes)
 taken_whole None n taken e fewer = tt
 taken_whole (Some bytes) n taken e fewer = take_whole n bytes taken e fewer

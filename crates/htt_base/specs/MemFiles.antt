@@ -1,20 +1,21 @@
 -- What files in memory hold, and which of their calls fail.
-use Rattle.std.specs.Prelude.{ℕ, Bool, List, [], ◌∷◌, ◌++◌, String, Vec, string_bytes, nat_eq, find, reverse, map, option_map, Contains, ◌≡◌}
+use Rattle.std.specs.Prelude.{ℕ, Bool, List, [], ◌∷◌, ◌++◌, String, Vec, string_bytes, nat_eq, find, reverse, map}
+use Rattle.std.specs.Prelude.{option_map, Contains, ◌≡◌}
 use Rattle.std.specs.Global.{Global}
 use Rattle.std.specs.Cmp.Lexicographic.{pointwise}
 use Rattle.htt_base.specs.Outside.{Held}
 use Rattle.htt_base.specs.declared.mem_files.MemFiles.{MemFiles}
 
 -- a name with its bytes
-abbrev pub Entry : Type 0
-Entry = String Global × Vec ℕ Global
+abbrev pub NamedBytes : Type 0
+NamedBytes = String Global × Vec ℕ Global
 
-abbrev pub is_named : List ℕ → Entry → Bool
-is_named name entry = pointwise nat_eq (string_bytes entry.0) name
+abbrev pub has_name : List ℕ → NamedBytes → Bool
+has_name name entry = pointwise nat_eq (string_bytes entry.0) name
 
 -- what the entries hold: of several with one name the last counts
-abbrev pub contents_of : List Entry → Held
-contents_of entries name = option_map (λ entry. entry.1.items) (find (is_named name) (reverse entries))
+abbrev pub contents_of : List NamedBytes → Held
+contents_of entries name = option_map (λ entry. entry.1.items) (find (has_name name) (reverse entries))
 
 abbrev pub file_contents : MemFiles → Held
 file_contents f = contents_of f.entries.items
@@ -38,9 +39,10 @@ abbrev pub failing_calls : MemFiles → List ℕ
 failing_calls f = f.failing.items
 
 -- the next call is one of those that fail
-abbrev pub FailsNext : MemFiles → Type 0
-FailsNext f = Contains (failing_calls f) (next_call f)
+abbrev pub FailsNextCall : MemFiles → Type 0
+FailsNextCall f = Contains (failing_calls f) (next_call f)
 
 -- one entry more, with this name and these bytes
-abbrev pub Appends : List Entry → List Entry → List ℕ → List ℕ → Type 0
-Appends old new name bytes = (entry : Entry) × (new ≡ old ++ entry ∷ []) × (string_bytes entry.0 ≡ name) × (entry.1.items ≡ bytes)
+abbrev pub Appends : List NamedBytes → List NamedBytes → List ℕ → List ℕ → Type 0
+Appends old new name bytes =
+    (entry : NamedBytes) × (new ≡ old ++ entry ∷ []) × (string_bytes entry.0 ≡ name) × (entry.1.items ≡ bytes)

@@ -17,5 +17,5 @@ abbrev pub failing_puts : MemSink → List ℕ
 failing_puts s = s.failing.items
 
 -- the next call is one of those that fail
-abbrev pub FailsNext : MemSink → Type 0
-FailsNext s = Contains (failing_puts s) (next_put s)
+abbrev pub FailsNextPut : MemSink → Type 0
+FailsNextPut s = Contains (failing_puts s) (next_put s)

@@ -1,6 +1,7 @@
 -- What a call of the outside does: one definition for each aspect of a call.
 -- What isn't told is None, and of that nothing is said. Names are their bytes.
-use Rattle.std.specs.Prelude.{ℕ, ◌≡◌, ◌≢◌, ◌+◌, ◌-◌, ◌^◌, ◌<◌, ◌≤◌, ◌⊎◌, min, List, [], ◌∷◌, ◌++◌, length, Option, Some, None, Result, Ok, Err, IfOk, OnOk, IsErrOf, Vec}
+use Rattle.std.specs.Prelude.{ℕ, ◌≡◌, ◌≢◌, ◌+◌, ◌-◌, ◌^◌, ◌<◌, ◌≤◌, ◌⊎◌, min, List, [], ◌∷◌, ◌++◌, length, Option, Some}
+use Rattle.std.specs.Prelude.{None, Result, Ok, Err, IfOk, OnOk, IsErrOf, Vec}
 use Rattle.std.specs.Global.{Global}
 use Rattle.htt_base.specs.declared.outside.ReadStop.{ReadStop}
 use Rattle.htt_base.specs.declared.outside.ReadStop.TheVariants as r
@@ -30,7 +31,10 @@ Rose before now = one_more before ≤ now
 pub record IsRead (h : Held) (name : List ℕ) (max : ℕ) (result : Result (Vec ℕ Global) ReadStop) : Type 0 where
   pub bytes : IfOk result (λ v. h name ≡ Some v.items)
   pub long : IsErrOf result r.TooLong → (b : List ℕ) × (h name ≡ Some b) × (max < length b)
-  pub is_long : (b : List ℕ) → h name ≡ Some b → max < length b → IsErrOf result r.TooLong ⊎ IsErrOf result r.Failed ⊎ IsErrOf result r.NoMemory
+  pub is_long : (b : List ℕ)
+      → h name ≡ Some b
+      → max < length b
+      → IsErrOf result r.TooLong ⊎ IsErrOf result r.Failed ⊎ IsErrOf result r.NoMemory
   pub missing : h name ≡ None → IsErrOf result r.Failed ⊎ IsErrOf result r.NoMemory
 
 abbrev pub ReadGives : Option Held → List ℕ → ℕ → Result (Vec ℕ Global) ReadStop → Type 0
@@ -43,7 +47,11 @@ names_after before name (Err r.Failed) = before ++ name ∷ []
 names_after before name (Err r.TooLong) = before ++ name ∷ []
 names_after before name (Err r.NoMemory) = before
 
-abbrev pub NotesName : Option (List (List ℕ)) → Option (List (List ℕ)) → List ℕ → Result (Vec ℕ Global) ReadStop → Type 0
+abbrev pub NotesName : Option (List (List ℕ))
+    → Option (List (List ℕ))
+    → List ℕ
+    → Result (Vec ℕ Global) ReadStop
+    → Type 0
 NotesName before now name result = Told before (λ names. now ≡ Some (names_after names name result))
 
 -- the count of faults never falls, and a failed read has raised it

@@ -1,24 +1,27 @@
 -- The code with which a process ends for each status.
 use Rattle.std.specs.Prelude.{ℕ}
 use Rattle.htt_base.specs.declared.status.Status.{Status}
-use Rattle.htt_base.specs.declared.status.Status.TheVariants.{Done, No, Usage, Syntax, Unproved, NotExtractable, Limit, ReadFault, WriteFault, MachineFault, Stopped, BadCode, BadHeap, NotEmptyStart, NoMemory, PreFalse, NotJudged, OtherCode}
+use Rattle.htt_base.specs.declared.status.Status.TheVariants.{Done, No, Usage, Syntax, Unproved, NotExtractable, Limit}
+use Rattle.htt_base.specs.declared.status.Status.TheVariants.{ReadFault, WriteFault, MachineFault, Stopped, BadCode}
+use Rattle.htt_base.specs.declared.status.Status.TheVariants.{BadHeap, NotEmptyStart, NoMemory, PreFalse, NotJudged}
+use Rattle.htt_base.specs.declared.status.Status.TheVariants.{OtherCode}
 
-abbrev pub code_of : Status → ℕ
-code_of Done = 0
-code_of (No decl at rule) = 1
-code_of Usage = 2
-code_of (Syntax at kind) = 3
-code_of (Unproved count) = 4
-code_of (NotExtractable why) = 5
-code_of (Limit which) = 6
-code_of ReadFault = 7
-code_of WriteFault = 8
-code_of (MachineFault kind location) = 9
-code_of (Stopped which count) = 10
-code_of (BadCode at) = 11
-code_of (BadHeap line) = 12
-code_of NotEmptyStart = 13
-code_of NoMemory = 14
-code_of PreFalse = 15
-code_of NotJudged = 16
-code_of OtherCode = 17
+abbrev pub status_code : Status → ℕ
+status_code Done = 0
+status_code (No decl at rule) = 1
+status_code Usage = 2
+status_code (Syntax at kind) = 3
+status_code (Unproved count) = 4
+status_code (NotExtractable why) = 5
+status_code (Limit which) = 6
+status_code ReadFault = 7
+status_code WriteFault = 8
+status_code (MachineFault kind location) = 9
+status_code (Stopped which count) = 10
+status_code (BadCode at) = 11
+status_code (BadHeap line) = 12
+status_code NotEmptyStart = 13
+status_code NoMemory = 14
+status_code PreFalse = 15
+status_code NotJudged = 16
+status_code OtherCode = 17

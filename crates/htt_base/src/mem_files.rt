@@ -3,7 +3,7 @@
 
 ghost use Rattle.std.specs.Prelude.{◌≡◌, ◌≤◌, ◌++◌, ◌∷◌, ◌⊎◌, ◌↔◌, [], Some, None, map, string_bytes, option_copied, IfOk, OnOk, OnErr, IsErrOf, IsTrue, find, reverse, length, Contains};
 ghost use Rattle.htt_base.specs.Outside.{IsRead, IsWritten, one_more, names_after, read_faults_after, write_faults_after, ReadGives, NotesName, CountsRead, CountsWrite};
-ghost use Rattle.htt_base.specs.MemFiles.{contents_of, is_named, file_contents, read_names, read_fault_count, write_fault_count, next_call, failing_calls, FailsNext, Appends};
+ghost use Rattle.htt_base.specs.MemFiles.{contents_of, has_name, file_contents, read_names, read_fault_count, write_fault_count, next_call, failing_calls, FailsNextCall, Appends};
 
 use crate::outside::{Files, ReadStop, WriteStop};
 use std::alloc::{AllocError, Global};
@@ -54,7 +54,7 @@ impl MemFiles {
 
     /// Counts a call, and says whether it fails.
     fn fails(&mut self) -> bool
-        ensures fails { IsTrue result ↔ FailsNext self.old }
+        ensures fails { IsTrue result ↔ FailsNextCall self.old }
         ensures counted { self.new ≡ record self.old { calls = one_more self.old.calls } }
     {
         let call = self.calls;
@@ -64,7 +64,7 @@ impl MemFiles {
 }
 
 fn latest<'a>(entries: &'a [(String, Vec<u8>)], name: &str) -> Option<&'a (String, Vec<u8>)>
-    ensures { option_copied result ≡ find (is_named name.now) (reverse entries.now) }
+    ensures { option_copied result ≡ find (has_name name.now) (reverse entries.now) }
 {
     entries.iter().rev().find(|entry| entry.0.as_str() == name)
 }
@@ -135,10 +135,10 @@ impl Files for MemFiles {
     fn read(&mut self, alloc: Global, name: &str, max: u64) -> Result<Vec<u8>, ReadStop>
         ensures gives { IsRead (file_contents self.old) name.now max result }
         ensures within { IfOk result (λ v. length v.items ≤ max) }
-        ensures fails { FailsNext self.old
+        ensures fails { FailsNextCall self.old
             → IsErrOf result ReadStop.Failed ⊎ IsErrOf result ReadStop.NoMemory }
         ensures failed { IsErrOf result ReadStop.Failed
-            → FailsNext self.old ⊎ (file_contents self.old name.now ≡ None) }
+            → FailsNextCall self.old ⊎ (file_contents self.old name.now ≡ None) }
         ensures notes { read_names self.new ≡ names_after (read_names self.old) name.now result }
         ensures counts { CountsRead (read_fault_count self.old) (read_fault_count self.new) result }
         ensures read_faults { read_fault_count self.new
@@ -168,7 +168,7 @@ impl Files for MemFiles {
     fn write(&mut self, alloc: Global, name: &str, bytes: &[u8]) -> Result<(), WriteStop>
         ensures gives { IsWritten (file_contents self.old) (file_contents self.new) name.now bytes.now result }
         ensures unchanged { OnErr result (file_contents self.new ≡ file_contents self.old) }
-        ensures failed { IsErrOf result WriteStop.Failed ↔ FailsNext self.old }
+        ensures failed { IsErrOf result WriteStop.Failed ↔ FailsNextCall self.old }
         ensures counts { CountsWrite (write_fault_count self.old) (write_fault_count self.new) result }
         ensures write_faults { write_fault_count self.new
             ≡ write_faults_after (write_fault_count self.old) result }

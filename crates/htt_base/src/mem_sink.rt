@@ -2,7 +2,7 @@
 
 ghost use Rattle.std.specs.Prelude.{◌≡◌, ◌+◌, ◌↔◌, [], Some, IsErrOf, IsTrue, OnErr, Contains, length};
 ghost use Rattle.htt_base.specs.Outside.{IsPut, CountsPut, one_more, put_faults_after};
-ghost use Rattle.htt_base.specs.MemSink.{sink_bytes, fault_count, next_put, failing_puts, FailsNext};
+ghost use Rattle.htt_base.specs.MemSink.{sink_bytes, fault_count, next_put, failing_puts, FailsNextPut};
 
 use crate::outside::{PutStop, Sink};
 use std::alloc::Global;
@@ -49,7 +49,7 @@ impl Sink for MemSink {
 
     fn put(&mut self, _alloc: Global, bytes: &[u8]) -> Result<(), PutStop>
         ensures gives { IsPut (sink_bytes self.old) (sink_bytes self.new) bytes.now result }
-        ensures failed { IsErrOf result PutStop.Failed ↔ FailsNext self.old }
+        ensures failed { IsErrOf result PutStop.Failed ↔ FailsNextPut self.old }
         ensures unchanged { OnErr result (sink_bytes self.new ≡ sink_bytes self.old) }
         ensures counts { CountsPut (fault_count self.old) (fault_count self.new) result }
         ensures faults { fault_count self.new ≡ put_faults_after (fault_count self.old) result }

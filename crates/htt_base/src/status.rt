@@ -1,9 +1,9 @@
 //! The status with which a command ends, and the code that the process gives for it.
 
 ghost use Rattle.std.specs.Prelude.{◌≡◌};
-ghost use Rattle.htt_base.specs.Status.{code_of};
+ghost use Rattle.htt_base.specs.Status.{status_code};
 
-use htt_words::{Bound, Kind, Rule, SyntaxKind, Which, Why};
+use htt_syntax_words::{Bound, Kind, Rule, SyntaxKind, Which, Why};
 
 /// How a command ended. `at` is a byte of the file that was read, counted from 0; `line` counts
 /// from 1.
@@ -50,7 +50,7 @@ pub enum Status {
 impl Status {
     /// The code of the process, from 0 to 17.
     pub fn code(&self) -> u8
-        ensures { result ≡ code_of self.now }
+        ensures { result ≡ status_code self.now }
     {
         match self {
             Status::Done => 0,

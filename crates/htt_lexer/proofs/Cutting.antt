@@ -1,5 +1,6 @@
 -- The tokens of a text from one piece to the next.
-use Rattle.std.proofs.Common.{◌≡◌, ℕ, ◌+◌, ◌<◌, ◌≤◌, List, [], ◌∷◌, ◌++◌, length, take, drop, Bool, true, false, refl, sym, ◌∙◌, ap, subst, arith, nat_lt, get_or}
+use Rattle.std.proofs.Common.{◌≡◌, ℕ, ◌+◌, ◌<◌, ◌≤◌, List, [], ◌∷◌, ◌++◌, length, take, drop, Bool, true, false, refl, sym, ◌∙◌, ap, subst, arith, nat_lt}
+use Rattle.std.proofs.Common.{get_or}
 use Rattle.std.specs.Prelude.{IsUtf8, Some}
 use Rattle.std.specs.List.{list_all}
 use Rattle.std.specs.Char.{is_ascii_digit}
@@ -7,9 +8,9 @@ use Rattle.std.proofs.Math.Seq.{drop-append_seam, get_or-append_seam}
 use Rattle.std.proofs.lemmas.List.{take-append-drop, length-take-le, drop-drop, length-drop, length-append}
 use Rattle.std.proofs.lemmas.Bool.Decides.{nat_tests}
 use Rattle.std.proofs.lemmas.Str.{IsUtf8-past_char, IsUtf8-drop, IsUtf8-nil, IsCharBoundary-before_ascii, encode_ascii}
-use Rattle.htt_tokens.specs.declared.tokens.Kind.{Kind}
-use Rattle.htt_tokens.specs.declared.tokens.Sign.{Sign}
-use Rattle.htt_tokens.specs.declared.tokens.Token as tokens
+use Rattle.htt_lexer_tokens.specs.declared.tokens.Kind.{Kind}
+use Rattle.htt_lexer_tokens.specs.declared.tokens.Sign.{Sign}
+use Rattle.htt_lexer_tokens.specs.declared.tokens.Token as tokens
 use Rattle.htt_lexer.specs.declared.pieces.Piece.{Piece}
 use Rattle.htt_lexer.specs.Tables.{lookup, sign_table}
 use Rattle.htt_lexer.specs.Tokens.{Stops, IsGap, blank, comment, IsToken, word, number, sign, is_blank, is_comment, Reads, here, gap, token}
@@ -71,13 +72,20 @@ past_token {rest = rest} (sign {spelling = spelling} {s = s} h) u = past_run is_
 
 -- ---- one more piece
 
-pub read_gap : {at to : ℕ} {text left : List ℕ} {ts : Tokens} (piece rest : List ℕ) → Reads at text ts to left → left ≡ piece ++ rest → IsGap piece rest → Reads at text ts (to + length piece) rest
+pub read_gap : {at to : ℕ} {text left : List ℕ} {ts : Tokens} (piece rest : List ℕ)
+    → Reads at text ts to left
+    → left ≡ piece ++ rest
+    → IsGap piece rest
+    → Reads at text ts (to + length piece) rest
 read_gap piece rest (here {at = at}) e is = subst (λ t. Reads at t [] (at + length piece) rest) (sym e) (gap is here)
 read_gap piece rest (gap g reads) e is = gap g (read_gap piece rest reads e is)
 read_gap piece rest (token t reads) e is = token t (read_gap piece rest reads e is)
 
-pub read_token : {at to : ℕ} {text left : List ℕ} {ts : Tokens} (piece rest : List ℕ) (kind : Kind) → Reads at text ts to left → left ≡ piece ++ rest → IsToken piece rest kind →
-    Reads at text (ts ++ record { kind = kind; from = to; to = to + length piece } ∷ []) (to + length piece) rest
+pub read_token : {at to : ℕ} {text left : List ℕ} {ts : Tokens} (piece rest : List ℕ) (kind : Kind)
+    → Reads at text ts to left
+    → left ≡ piece ++ rest
+    → IsToken piece rest kind
+    → Reads at text (ts ++ record { kind = kind; from = to; to = to + length piece } ∷ []) (to + length piece) rest
 read_token piece rest kind (here {at = at}) e is =
     subst (λ t. Reads at t (record { kind = kind; from = at; to = at + length piece } ∷ []) (at + length piece) rest) (sym e) (token is here)
 read_token piece rest kind (gap g reads) e is = gap g (read_token piece rest kind reads e is)
@@ -97,7 +105,10 @@ pub cut_at : (text : List ℕ) (at : ℕ) (out : Tokens) (piece : Piece) → Cut
 cut_at text at out piece cutting e = subst (Cuts (drop at text)) e (cuts (drop at text) cutting.utf8)
 
 -- a piece has a byte at least, and ends within the text
-pub cut_within : (IsPiece : List ℕ → List ℕ → Type 0) (text : List ℕ) (at n : ℕ) → at ≤ length text → Cut IsPiece (drop at text) n → (0 < n) × (at + n ≤ length text)
+pub cut_within : (IsPiece : List ℕ → List ℕ → Type 0) (text : List ℕ) (at n : ℕ)
+    → at ≤ length text
+    → Cut IsPiece (drop at text) n
+    → (0 < n) × (at + n ≤ length text)
 cut_within IsPiece text at n within cut = (cut.some, omega (arith, cut.within, length-drop at text))
 
 -- the seam after a piece of n bytes
@@ -116,8 +127,10 @@ cutting_gap text at n out cutting cut =
       reads = subst (λ m. Reads 0 text out m (drop (at + n) text)) size (read_gap piece (drop (at + n) text) cutting.reads (whole_at text at n) is);
     }
 
-pub cutting_token : (text : List ℕ) (at n : ℕ) (kind : Kind) (out : Tokens) → Cutting text at out → Cut (λ piece rest. IsToken piece rest kind) (drop at text) n →
-    Cutting text (at + n) (out ++ record { kind = kind; from = at; to = at + n } ∷ [])
+pub cutting_token : (text : List ℕ) (at n : ℕ) (kind : Kind) (out : Tokens)
+    → Cutting text at out
+    → Cut (λ piece rest. IsToken piece rest kind) (drop at text) n
+    → Cutting text (at + n) (out ++ record { kind = kind; from = at; to = at + n } ∷ [])
 cutting_token text at n kind out cutting cut =
     let piece = take n (drop at text) in
     let rest : drop n (drop at text) ≡ drop (at + n) text = drop-drop n at text in
@@ -126,5 +139,7 @@ cutting_token text at n kind out cutting cut =
     record {
       within = omega (arith, cut.within, cutting.within, length-drop at text);
       utf8 = past_token is (subst IsUtf8 (whole_at text at n) cutting.utf8);
-      reads = subst (λ m. Reads 0 text (out ++ record { kind = kind; from = at; to = m } ∷ []) m (drop (at + n) text)) size (read_token piece (drop (at + n) text) kind cutting.reads (whole_at text at n) is);
+      reads =
+          subst (λ m. Reads 0 text (out ++ record { kind = kind; from = at; to = m } ∷ []) m (drop (at + n) text)) size
+          (read_token piece (drop (at + n) text) kind cutting.reads (whole_at text at n) is);
     }

@@ -1,6 +1,7 @@
 -- A gap or a token at the front of a text is the piece that the text's first bytes tell, and the piece
 -- that is told is one of the grammar.
-use Rattle.std.proofs.Common.{◌≡◌, ℕ, suc, ◌+◌, ◌^◌, ◌<◌, ◌≤◌, List, [], ◌∷◌, ◌++◌, length, take, drop, Bool, true, false, cond, refl, sym, ◌∙◌, ap, subst, arith, nat_lt}
+use Rattle.std.proofs.Common.{◌≡◌, ℕ, suc, ◌+◌, ◌^◌, ◌<◌, ◌≤◌, List, [], ◌∷◌, ◌++◌, length, take, drop, Bool, true, false, cond, refl, sym, ◌∙◌, ap, subst}
+use Rattle.std.proofs.Common.{arith, nat_lt}
 use Rattle.std.specs.Prelude.{◌==◌, IsUtf8, codes}
 use Rattle.std.specs.List.{prefix_len}
 use Rattle.std.specs.Char.{encode_utf8, is_ascii_digit}
@@ -11,15 +12,16 @@ use Rattle.std.proofs.Math.Seq.{take-append_seam, drop-append_seam}
 use Rattle.std.proofs.lemmas.List.{take-append-drop, length-append}
 use Rattle.std.proofs.lemmas.List.Sums.{prefix_len-le-length}
 use Rattle.std.proofs.lemmas.Str.{chars-nil, length-encode, len_utf8_bounds}
-use Rattle.htt_tokens.specs.declared.tokens.Sign.{Sign}
-use Rattle.htt_tokens.specs.declared.tokens.Kind.{Kind}
-use Rattle.htt_tokens.specs.declared.tokens.Kind.TheVariants as kinds
+use Rattle.htt_lexer_tokens.specs.declared.tokens.Sign.{Sign}
+use Rattle.htt_lexer_tokens.specs.declared.tokens.Kind.{Kind}
+use Rattle.htt_lexer_tokens.specs.declared.tokens.Kind.TheVariants as kinds
 use Rattle.htt_lexer.specs.declared.pieces.Piece.{Piece}
 use Rattle.htt_lexer.specs.declared.pieces.Piece.TheVariants.{End, Gap, Token, NoToken, TooLarge}
 use Rattle.htt_lexer.specs.Tables.{lookup, sign_table}
 use Rattle.htt_lexer.specs.Tokens.{IsLongest, IsLongestSign, IsGap, blank, comment, IsToken, word, number, sign, is_blank, is_comment, word_kind}
 use Rattle.htt_lexer.specs.Refusals.{BeginsTooLarge, BeginsNothing}
-use Rattle.htt_lexer.specs.Pieces.{number_of, word_piece, piece_of_number, number_piece, sign_piece, starts_word, word_length, begins_comment, comment_piece, piece_of}
+use Rattle.htt_lexer.specs.Pieces.{number_of, word_piece, piece_of_number, number_piece, sign_piece, starts_word, word_length, begins_comment, comment_piece}
+use Rattle.htt_lexer.specs.Pieces.{piece_of}
 use Rattle.htt_lexer.proofs.Rows.{by_cond, both_true, not_true, equal, apart, is_plain, begins_plain, sign_begins, long_is_none}
 use Rattle.htt_lexer.proofs.Runs.{prefix_len-run, longest_run, limited-small, limited-none, below, above}
 use Rattle.htt_lexer.proofs.Words.{is_letter, word_byte, word_found, word_at}
@@ -40,7 +42,10 @@ blank_no_letter : (b : ℕ) → is_blank b ≡ true → is_letter b ≡ false
 blank_no_letter b h = grind (arith, nat_tests)
 
 digit_no_blank : (b : ℕ) → is_ascii_digit b ≡ true → is_blank b ≡ false
-digit_no_blank b h = rw (apart is_ascii_digit b 32 h refl, apart is_ascii_digit b 9 h refl, apart is_ascii_digit b 13 h refl, apart is_ascii_digit b 10 h refl) refl
+digit_no_blank b h =
+    rw
+    (apart is_ascii_digit b 32 h refl, apart is_ascii_digit b 9 h refl, apart is_ascii_digit b 13 h refl, apart is_ascii_digit b 10 h refl)
+    refl
 
 -- a byte that begins none of a comment, a blank and a number
 record IsOther (b : ℕ) (bytes : List ℕ) : Type 0 where
@@ -48,7 +53,9 @@ record IsOther (b : ℕ) (bytes : List ℕ) : Type 0 where
   no_blank : is_blank b ≡ false
   no_digit : is_ascii_digit b ≡ false
 
-other_piece : (b : ℕ) (bytes : List ℕ) → IsOther b bytes → piece_of (b ∷ bytes) ≡ cond (starts_word (chars (b ∷ bytes))) (word_piece (b ∷ bytes)) (sign_piece (b ∷ bytes))
+other_piece : (b : ℕ) (bytes : List ℕ)
+    → IsOther b bytes
+    → piece_of (b ∷ bytes) ≡ cond (starts_word (chars (b ∷ bytes))) (word_piece (b ∷ bytes)) (sign_piece (b ∷ bytes))
 other_piece b bytes h = rw (h.no_comment, h.no_blank, h.no_digit) refl
 
 -- where a word begins
@@ -75,11 +82,18 @@ record IsPlain (b : ℕ) : Type 0 where
   no_letter : is_letter b ≡ false
 
 plain : (b : ℕ) → is_plain b ≡ true → IsPlain b
-plain b h = record { small = grind (arith, nat_tests); no_blank = grind (arith, nat_tests); no_digit = grind (arith, nat_tests); no_letter = grind (arith, nat_tests) }
+plain b h = record {
+  small = grind (arith, nat_tests);
+  no_blank = grind (arith, nat_tests);
+  no_digit = grind (arith, nat_tests);
+  no_letter = grind (arith, nat_tests);
+}
 
 plain_text : (b : ℕ) (bytes : List ℕ) → IsUtf8 (b ∷ bytes) → begins_comment b bytes ≡ false → IsPlain b → piece_of (b ∷ bytes) ≡ sign_piece (b ∷ bytes)
 plain_text b bytes u no_comment h =
-    let no_word : starts_word (chars (b ∷ bytes)) ≡ false = not_true (starts_word (chars (b ∷ bytes))) (λ starts. let letter = word_byte b bytes u starts h.small in let none = h.no_letter in cc) in
+    let no_word : starts_word (chars (b ∷ bytes)) ≡ false =
+    not_true (starts_word (chars (b ∷ bytes)))
+    (λ starts. let letter = word_byte b bytes u starts h.small in let none = h.no_letter in cc) in
     other_piece b bytes (record { no_comment = no_comment; no_blank = h.no_blank; no_digit = h.no_digit }) ∙ rw no_word refl
 
 -- ---- the signs as a table
@@ -115,7 +129,10 @@ begins_some [] h = cc
 begins_some (b ∷ bytes) h = omega arith
 
 -- the front of a text is no comment where it says so
-no_comment_at : (spelling rest : List ℕ) (b : ℕ) (bytes : List ℕ) → spelling ++ rest ≡ b ∷ bytes → ((after : List ℕ) → spelling ++ rest ≡ codes "--" ++ after → ⊥) → begins_comment b bytes ≡ false
+no_comment_at : (spelling rest : List ℕ) (b : ℕ) (bytes : List ℕ)
+    → spelling ++ rest ≡ b ∷ bytes
+    → ((after : List ℕ) → spelling ++ rest ≡ codes "--" ++ after → ⊥)
+    → begins_comment b bytes ≡ false
 no_comment_at spelling rest b [] e absent = not_true (begins_comment b []) (λ h. let none = (both_true (b == 45) false h).1 in cc)
 no_comment_at spelling rest b (c ∷ bytes) e absent =
     not_true (begins_comment b (c ∷ bytes)) (λ h.
@@ -124,7 +141,10 @@ no_comment_at spelling rest b (c ∷ bytes) e absent =
     let second = equal c 45 dashes.1 in
     absent bytes (e ∙ ap (λ x. x ∷ c ∷ bytes) first ∙ ap (λ y. 45 ∷ y ∷ bytes) second))
 
-sign_text : (spelling rest : List ℕ) (s : Sign) → IsUtf8 (spelling ++ rest) → IsLongestSign spelling rest s → piece_of (spelling ++ rest) ≡ Token (kinds.Sign s) (length spelling)
+sign_text : (spelling rest : List ℕ) (s : Sign)
+    → IsUtf8 (spelling ++ rest)
+    → IsLongestSign spelling rest s
+    → piece_of (spelling ++ rest) ≡ Token (kinds.Sign s) (length spelling)
 sign_text [] rest s u h = let none : begins_plain [] ≡ true = sign_begins [] s h.is in cc
 sign_text (b ∷ more) rest s u h =
     plain_text b (more ++ rest) u (no_comment_at (b ∷ more) rest b (more ++ rest) refl h.no_comment) (plain b (sign_begins (b ∷ more) s h.is))
@@ -141,7 +161,11 @@ token_piece {rest = rest} u (number {b = b} {run = run} longest fits) =
     digits_text b run rest longest ∙ ap (λ o. piece_of_number o (length (b ∷ run))) (limited-small (digits_value 10 (b ∷ run)) fits)
 token_piece {rest = rest} u (sign {spelling = spelling} {s = s} h) = sign_text spelling rest s u h
 
-large_digits : (text digits rest : List ℕ) → text ≡ digits ++ rest → IsLongest is_ascii_digit digits rest → 2 ^ 64 ≤ digits_value 10 digits → piece_of text ≡ TooLarge
+large_digits : (text digits rest : List ℕ)
+    → text ≡ digits ++ rest
+    → IsLongest is_ascii_digit digits rest
+    → 2 ^ 64 ≤ digits_value 10 digits
+    → piece_of text ≡ TooLarge
 large_digits text [] rest whole longest large = absurd (omega (arith, large))
 large_digits text (b ∷ run) rest whole longest large =
     ap piece_of whole ∙ digits_text b run rest longest ∙ ap (λ o. piece_of_number o (length (b ∷ run))) (limited-none (digits_value 10 (b ∷ run)) large)
@@ -200,7 +224,12 @@ number_cut b bytes h =
     }))
 
 -- a piece with its rest cuts the text
-seam_cut : (IsPiece : List ℕ → List ℕ → Type 0) (text piece rest : List ℕ) (n : ℕ) → text ≡ piece ++ rest → n ≡ length piece → 0 < length piece → IsPiece piece rest → Cut IsPiece text n
+seam_cut : (IsPiece : List ℕ → List ℕ → Type 0) (text piece rest : List ℕ) (n : ℕ)
+    → text ≡ piece ++ rest
+    → n ≡ length piece
+    → 0 < length piece
+    → IsPiece piece rest
+    → Cut IsPiece text n
 seam_cut IsPiece text piece rest n whole size some is =
     let P : List ℕ → ℕ → Type 0 = λ t m. Cut IsPiece t m in
     subst (λ t. P t n) (sym whole) (subst (λ m. P (piece ++ rest) m) (sym size) (record {
@@ -222,10 +251,19 @@ word_cut text u starts =
     (rw front (word h.is))
 
 -- the text can't begin with a comment
-not_comment : (b : ℕ) (bytes spelling rest : List ℕ) → begins_comment b bytes ≡ false → b ∷ bytes ≡ spelling ++ rest → (after : List ℕ) → spelling ++ rest ≡ codes "--" ++ after → ⊥
+not_comment : (b : ℕ) (bytes spelling rest : List ℕ)
+    → begins_comment b bytes ≡ false
+    → b ∷ bytes ≡ spelling ++ rest
+    → (after : List ℕ)
+    → spelling ++ rest ≡ codes "--" ++ after
+    → ⊥
 not_comment b bytes spelling rest none whole after e = let dashes = ap begins_dashes (whole ∙ e) in cc
 
-sign_cut : (b : ℕ) (bytes : List ℕ) (piece : Piece) → begins_comment b bytes ≡ false → signs.Finds (lookup sign_table) (b ∷ bytes) piece → signs.OnlySigns piece → Cuts (b ∷ bytes) piece
+sign_cut : (b : ℕ) (bytes : List ℕ) (piece : Piece)
+    → begins_comment b bytes ≡ false
+    → signs.Finds (lookup sign_table) (b ∷ bytes) piece
+    → signs.OnlySigns piece
+    → Cuts (b ∷ bytes) piece
 sign_cut b bytes (Token (kinds.Sign s) n) none h only =
     let plain_start = sign_begins h.spelling s h.is in
     seam_cut (λ piece rest. IsToken piece rest (kinds.Sign s)) (b ∷ bytes) h.spelling h.rest n h.whole h.size (begins_some h.spelling plain_start)

@@ -1,5 +1,6 @@
 -- What holds of each row of a table holds of each spelling that the table has.
-use Rattle.std.proofs.Common.{◌≡◌, ℕ, ◌+◌, ◌<◌, List, [], ◌∷◌, length, map, drop, get_or, suc, Bool, true, false, ◌&&◌, ◌||◌, cond, refl, sym, ◌∙◌, ap, arith, nat_lt, eq-eqb}
+use Rattle.std.proofs.Common.{◌≡◌, ℕ, ◌+◌, ◌<◌, List, [], ◌∷◌, length, map, drop, get_or, suc, Bool, true, false, ◌&&◌, ◌||◌, cond, refl, sym, ◌∙◌, ap, arith}
+use Rattle.std.proofs.Common.{nat_lt, eq-eqb}
 use Rattle.std.specs.Prelude.{Option, Some, None, not, ◌==◌}
 use Rattle.std.specs.List.{list_all}
 use Rattle.std.specs.Char.{is_ascii_alphabetic, is_ascii_digit}
@@ -8,8 +9,8 @@ use denote.Ref.{Bor}
 use Rattle.std.proofs.Math.Seq.{drop-cons}
 use Rattle.std.proofs.lemmas.Bool.Decides.{nat_tests}
 use Rattle.std.specs.Cmp.Lexicographic.{same_text}
-use Rattle.htt_tokens.specs.declared.tokens.Keyword.{Keyword}
-use Rattle.htt_tokens.specs.declared.tokens.Sign.{Sign}
+use Rattle.htt_lexer_tokens.specs.declared.tokens.Keyword.{Keyword}
+use Rattle.htt_lexer_tokens.specs.declared.tokens.Sign.{Sign}
 use Rattle.htt_lexer.specs.Tables.{lookup, keyword_table, sign_table}
 use Rattle.htt_lexer.specs.Pieces.{spelled}
 use Rattle.htt_lexer.specs.Tokens.{is_blank}
@@ -86,12 +87,18 @@ long_is_none spelling long =
 
 -- ---- a table from one row to the next
 
-pub row_here : {A : Type 0} (table : List (Bor (List ℕ) × A)) (i : ℕ) (row : Bor (List ℕ) × A) (spelling : List ℕ) → i < length table → row ≡ get_or table i row →
-    bytes_eq spelling row.0.now ≡ true → lookup (map spelled (drop i table)) spelling ≡ Some row.1
+pub row_here : {A : Type 0} (table : List (Bor (List ℕ) × A)) (i : ℕ) (row : Bor (List ℕ) × A) (spelling : List ℕ)
+    → i < length table
+    → row ≡ get_or table i row
+    → bytes_eq spelling row.0.now ≡ true
+    → lookup (map spelled (drop i table)) spelling ≡ Some row.1
 row_here table i row spelling within is same = rw (drop-cons table i row within, sym is, same) refl
 
-pub row_elsewhere : {A : Type 0} (table : List (Bor (List ℕ) × A)) (i : ℕ) (row : Bor (List ℕ) × A) (spelling : List ℕ) → i < length table → row ≡ get_or table i row →
-    bytes_eq spelling row.0.now ≡ false → lookup (map spelled (drop i table)) spelling ≡ lookup (map spelled (drop (i + 1) table)) spelling
+pub row_elsewhere : {A : Type 0} (table : List (Bor (List ℕ) × A)) (i : ℕ) (row : Bor (List ℕ) × A) (spelling : List ℕ)
+    → i < length table
+    → row ≡ get_or table i row
+    → bytes_eq spelling row.0.now ≡ false
+    → lookup (map spelled (drop i table)) spelling ≡ lookup (map spelled (drop (i + 1) table)) spelling
 row_elsewhere table i row spelling within is other =
     let next : suc i ≡ i + 1 = omega arith in
     rw (drop-cons table i row within, sym is, other) (ap (λ k. lookup (map spelled (drop k table)) spelling) next)
@@ -111,7 +118,9 @@ other_length n spelling text e other =
     cc)
 
 -- a spelling of a length is looked up among the rows of that length
-pub lookup-of_length : {A : Type 0} (n : ℕ) (rows : List (List ℕ × A)) (spelling : List ℕ) → length spelling ≡ n → lookup (of_length n rows) spelling ≡ lookup rows spelling
+pub lookup-of_length : {A : Type 0} (n : ℕ) (rows : List (List ℕ × A)) (spelling : List ℕ)
+    → length spelling ≡ n
+    → lookup (of_length n rows) spelling ≡ lookup rows spelling
 lookup-of_length n [] spelling e = refl
 lookup-of_length n (row ∷ rows) spelling e =
     let rest = lookup-of_length n rows spelling e in

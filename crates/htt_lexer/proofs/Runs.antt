@@ -1,5 +1,6 @@
 -- Runs that can't be longer, and the numbers that runs of digits write.
-use Rattle.std.proofs.Common.{◌≡◌, ℕ, suc, ◌+◌, ◌*◌, ◌^◌, ◌<◌, ◌≤◌, List, [], ◌∷◌, ◌++◌, length, take, drop, Bool, true, false, refl, subst, arith, nat_lt, lt-ltb, lit≤, get_or}
+use Rattle.std.proofs.Common.{◌≡◌, ℕ, suc, ◌+◌, ◌*◌, ◌^◌, ◌<◌, ◌≤◌, List, [], ◌∷◌, ◌++◌, length, take, drop, Bool, true, false, refl, subst, arith, nat_lt}
+use Rattle.std.proofs.Common.{lt-ltb, lit≤, get_or}
 use Rattle.std.specs.Prelude.{Some, None}
 use Rattle.std.specs.List.{AllPass, prefix_len, take_while, list_all}
 use Rattle.std.specs.Char.{digit_value}
@@ -56,6 +57,10 @@ past : (n : ℕ) → limited n ≡ None → 2 ^ 64 ≤ n
 past n = by_cond (λ o. o ≡ None → 2 ^ 64 ≤ n) (nat_lt n (2 ^ 64)) _ _ (λ _ e. cc) (λ h _. above n h)
 
 -- digits that make a number too large make the whole too large
-pub number_of-too_large : (digits : List ℕ) (i n : ℕ) → i < length digits → n ≡ digits_value 10 (take i digits) → limited (n * 10 + digit_value (get_or digits i 0)) ≡ None → number_of digits ≡ None
+pub number_of-too_large : (digits : List ℕ) (i n : ℕ)
+    → i < length digits
+    → n ≡ digits_value 10 (take i digits)
+    → limited (n * 10 + digit_value (get_or digits i 0)) ≡ None
+    → number_of digits ≡ None
 number_of-too_large digits i n h e none =
     limited-none (digits_value 10 digits) (omega (arith, past _ none, digits_value_more 10 digits i h, digits_value-take-le 10 digits (i + 1) (lit≤ tt), e))

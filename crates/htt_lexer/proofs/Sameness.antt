@@ -2,7 +2,7 @@
 use Rattle.std.proofs.Common.{◌≡◌, ℕ, ◌+◌, List, [], ◌∷◌, ◌++◌, length, take, drop, refl, sym, ◌∙◌, ap, subst}
 use Rattle.std.specs.Prelude.{IsUtf8}
 use Rattle.std.proofs.Math.Seq.{take-append_seam, drop-append_seam}
-use Rattle.htt_tokens.specs.declared.tokens.Kind.{Kind}
+use Rattle.htt_lexer_tokens.specs.declared.tokens.Kind.{Kind}
 use Rattle.htt_lexer.specs.declared.pieces.Piece.TheVariants.{Gap, Token}
 use Rattle.htt_lexer.specs.Tokens.{IsGap, IsToken, Reads, here, gap, token}
 use Rattle.htt_lexer.specs.Pieces.{piece_of}
@@ -51,8 +51,13 @@ same_here at text us end rest (ended e place left) final = record { tokens = sym
 same_here at text us end rest (gapped piece after e is reads) final = absurd (final.no_gap piece after e is)
 same_here at text us end rest (tokened piece after kind others e is these reads) final = absurd (final.no_token piece after kind e is)
 
-same_gap : (at : ℕ) (piece after : List ℕ) (ts : Tokens) (to : ℕ) (left : List ℕ) (us : Tokens) (end : ℕ) (rest : List ℕ) → IsUtf8 (piece ++ after) → IsGap piece after →
-    Rest (at + length piece) after ts to left → First at (piece ++ after) us end rest → IsFinal rest → SameRead ts to left us end rest
+same_gap : (at : ℕ) (piece after : List ℕ) (ts : Tokens) (to : ℕ) (left : List ℕ) (us : Tokens) (end : ℕ) (rest : List ℕ)
+    → IsUtf8 (piece ++ after)
+    → IsGap piece after
+    → Rest (at + length piece) after ts to left
+    → First at (piece ++ after) us end rest
+    → IsFinal rest
+    → SameRead ts to left us end rest
 same_gap at piece after ts to left us end rest u is more (ended e place whole) final = absurd (final.no_gap piece after whole is)
 same_gap at piece after ts to left us end rest u is more (gapped other others e also reads) final =
     let told : piece_of (piece ++ after) ≡ Gap (length piece) = gap_piece is in
@@ -60,16 +65,22 @@ same_gap at piece after ts to left us end rest u is more (gapped other others e 
     let pieces = sym told ∙ ap piece_of e ∙ also_told in
     let size : length piece ≡ length other = cc in
     let seam = same_seam piece after other others e size in
-    more us end rest (subst (λ t. Reads (at + length piece) t us end rest) (sym seam.back) (subst (λ n. Reads (at + n) others us end rest) (sym size) reads)) final
+    more us end rest
+    (subst (λ t. Reads (at + length piece) t us end rest) (sym seam.back) (subst (λ n. Reads (at + n) others us end rest) (sym size) reads))
+    final
 same_gap at piece after ts to left us end rest u is more (tokened other others kind vs e also these reads) final =
     let told : piece_of (piece ++ after) ≡ Gap (length piece) = gap_piece is in
     let also_told : piece_of (other ++ others) ≡ Token kind (length other) = token_piece (subst IsUtf8 e u) also in
     let pieces = sym told ∙ ap piece_of e ∙ also_told in
     cc
 
-same_token : (at : ℕ) (piece after : List ℕ) (kind : Kind) (ts : Tokens) (to : ℕ) (left : List ℕ) (us : Tokens) (end : ℕ) (rest : List ℕ) → IsUtf8 (piece ++ after) → IsToken piece after kind →
-    Rest (at + length piece) after ts to left → First at (piece ++ after) us end rest → IsFinal rest →
-    SameRead (record { kind = kind; from = at; to = at + length piece } ∷ ts) to left us end rest
+same_token : (at : ℕ) (piece after : List ℕ) (kind : Kind) (ts : Tokens) (to : ℕ) (left : List ℕ) (us : Tokens) (end : ℕ) (rest : List ℕ)
+    → IsUtf8 (piece ++ after)
+    → IsToken piece after kind
+    → Rest (at + length piece) after ts to left
+    → First at (piece ++ after) us end rest
+    → IsFinal rest
+    → SameRead (record { kind = kind; from = at; to = at + length piece } ∷ ts) to left us end rest
 same_token at piece after kind ts to left us end rest u is more (ended e place whole) final = absurd (final.no_token piece after kind whole is)
 same_token at piece after kind ts to left us end rest u is more (gapped other others e also reads) final =
     let told : piece_of (piece ++ after) ≡ Token kind (length piece) = token_piece u is in
@@ -83,7 +94,10 @@ same_token at piece after kind ts to left us end rest u is more (tokened other o
     let size : length piece ≡ length other = cc in
     let kinds : kind ≡ same = cc in
     let seam = same_seam piece after other others e size in
-    let rest_same = more vs end rest (subst (λ t. Reads (at + length piece) t vs end rest) (sym seam.back) (subst (λ n. Reads (at + n) others vs end rest) (sym size) reads)) final in
+    let rest_same =
+    more vs end rest
+    (subst (λ t. Reads (at + length piece) t vs end rest) (sym seam.back) (subst (λ n. Reads (at + n) others vs end rest) (sym size) reads))
+    final in
     record {
       tokens = ap (λ l. record { kind = kind; from = at; to = at + length piece } ∷ l) rest_same.tokens
           ∙ ap (λ k. record { kind = k; from = at; to = at + length piece } ∷ vs) kinds

@@ -2,8 +2,8 @@
 use Rattle.std.proofs.Common.{◌≡◌, ℕ, ◌<◌, List, [], ◌∷◌, ◌++◌, length, take, refl, sym, arith}
 use Rattle.std.specs.Prelude.{Option, Some, None}
 use Rattle.std.specs.Option.{option_map, option_or, unwrap_or}
-use Rattle.htt_tokens.specs.declared.tokens.Sign.{Sign}
-use Rattle.htt_tokens.specs.declared.tokens.Kind.TheVariants as kinds
+use Rattle.htt_lexer_tokens.specs.declared.tokens.Sign.{Sign}
+use Rattle.htt_lexer_tokens.specs.declared.tokens.Kind.TheVariants as kinds
 use Rattle.htt_lexer.specs.declared.pieces.Piece.{Piece}
 use Rattle.htt_lexer.specs.declared.pieces.Piece.TheVariants.{Token, NoToken}
 use Rattle.htt_lexer.proofs.Rows.{by_option}
@@ -75,24 +75,44 @@ finds look [] short =
     let P : Option Sign → Type 0 = λ o. Finds look [] (unwrap_or (option_map (λ s. Token (kinds.Sign s) 0) o) NoToken) in
     rw short.empty tt
 finds look (x ∷ []) short =
-    by_option (λ o. Finds look (x ∷ []) (unwrap_or (option_or (option_map (λ s. Token (kinds.Sign s) (length (x ∷ []))) o) (option_or (option_map (λ s. Token (kinds.Sign s) (length (x ∷ []))) o) (option_map (λ s. Token (kinds.Sign s) (length (x ∷ []))) o))) NoToken))
+    by_option (λ o.
+    Finds look (x ∷ []) (unwrap_or
+    (option_or (option_map (λ s. Token (kinds.Sign s) (length (x ∷ []))) o)
+    (option_or (option_map (λ s. Token (kinds.Sign s) (length (x ∷ []))) o) (option_map (λ s. Token (kinds.Sign s) (length (x ∷ []))) o)))
+    NoToken))
     (look (x ∷ [])) (λ _. tt)
     (λ s is. record { spelling = x ∷ []; rest = []; whole = refl; size = refl; is = is; longest = none_after look (x ∷ []) })
 finds look (x ∷ y ∷ []) short =
-    by_option (λ o. Finds look (x ∷ y ∷ []) (unwrap_or (option_or (option_map (λ s. Token (kinds.Sign s) (length (x ∷ y ∷ []))) o) (option_or (option_map (λ s. Token (kinds.Sign s) (length (x ∷ y ∷ []))) o) (within look 1 (x ∷ y ∷ [])))) NoToken))
+    by_option (λ o.
+    Finds look (x ∷ y ∷ []) (unwrap_or
+    (option_or (option_map (λ s. Token (kinds.Sign s) (length (x ∷ y ∷ []))) o)
+    (option_or (option_map (λ s. Token (kinds.Sign s) (length (x ∷ y ∷ []))) o) (within look 1 (x ∷ y ∷ [])))) NoToken))
     (look (x ∷ y ∷ []))
     (λ none. by_option (λ o. Finds look (x ∷ y ∷ []) (unwrap_or (option_map (λ s. Token (kinds.Sign s) (length (x ∷ []))) o) NoToken))
     (look (x ∷ [])) (λ _. tt)
     (λ s is. record { spelling = x ∷ []; rest = y ∷ []; whole = refl; size = refl; is = is; longest = two_after look x y [] short none (λ z more e. cc) }))
     (λ s is. record { spelling = x ∷ y ∷ []; rest = []; whole = refl; size = refl; is = is; longest = none_after look (x ∷ y ∷ []) })
 finds look (x ∷ y ∷ z ∷ text) short =
-    by_option (λ o. Finds look (x ∷ y ∷ z ∷ text) (unwrap_or (option_or (option_map (λ s. Token (kinds.Sign s) (length (x ∷ y ∷ z ∷ []))) o) (option_or (within look 2 (x ∷ y ∷ z ∷ text)) (within look 1 (x ∷ y ∷ z ∷ text)))) NoToken))
+    by_option (λ o.
+    Finds look (x ∷ y ∷ z ∷ text)
+    (unwrap_or (option_or (option_map (λ s. Token (kinds.Sign s) (length (x ∷ y ∷ z ∷ []))) o)
+    (option_or (within look 2 (x ∷ y ∷ z ∷ text)) (within look 1 (x ∷ y ∷ z ∷ text)))) NoToken))
     (look (x ∷ y ∷ z ∷ []))
-    (λ three. by_option (λ o. Finds look (x ∷ y ∷ z ∷ text) (unwrap_or (option_or (option_map (λ s. Token (kinds.Sign s) (length (x ∷ y ∷ []))) o) (within look 1 (x ∷ y ∷ z ∷ text))) NoToken))
+    (λ three.
+    by_option (λ o.
+    Finds look (x ∷ y ∷ z ∷ text)
+    (unwrap_or (option_or (option_map (λ s. Token (kinds.Sign s) (length (x ∷ y ∷ []))) o) (within look 1 (x ∷ y ∷ z ∷ text))) NoToken))
     (look (x ∷ y ∷ []))
     (λ two. by_option (λ o. Finds look (x ∷ y ∷ z ∷ text) (unwrap_or (option_map (λ s. Token (kinds.Sign s) (length (x ∷ []))) o) NoToken))
     (look (x ∷ [])) (λ _. tt)
-    (λ s is. record { spelling = x ∷ []; rest = y ∷ z ∷ text; whole = refl; size = refl; is = is; longest = two_after look x y (z ∷ text) short two (λ v more e. let same : z ≡ v = cc in rw (sym same) three) }))
+    (λ s is. record {
+      spelling = x ∷ [];
+      rest = y ∷ z ∷ text;
+      whole = refl;
+      size = refl;
+      is = is;
+      longest = two_after look x y (z ∷ text) short two (λ v more e. let same : z ≡ v = cc in rw (sym same) three);
+    }))
     (λ s is. record { spelling = x ∷ y ∷ []; rest = z ∷ text; whole = refl; size = refl; is = is; longest = one_after look x y z text short three }))
     (λ s is. record { spelling = x ∷ y ∷ z ∷ []; rest = text; whole = refl; size = refl; is = is; longest = long_after look x y z text short })
 
@@ -104,7 +124,10 @@ OnlySigns _ = ⊥
 
 pub only_signs : (look : List ℕ → Option Sign) (text : List ℕ) → OnlySigns (front look text)
 only_signs look text =
-    by_option (λ o. OnlySigns (unwrap_or (option_or (option_map (λ s. Token (kinds.Sign s) (length (take 3 text))) o) (option_or (within look 2 text) (within look 1 text))) NoToken))
+    by_option (λ o.
+    OnlySigns (unwrap_or
+    (option_or (option_map (λ s. Token (kinds.Sign s) (length (take 3 text))) o) (option_or (within look 2 text) (within look 1 text)))
+    NoToken))
     (look (take 3 text))
     (λ _. by_option (λ o. OnlySigns (unwrap_or (option_or (option_map (λ s. Token (kinds.Sign s) (length (take 2 text))) o) (within look 1 text)) NoToken))
     (look (take 2 text))

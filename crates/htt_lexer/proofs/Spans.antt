@@ -24,7 +24,11 @@ stands text at piece rest within e = record {
   within = omega (arith, within, length-drop at text, ap length e, length-append piece rest);
 }
 
-pub in_order : (text : List ℕ) {at to : ℕ} {rest left : List ℕ} {ts : Tokens} → Reads at rest ts to left → at ≤ length text → rest ≡ drop at text → InOrder text at ts
+pub in_order : (text : List ℕ) {at to : ℕ} {rest left : List ℕ} {ts : Tokens}
+    → Reads at rest ts to left
+    → at ≤ length text
+    → rest ≡ drop at text
+    → InOrder text at ts
 in_order text here within e = within
 in_order text (gap {at = at} {piece = piece} {rest = rest} {tokens = ts} is reads) within e =
     let s = stands text at piece rest within e in

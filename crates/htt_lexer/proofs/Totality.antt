@@ -32,7 +32,11 @@ valid_within bytes (suc n) =
     by_cond (λ m. m ≤ suc n) (is_utf8 (take (suc n) bytes)) (suc n) (valid_len_up_to bytes n)
     (λ _. omega arith) (λ _. omega (arith, valid_within bytes n))
 
-one_more : (bytes : List ℕ) (n m : ℕ) → is_utf8 (take (suc n) bytes) ≡ false → (m ≤ n → is_utf8 (take m bytes) ≡ false) → m ≤ suc n → is_utf8 (take m bytes) ≡ false
+one_more : (bytes : List ℕ) (n m : ℕ)
+    → is_utf8 (take (suc n) bytes) ≡ false
+    → (m ≤ n → is_utf8 (take m bytes) ≡ false)
+    → m ≤ suc n
+    → is_utf8 (take m bytes) ≡ false
 one_more bytes n m invalid below high =
     by_test (nat_lt m (suc n))
     (λ less. below (grind (arith, nat_tests)))
@@ -76,7 +80,13 @@ stops_there bytes invalid =
 abbrev Onward : List ℕ → ℕ → Type 0
 Onward text fuel = (at : ℕ) (out : Tokens) → Cutting text at out → length text - at < fuel → HasAnswer text
 
-step : (text : List ℕ) (fuel at : ℕ) (out : Tokens) (piece : Piece) → IsUtf8 text → Onward text fuel → Cutting text at out → length text - at < suc fuel → piece_of (drop at text) ≡ piece → HasAnswer text
+step : (text : List ℕ) (fuel at : ℕ) (out : Tokens) (piece : Piece)
+    → IsUtf8 text
+    → Onward text fuel
+    → Cutting text at out
+    → length text - at < suc fuel
+    → piece_of (drop at text) ≡ piece
+    → HasAnswer text
 step text fuel at out End u onward cutting small told =
     let empty : drop at text ≡ [] = cut_at text at out End cutting told in
     let place : at ≡ length text = omega (arith, cutting.within, length-drop at text, ap length empty) in
@@ -86,7 +96,8 @@ step text fuel at out (Gap n) u onward cutting small told =
     onward (at + n) out (cutting_gap text at n out cutting cut) (omega (arith, small, cut_within IsGap text at n cutting.within cut))
 step text fuel at out (Token kind n) u onward cutting small told =
     let cut = cut_at text at out (Token kind n) cutting told in
-    onward (at + n) _ (cutting_token text at n kind out cutting cut) (omega (arith, small, cut_within (λ piece rest. IsToken piece rest kind) text at n cutting.within cut))
+    onward (at + n) _ (cutting_token text at n kind out cutting cut)
+    (omega (arith, small, cut_within (λ piece rest. IsToken piece rest kind) text at n cutting.within cut))
 step text fuel at out NoToken u onward cutting small told =
     inr (BadChar at, tt, (u, record { tokens = out; left = drop at text; reads = cutting.reads; fault = nothing (drop at text) cutting.utf8 told }))
 step text fuel at out TooLarge u onward cutting small told =

@@ -1,5 +1,6 @@
 -- The word at the front of a text, by its characters and by its bytes.
-use Rattle.std.proofs.Common.{◌≡◌, ℕ, suc, ◌+◌, ◌<◌, ◌≤◌, List, [], ◌∷◌, ◌++◌, length, take, drop, Bool, true, false, ◌||◌, refl, sym, ◌∙◌, ap, subst, arith, append_assoc}
+use Rattle.std.proofs.Common.{◌≡◌, ℕ, suc, ◌+◌, ◌<◌, ◌≤◌, List, [], ◌∷◌, ◌++◌, length, take, drop, Bool, true, false, ◌||◌, refl, sym, ◌∙◌, ap, subst, arith}
+use Rattle.std.proofs.Common.{append_assoc}
 use Rattle.std.specs.Prelude.{IsUtf8, ◌==◌}
 use Rattle.std.specs.List.{prefix_len, take_while, list_all}
 use Rattle.std.specs.Char.{encode_utf8, is_ascii_alphabetic}
@@ -9,7 +10,7 @@ use Rattle.std.proofs.lemmas.List.{take-append-drop, length-append, length-take-
 use Rattle.std.proofs.lemmas.Str.{chars_past_char, encodes-chars, char_from_byte, cons_from_encodes, encodes-append, IsUtf8-past_char}
 use Rattle.unicode_ident.specs.Ident.{is_xid_start, is_xid_continue}
 use Rattle.unicode_ident.proofs.IdentLemmas.{is_xid_start-ascii, is_xid_continue-ascii, is_xid_start-is_xid_continue}
-use Rattle.htt_lexer.specs.Tokens.{Stops, IsWord, begins_word}
+use Rattle.htt_lexer.specs.Tokens.{Stops, IsWordToken, begins_word}
 use Rattle.htt_lexer.specs.Pieces.{starts_word, word_length}
 use Rattle.htt_lexer.proofs.Rows.{either, equal}
 use Rattle.htt_lexer.proofs.Runs.{prefix_len-run, longest_run}
@@ -74,7 +75,7 @@ pub record Found (text : List ℕ) (n : ℕ) : Type 0 where
   pub starts : starts_word (chars text) ≡ true
   pub size : word_length (chars text) ≡ n
 
-pub word_found : (c : ℕ) (others rest : List ℕ) → IsWord c others rest → IsUtf8 (encode_utf8_all (c ∷ others) ++ rest) →
+pub word_found : (c : ℕ) (others rest : List ℕ) → IsWordToken c others rest → IsUtf8 (encode_utf8_all (c ∷ others) ++ rest) →
     Found (encode_utf8_all (c ∷ others) ++ rest) (length (encode_utf8_all (c ∷ others)))
 word_found c others rest w u =
     let told = chars_run (c ∷ others) rest u in
@@ -94,7 +95,7 @@ pub record HasWord (text : List ℕ) (n : ℕ) : Type 0 where
   pub rest : List ℕ
   pub whole : text ≡ encode_utf8_all (c ∷ others) ++ rest
   pub size : n ≡ length (encode_utf8_all (c ∷ others))
-  pub is : IsWord c others rest
+  pub is : IsWordToken c others rest
 
 word_in : (text cs : List ℕ) → encode_utf8_all cs ≡ text → starts_word cs ≡ true → HasWord text (word_length cs)
 word_in text [] e starts = cc
@@ -121,7 +122,11 @@ word_at text u starts = word_in text (chars text) (encodes-chars text u) starts
 chars_front : (p : ℕ → Bool) (cs : List ℕ) → length (encode_utf8_all (take_while p cs)) ≤ length (encode_utf8_all cs)
 chars_front p cs =
     let k = prefix_len p cs in
-    omega (arith, length-append (encode_utf8_all (take k cs)) (encode_utf8_all (drop k cs)), ap length (sym (encodes-append (take k cs) (drop k cs)) ∙ ap encode_utf8_all (take-append-drop k cs)))
+    omega (
+      arith,
+      length-append (encode_utf8_all (take k cs)) (encode_utf8_all (drop k cs)),
+      ap length (sym (encodes-append (take k cs) (drop k cs)) ∙ ap encode_utf8_all (take-append-drop k cs)),
+    )
 
 pub word_length_within : (text bytes : List ℕ) (n : ℕ) → IsUtf8 text → bytes ≡ text → n ≡ word_length (chars text) → n ≡ length (take n bytes)
 word_length_within text bytes n u same told =

@@ -1,5 +1,6 @@
 -- What stands at the front of a text, told by its first bytes: the step by which the tokens are read.
-use Rattle.std.specs.Prelude.{ℕ, ◌+◌, ◌^◌, List, [], ◌∷◌, length, take, Bool, false, ◌&&◌, ◌==◌, Option, Some, None, if◌then◌else◌, nat_lt}
+use Rattle.std.specs.Prelude.{ℕ, ◌+◌, ◌^◌, List, [], ◌∷◌, length, take, Bool, false, ◌&&◌, ◌==◌, Option, Some, None}
+use Rattle.std.specs.Prelude.{if◌then◌else◌, nat_lt}
 use denote.Ref.{Bor}
 use Rattle.std.specs.List.{prefix_len, take_while}
 use Rattle.std.specs.Option.{option_map, option_or, unwrap_or}
@@ -7,7 +8,7 @@ use Rattle.std.specs.Char.{is_ascii_digit}
 use Rattle.std.specs.Str.{byte, chars, encode_utf8_all}
 use Rattle.std.specs.Str.Parse.{digits_value}
 use Rattle.unicode_ident.specs.Ident.{is_xid_continue}
-use Rattle.htt_tokens.specs.declared.tokens.Kind.TheVariants as kinds
+use Rattle.htt_lexer_tokens.specs.declared.tokens.Kind.TheVariants as kinds
 use Rattle.htt_lexer.specs.declared.pieces.Piece.{Piece}
 use Rattle.htt_lexer.specs.declared.pieces.Piece.TheVariants.{End, Gap, Token, NoToken, TooLarge}
 use Rattle.htt_lexer.specs.Tables.{lookup, sign_table}
@@ -45,10 +46,12 @@ word_piece text = Token (word_kind (take (word_length (chars text)) text)) (word
 
 -- the sign that the first bytes spell, up to so many
 abbrev pub sign_within : ℕ → List ℕ → Option Piece
-sign_within most text = option_map (λ s. Token (kinds.Sign s) (length (take most text))) (lookup sign_table (take most text))
+sign_within most text =
+    option_map (λ s. Token (kinds.Sign s) (length (take most text))) (lookup sign_table (take most text))
 
 abbrev pub sign_piece : List ℕ → Piece
-sign_piece text = unwrap_or (option_or (sign_within 3 text) (option_or (sign_within 2 text) (sign_within 1 text))) NoToken
+sign_piece text =
+    unwrap_or (option_or (sign_within 3 text) (option_or (sign_within 2 text) (sign_within 1 text))) NoToken
 
 abbrev pub begins : ℕ → List ℕ → Bool
 begins b [] = false

@@ -3,8 +3,8 @@ use Rattle.std.specs.Prelude.{◌≡◌, ℕ, ◌^◌, ◌<◌, ◌≤◌, List,
 use Rattle.std.specs.Char.{is_ascii_digit}
 use Rattle.std.specs.Str.{IsValidUpTo}
 use Rattle.std.specs.Str.Parse.{digits_value}
-use Rattle.htt_tokens.specs.declared.tokens.Kind.{Kind}
-use Rattle.htt_tokens.specs.declared.tokens.Token.{Token}
+use Rattle.htt_lexer_tokens.specs.declared.tokens.Kind.{Kind}
+use Rattle.htt_lexer_tokens.specs.declared.tokens.Token.{Token}
 use Rattle.htt_lexer.specs.declared.lexer.LexStop.{LexStop}
 use Rattle.htt_lexer.specs.declared.lexer.LexStop.TheVariants.{NotUtf8, BadChar, LiteralTooLarge, NoMemory}
 use Rattle.htt_lexer.specs.Tokens.{IsLongest, IsGap, IsToken, Reads}
@@ -25,15 +25,15 @@ pub record BeginsNothing (text : List ℕ) : Type 0 where
   pub no_number : ¬ (BeginsTooLarge text)
 
 -- a text is read from its beginning up to this place, and what is left there is at fault
-pub record StopsAt (Fault : List ℕ → Type 0) (text : List ℕ) (at : ℕ) : Type 0 where
+pub record TokensStopAt (Fault : List ℕ → Type 0) (text : List ℕ) (at : ℕ) : Type 0 where
   pub tokens : List Token
   pub left : List ℕ
   pub reads : Reads 0 text tokens at left
   pub fault : Fault left
 
 -- a text is refused for this cause, at this place
-abbrev pub Refuses : List ℕ → LexStop → Type 0
-Refuses text (NotUtf8 at) = IsValidUpTo text at
-Refuses text (BadChar at) = IsUtf8 text × StopsAt BeginsNothing text at
-Refuses text (LiteralTooLarge at) = IsUtf8 text × StopsAt BeginsTooLarge text at
-Refuses text NoMemory = Unit {0}
+abbrev pub RefusesText : List ℕ → LexStop → Type 0
+RefusesText text (NotUtf8 at) = IsValidUpTo text at
+RefusesText text (BadChar at) = IsUtf8 text × TokensStopAt BeginsNothing text at
+RefusesText text (LiteralTooLarge at) = IsUtf8 text × TokensStopAt BeginsTooLarge text at
+RefusesText text NoMemory = Unit {0}

@@ -1,10 +1,10 @@
 -- The two tables of the language: its keywords and its signs, each with its spelling.
 use Rattle.std.specs.Prelude.{ℕ, List, [], ◌∷◌, Option, Some, None, if◌then◌else◌, codes}
 use Rattle.std.specs.Str.{bytes_eq}
-use Rattle.htt_tokens.specs.declared.tokens.Keyword.{Keyword}
-use Rattle.htt_tokens.specs.declared.tokens.Keyword.TheVariants as words
-use Rattle.htt_tokens.specs.declared.tokens.Sign.{Sign}
-use Rattle.htt_tokens.specs.declared.tokens.Sign.TheVariants as signs
+use Rattle.htt_lexer_tokens.specs.declared.tokens.Keyword.{Keyword}
+use Rattle.htt_lexer_tokens.specs.declared.tokens.Keyword.TheVariants as words
+use Rattle.htt_lexer_tokens.specs.declared.tokens.Sign.{Sign}
+use Rattle.htt_lexer_tokens.specs.declared.tokens.Sign.TheVariants as signs
 
 -- what the table has for this spelling, if anything
 abbrev pub lookup : {A : Type 0} → List (List ℕ × A) → List ℕ → Option A

@@ -4,11 +4,11 @@
 
 ghost use Rattle.std.specs.Prelude.{◌≡◌, IfOk, IfErr};
 ghost use Rattle.htt_lexer.specs.declared.lexer.LexStop.TheVariants.{NoMemory};
-ghost use Rattle.htt_lexer.specs.Refusals.{Refuses};
+ghost use Rattle.htt_lexer.specs.Refusals.{RefusesText};
 ghost use Rattle.htt_lexer.specs.Tokens.{AreTokens};
 
 use crate::pieces::{Piece, piece_of};
-use htt_tokens::Token;
+use htt_lexer_tokens::Token;
 use std::alloc::{AllocFailed, Global};
 use thiserror::Error;
 
@@ -42,7 +42,7 @@ impl<T: Drop> From<AllocFailed<T>> for LexStop {
 /// 2^64 - 1 begins, with the first such place.
 pub fn tokens(alloc: Global, bytes: &[u8]) -> Result<Vec<Token>, LexStop>
     ensures tokens { IfOk result (λ tokens. AreTokens bytes.now tokens.items) }
-    ensures refused { IfErr result (λ stop. Refuses bytes.now stop) }
+    ensures refused { IfErr result (λ stop. RefusesText bytes.now stop) }
 {
     match std::str::from_utf8(bytes) {
         Ok(text) => tokens_of(alloc, text),
@@ -54,7 +54,7 @@ pub fn tokens(alloc: Global, bytes: &[u8]) -> Result<Vec<Token>, LexStop>
 
 fn tokens_of(alloc: Global, text: &str) -> Result<Vec<Token>, LexStop>
     ensures tokens { IfOk result (λ tokens. AreTokens text.now tokens.items) }
-    ensures refused { IfErr result (λ stop. Refuses text.now stop) }
+    ensures refused { IfErr result (λ stop. RefusesText text.now stop) }
 {
     let mut tokens = Vec::new(alloc);
     let mut at = 0;

@@ -11,6 +11,6 @@ mod tables;
 #[cfg(test)]
 mod tests;
 
-pub use htt_tokens::{Keyword, Kind, Sign, Token};
+pub use htt_lexer_tokens::{Keyword, Kind, Sign, Token};
 pub use laws::{token_laws, worked_examples};
 pub use lexer::{LexStop, tokens};

@@ -11,7 +11,7 @@ ghost use Rattle.htt_lexer.specs.Pieces.{number_of, number_piece, piece_of, sign
 ghost use Rattle.htt_lexer.specs.Tokens.{begins_word, is_blank, is_comment, word_kind};
 
 use crate::tables::{keyword_of, sign_of};
-use htt_tokens::{Kind, Sign};
+use htt_lexer_tokens::{Kind, Sign};
 use unicode_ident::{is_xid_continue, is_xid_start};
 
 /// What stands at the front of a text: nothing, a gap or a token with the number of its bytes, bytes

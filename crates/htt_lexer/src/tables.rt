@@ -5,7 +5,7 @@ ghost use Rattle.std.specs.Prelude.{◌≡◌, map};
 ghost use Rattle.htt_lexer.specs.Pieces.{spelled};
 ghost use Rattle.htt_lexer.specs.Tables.{keyword_table, lookup, sign_table};
 
-use htt_tokens::{Keyword, Sign};
+use htt_lexer_tokens::{Keyword, Sign};
 
 const WORDS_OF_TWO: [(&str, Keyword); 6] = [
     ("do", Keyword::DoWord),

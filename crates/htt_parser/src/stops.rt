@@ -3,7 +3,7 @@
 ghost use Rattle.std.specs.Prelude.{◌≡◌};
 ghost use Rattle.htt_parser.specs.Refusals.{stop_of};
 
-use parser_words::{Cursor, Halted, Reason};
+use htt_parser_words::{Cursor, Halted, Reason};
 use thiserror::Error;
 
 /// Why tokens were refused. Places are counted in bytes, from 0: that of the refused token, or the

@@ -3,8 +3,8 @@
 
 use crate::{ParseStop, parse, parse_formula, parse_mono, parse_proof};
 use htt_lexer::tokens;
-use htt_recogniser::{is_file, is_formula, is_proof};
-use raw_trees::{MonoName, RawBracket, RawDecl, RawRight};
+use htt_parser_recogniser::{is_file, is_formula, is_proof};
+use htt_parser_trees::{MonoName, RawBracket, RawDecl, RawRight};
 use std::test::Fail;
 
 /// A call of the crate.

@@ -17,8 +17,15 @@ use Rattle.htt_syntax.specs.declared.tree.Step.{Step}
 use Rattle.htt_syntax.specs.declared.tree.Step.TheVariants as vstep
 use Rattle.htt_syntax.specs.declared.tree.Formula.{Formula}
 use Rattle.htt_syntax.specs.declared.tree.Formula.TheVariants as vformula
-use Rattle.htt_syntax.specs.Trees.{TripleTree, TermTree, FixTree, CompTree, TermTrees, m_word, m_bool, m_loc, m_unit, m_pair, m_var, y_mono, y_fun, y_all, y_hoare, y_at, t_var, t_val, t_def, t_app, t_inst, t_lam, t_lam_t, t_do, t_fix, t_word, t_bool, t_loc, t_unit, t_pair, t_fst, t_snd, t_not, t_bin, t_eq, t_sel, t_ann, t_made, t_at, s_run, s_alloc, s_get, s_set, s_free, s_if, s_claim, f_tt, f_ff, f_and, f_or, f_imp, f_all_t, f_ex_t, f_all_h, f_ex_h, f_emp, f_cell, f_block, f_join, f_same, f_eq, f_at, f_rec, triple, x_param, x_body, c_ret, c_step, no_terms, more_terms}
-use Rattle.htt_syntax.specs.Views.{mono_tree, ty_tree, term_tree, step_tree, formula_tree, params_row, steps_row, terms_row}
+use Rattle.htt_syntax.specs.Trees.{TripleTree, TermTree, FixTree, CompTree, TermTrees, m_word, m_bool, m_loc, m_unit}
+use Rattle.htt_syntax.specs.Trees.{m_pair, m_var, y_mono, y_fun, y_all, y_hoare, y_at, t_var, t_val, t_def, t_app}
+use Rattle.htt_syntax.specs.Trees.{t_inst, t_lam, t_lam_t, t_do, t_fix, t_word, t_bool, t_loc, t_unit, t_pair, t_fst}
+use Rattle.htt_syntax.specs.Trees.{t_snd, t_not, t_bin, t_eq, t_sel, t_ann, t_made, t_at, s_run, s_alloc, s_get, s_set}
+use Rattle.htt_syntax.specs.Trees.{s_free, s_if, s_claim, f_tt, f_ff, f_and, f_or, f_imp, f_all_t, f_ex_t, f_all_h}
+use Rattle.htt_syntax.specs.Trees.{f_ex_h, f_emp, f_cell, f_block, f_join, f_same, f_eq, f_at, f_rec, triple, x_param}
+use Rattle.htt_syntax.specs.Trees.{x_body, c_ret, c_step, no_terms, more_terms}
+use Rattle.htt_syntax.specs.Views.{mono_tree, ty_tree, term_tree, step_tree, formula_tree, params_row, steps_row}
+use Rattle.htt_syntax.specs.Views.{terms_row}
 
 abbrev pub term_trees : List Term → TermTrees
 term_trees [] = no_terms
@@ -45,7 +52,9 @@ fix_tree x = params_tree x.params (x_body (triple_tree x.triple) (comp_tree x.bo
 
 -- All that the equations below compute with.
 generated : Type 0
-unfolding term_tree comp_tree triple_tree fix_tree mono_tree mono_block.hidden-the_row-Mono-0 block.hidden-the_row-Formula-0 block.hidden-the_row-Term-3 block.hidden-the_row-Comp-4 block.hidden-the_row-Fix-6 block.hidden-the_row-Ty-7 block.hidden-the_row-Triple-8 denote.Hole.Carrier.hidden
+unfolding term_tree comp_tree triple_tree fix_tree mono_tree mono_block.hidden-the_row-Mono-0
+    block.hidden-the_row-Formula-0 block.hidden-the_row-Term-3 block.hidden-the_row-Comp-4 block.hidden-the_row-Fix-6
+    block.hidden-the_row-Ty-7 block.hidden-the_row-Triple-8 denote.Hole.Carrier.hidden
 generated = ⊤
 
 terms_row_is : (ts : List Term) → terms_row (block.hidden-the_row-Term-1 ts) ≡ term_trees ts
@@ -58,7 +67,8 @@ unfolding term_tree block.hidden-the_row-Ty-5 denote.Hole.Carrier.hidden
 params_row_is [] rest = refl
 params_row_is (t ∷ ts) rest = ap (x_param (ty_tree t)) (params_row_is ts rest)
 
-steps_row_is : (ss : List Step) (result : TermTree) → steps_row (block.hidden-the_row-Step-2 ss) result ≡ steps_tree ss result
+steps_row_is : (ss : List Step) (result : TermTree)
+    → steps_row (block.hidden-the_row-Step-2 ss) result ≡ steps_tree ss result
 unfolding term_tree block.hidden-the_row-Step-2 denote.Hole.Carrier.hidden
 steps_row_is [] result = refl
 steps_row_is (s ∷ ss) result = ap (c_step (step_tree s)) (steps_row_is ss result)
@@ -141,7 +151,9 @@ term_do a = simp steps_row_is refl
 
 pub term_fix : (a : Fix) → term_tree (vterm.Fix a) ≡ t_fix a.at (fix_tree a)
 unfolding generated
-term_fix a = λ j. t_fix a.at (params_row_is a.params (x_body (triple_tree a.triple) (steps_row_is a.body.steps (term_tree a.body.result) j)) j)
+term_fix a = λ j.
+    t_fix a.at
+    (params_row_is a.params (x_body (triple_tree a.triple) (steps_row_is a.body.steps (term_tree a.body.result) j)) j)
 
 pub term_word : (a : ℕ) → term_tree (vterm.Word a) ≡ t_word a
 unfolding generated
@@ -179,11 +191,13 @@ pub term_bin : (a : Op) (b : Term) (c : Term) → term_tree (vterm.Bin a b c) �
 unfolding generated
 term_bin a b c = refl
 
-pub term_eq : (a : Mono) (b : Term) (c : Term) → term_tree (vterm.Eq a b c) ≡ t_eq (mono_tree a) (term_tree b) (term_tree c)
+pub term_eq : (a : Mono) (b : Term) (c : Term)
+    → term_tree (vterm.Eq a b c) ≡ t_eq (mono_tree a) (term_tree b) (term_tree c)
 unfolding generated
 term_eq a b c = refl
 
-pub term_sel : (a : Mono) (b : Term) (c : Term) (e : Term) → term_tree (vterm.Sel a b c e) ≡ t_sel (mono_tree a) (term_tree b) (term_tree c) (term_tree e)
+pub term_sel : (a : Mono) (b : Term) (c : Term) (e : Term)
+    → term_tree (vterm.Sel a b c e) ≡ t_sel (mono_tree a) (term_tree b) (term_tree c) (term_tree e)
 unfolding generated
 term_sel a b c e = refl
 
@@ -211,7 +225,8 @@ pub step_get : (a : Mono) (b : Term) → step_tree (vstep.Get a b) ≡ s_get (mo
 unfolding generated
 step_get a b = refl
 
-pub step_set : (a : Mono) (b : Term) (c : Term) → step_tree (vstep.Set a b c) ≡ s_set (mono_tree a) (term_tree b) (term_tree c)
+pub step_set : (a : Mono) (b : Term) (c : Term)
+    → step_tree (vstep.Set a b c) ≡ s_set (mono_tree a) (term_tree b) (term_tree c)
 unfolding generated
 step_set a b c = refl
 
@@ -219,7 +234,8 @@ pub step_free : (a : Mono) (b : Term) → step_tree (vstep.Free a b) ≡ s_free 
 unfolding generated
 step_free a b = refl
 
-pub step_if : (a : Mono) (b : Term) (c : Comp) (e : Comp) → step_tree (vstep.If a b c e) ≡ s_if (mono_tree a) (term_tree b) (comp_tree c) (comp_tree e)
+pub step_if : (a : Mono) (b : Term) (c : Comp) (e : Comp)
+    → step_tree (vstep.If a b c e) ≡ s_if (mono_tree a) (term_tree b) (comp_tree c) (comp_tree e)
 unfolding generated
 step_if a b c e = simp steps_row_is refl
 
@@ -235,7 +251,8 @@ pub formula_ff : formula_tree vformula.Ff ≡ f_ff
 unfolding generated
 formula_ff = refl
 
-pub formula_and : (a : Formula) (b : Formula) → formula_tree (vformula.And a b) ≡ f_and (formula_tree a) (formula_tree b)
+pub formula_and : (a : Formula) (b : Formula)
+    → formula_tree (vformula.And a b) ≡ f_and (formula_tree a) (formula_tree b)
 unfolding generated
 formula_and a b = refl
 
@@ -243,7 +260,8 @@ pub formula_or : (a : Formula) (b : Formula) → formula_tree (vformula.Or a b) 
 unfolding generated
 formula_or a b = refl
 
-pub formula_imp : (a : Formula) (b : Formula) → formula_tree (vformula.Imp a b) ≡ f_imp (formula_tree a) (formula_tree b)
+pub formula_imp : (a : Formula) (b : Formula)
+    → formula_tree (vformula.Imp a b) ≡ f_imp (formula_tree a) (formula_tree b)
 unfolding generated
 formula_imp a b = refl
 
@@ -267,11 +285,13 @@ pub formula_emp : (a : ℕ) → formula_tree (vformula.Emp a) ≡ f_emp a
 unfolding generated
 formula_emp a = refl
 
-pub formula_cell : (a : Mono) (b : ℕ) (c : Term) (e : Term) → formula_tree (vformula.Cell a b c e) ≡ f_cell (mono_tree a) b (term_tree c) (term_tree e)
+pub formula_cell : (a : Mono) (b : ℕ) (c : Term) (e : Term)
+    → formula_tree (vformula.Cell a b c e) ≡ f_cell (mono_tree a) b (term_tree c) (term_tree e)
 unfolding generated
 formula_cell a b c e = refl
 
-pub formula_block : (a : Mono) (b : ℕ) (c : Term) → formula_tree (vformula.Block a b c) ≡ f_block (mono_tree a) b (term_tree c)
+pub formula_block : (a : Mono) (b : ℕ) (c : Term)
+    → formula_tree (vformula.Block a b c) ≡ f_block (mono_tree a) b (term_tree c)
 unfolding generated
 formula_block a b c = refl
 
@@ -283,7 +303,8 @@ pub formula_same : (a : ℕ) (b : ℕ) → formula_tree (vformula.Same a b) ≡ 
 unfolding generated
 formula_same a b = refl
 
-pub formula_eq : (a : Mono) (b : Term) (c : Term) → formula_tree (vformula.Eq a b c) ≡ f_eq (mono_tree a) (term_tree b) (term_tree c)
+pub formula_eq : (a : Mono) (b : Term) (c : Term)
+    → formula_tree (vformula.Eq a b c) ≡ f_eq (mono_tree a) (term_tree b) (term_tree c)
 unfolding generated
 formula_eq a b c = refl
 
@@ -291,7 +312,8 @@ pub formula_at : (a : ℕ) (b : Formula) → formula_tree (vformula.At a b) ≡ 
 unfolding generated
 formula_at a b = refl
 
-pub formula_rec : (a : ℕ) (b : ℕ) (c : Term) (e : List Term) → formula_tree (vformula.Rec a b c e) ≡ f_rec a b (term_tree c) (term_trees e)
+pub formula_rec : (a : ℕ) (b : ℕ) (c : Term) (e : List Term)
+    → formula_tree (vformula.Rec a b c e) ≡ f_rec a b (term_tree c) (term_trees e)
 unfolding generated
 formula_rec a b c e = simp terms_row_is refl
 
@@ -299,8 +321,50 @@ pub ruleset mono_levels = (mono_word, mono_bool, mono_loc, mono_unit, mono_pair,
 
 pub ruleset ty_levels = (ty_mono, ty_fun, ty_all, ty_hoare, ty_at)
 
-pub ruleset term_levels = (term_var, term_val, term_def, term_app, term_inst, term_lam, term_lam_t, term_do, term_fix, term_word, term_bool, term_loc, term_unit, term_pair, term_fst, term_snd, term_un, term_bin, term_eq, term_sel, term_ann, term_made, term_at)
+pub ruleset term_levels = (
+  term_var,
+  term_val,
+  term_def,
+  term_app,
+  term_inst,
+  term_lam,
+  term_lam_t,
+  term_do,
+  term_fix,
+  term_word,
+  term_bool,
+  term_loc,
+  term_unit,
+  term_pair,
+  term_fst,
+  term_snd,
+  term_un,
+  term_bin,
+  term_eq,
+  term_sel,
+  term_ann,
+  term_made,
+  term_at,
+)
 
 pub ruleset step_levels = (step_run, step_alloc, step_get, step_set, step_free, step_if, step_claim)
 
-pub ruleset formula_levels = (formula_tt, formula_ff, formula_and, formula_or, formula_imp, formula_all_t, formula_ex_t, formula_all_h, formula_ex_h, formula_emp, formula_cell, formula_block, formula_join, formula_same, formula_eq, formula_at, formula_rec)
+pub ruleset formula_levels = (
+  formula_tt,
+  formula_ff,
+  formula_and,
+  formula_or,
+  formula_imp,
+  formula_all_t,
+  formula_ex_t,
+  formula_all_h,
+  formula_ex_h,
+  formula_emp,
+  formula_cell,
+  formula_block,
+  formula_join,
+  formula_same,
+  formula_eq,
+  formula_at,
+  formula_rec,
+)

@@ -11,7 +11,10 @@ use Rattle.htt_syntax.specs.declared.proof.Proof.TheVariants as vproof
 use Rattle.htt_syntax.specs.declared.proof.Proof.TheBlock as block
 use Rattle.htt_syntax.specs.declared.proof.Stmt.{Stmt}
 use Rattle.htt_syntax.specs.declared.proof.Stmt.TheVariants as vstmt
-use Rattle.htt_syntax.specs.Trees.{ProofTree, BlockTree, a_heap, a_term, b_then, b_end, p_hyp, p_trivial, p_refl, p_first, p_second, p_left, p_right, p_absurd, p_both, p_give, p_app, p_inst, p_case, p_rewrite, p_induct, p_split, p_axiom, p_lem, p_the, p_block, p_at, p_unfold, d_intro, d_gen, d_have, d_open, d_at}
+use Rattle.htt_syntax.specs.Trees.{ProofTree, BlockTree, a_heap, a_term, b_then, b_end, p_hyp, p_trivial, p_refl}
+use Rattle.htt_syntax.specs.Trees.{p_first, p_second, p_left, p_right, p_absurd, p_both, p_give, p_app, p_inst, p_case}
+use Rattle.htt_syntax.specs.Trees.{p_rewrite, p_induct, p_split, p_axiom, p_lem, p_the, p_block, p_at, p_unfold}
+use Rattle.htt_syntax.specs.Trees.{d_intro, d_gen, d_have, d_open, d_at}
 use Rattle.htt_syntax.specs.Views.{mono_tree, term_tree, formula_tree}
 use Rattle.htt_syntax.specs.ProofViews.{arg_tree, proof_tree, stmt_tree, stmts_row}
 
@@ -25,7 +28,8 @@ generated : Type 0
 unfolding arg_tree proof_tree block.hidden-the_row-Proof-0 block.hidden-the_row-Stmt-2 denote.Hole.Carrier.hidden
 generated = ⊤
 
-stmts_row_is : (ss : List Stmt) (last : ProofTree) → stmts_row (block.hidden-the_row-Stmt-1 ss) last ≡ stmts_tree ss last
+stmts_row_is : (ss : List Stmt) (last : ProofTree)
+    → stmts_row (block.hidden-the_row-Stmt-1 ss) last ≡ stmts_tree ss last
 unfolding proof_tree block.hidden-the_row-Stmt-1 denote.Hole.Carrier.hidden
 stmts_row_is [] last = refl
 stmts_row_is (s ∷ ss) last = ap (b_then (stmt_tree s)) (stmts_row_is ss last)
@@ -86,23 +90,28 @@ pub proof_inst : (a : Proof) (b : Arg) → proof_tree (vproof.Inst a b) ≡ p_in
 unfolding generated
 proof_inst a b = refl
 
-pub proof_case : (a : Proof) (b : Proof) (c : Proof) → proof_tree (vproof.Case a b c) ≡ p_case (proof_tree a) (proof_tree b) (proof_tree c)
+pub proof_case : (a : Proof) (b : Proof) (c : Proof)
+    → proof_tree (vproof.Case a b c) ≡ p_case (proof_tree a) (proof_tree b) (proof_tree c)
 unfolding generated
 proof_case a b c = refl
 
-pub proof_rewrite : (a : Proof) (b : Formula) (c : Proof) → proof_tree (vproof.Rewrite a b c) ≡ p_rewrite (proof_tree a) (formula_tree b) (proof_tree c)
+pub proof_rewrite : (a : Proof) (b : Formula) (c : Proof)
+    → proof_tree (vproof.Rewrite a b c) ≡ p_rewrite (proof_tree a) (formula_tree b) (proof_tree c)
 unfolding generated
 proof_rewrite a b c = refl
 
-pub proof_induct : (a : Formula) (b : Term) (c : Proof) (e : Proof) → proof_tree (vproof.Induct a b c e) ≡ p_induct (formula_tree a) (term_tree b) (proof_tree c) (proof_tree e)
+pub proof_induct : (a : Formula) (b : Term) (c : Proof) (e : Proof)
+    → proof_tree (vproof.Induct a b c e) ≡ p_induct (formula_tree a) (term_tree b) (proof_tree c) (proof_tree e)
 unfolding generated
 proof_induct a b c e = refl
 
-pub proof_split : (a : Formula) (b : Term) (c : Proof) (e : Proof) → proof_tree (vproof.Split a b c e) ≡ p_split (formula_tree a) (term_tree b) (proof_tree c) (proof_tree e)
+pub proof_split : (a : Formula) (b : Term) (c : Proof) (e : Proof)
+    → proof_tree (vproof.Split a b c e) ≡ p_split (formula_tree a) (term_tree b) (proof_tree c) (proof_tree e)
 unfolding generated
 proof_split a b c e = refl
 
-pub proof_axiom : (a : List ℕ) (b : List Mono) (c : List Arg) → proof_tree (vproof.Axiom a b c) ≡ p_axiom a (map mono_tree b) (map arg_tree c)
+pub proof_axiom : (a : List ℕ) (b : List Mono) (c : List Arg)
+    → proof_tree (vproof.Axiom a b c) ≡ p_axiom a (map mono_tree b) (map arg_tree c)
 unfolding generated
 proof_axiom a b c = refl
 
@@ -148,6 +157,29 @@ stmt_at a b = refl
 
 pub ruleset arg_levels = (arg_heap, arg_term)
 
-pub ruleset proof_levels = (proof_hyp, proof_trivial, proof_refl, proof_first, proof_second, proof_left, proof_right, proof_absurd, proof_both, proof_give, proof_app, proof_inst, proof_case, proof_rewrite, proof_induct, proof_split, proof_axiom, proof_lem, proof_the, proof_block, proof_at, proof_unfold)
+pub ruleset proof_levels = (
+  proof_hyp,
+  proof_trivial,
+  proof_refl,
+  proof_first,
+  proof_second,
+  proof_left,
+  proof_right,
+  proof_absurd,
+  proof_both,
+  proof_give,
+  proof_app,
+  proof_inst,
+  proof_case,
+  proof_rewrite,
+  proof_induct,
+  proof_split,
+  proof_axiom,
+  proof_lem,
+  proof_the,
+  proof_block,
+  proof_at,
+  proof_unfold,
+)
 
 pub ruleset stmt_levels = (stmt_intro, stmt_gen, stmt_have, stmt_unpack, stmt_at)

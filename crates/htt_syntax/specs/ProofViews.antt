@@ -2,11 +2,15 @@
 use Rattle.std.specs.Prelude.{map}
 use Rattle.htt_syntax.specs.declared.proof.Arg.{Arg}
 use Rattle.htt_syntax.specs.declared.proof.Arg.TheVariants as arg
-use Rattle.htt_syntax.specs.declared.proof.Proof.{Proof, more_of-Proof, end_of-Proof, Row_of-Stmt, more_of-Stmt, end_of-Stmt}
+use Rattle.htt_syntax.specs.declared.proof.Proof.{Proof, more_of-Proof, end_of-Proof, Row_of-Stmt, more_of-Stmt}
+use Rattle.htt_syntax.specs.declared.proof.Proof.{end_of-Stmt}
 use Rattle.htt_syntax.specs.declared.proof.Proof as proof
 use Rattle.htt_syntax.specs.declared.proof.Stmt.{Stmt}
 use Rattle.htt_syntax.specs.declared.proof.Stmt as stmt
-use Rattle.htt_syntax.specs.Trees.{ArgTree, ProofTree, StmtTree, BlockTree, a_heap, a_term, b_then, b_end, p_hyp, p_trivial, p_refl, p_first, p_second, p_left, p_right, p_absurd, p_both, p_give, p_app, p_inst, p_case, p_rewrite, p_induct, p_split, p_axiom, p_lem, p_the, p_block, p_at, p_unfold, d_intro, d_gen, d_have, d_open, d_at}
+use Rattle.htt_syntax.specs.Trees.{ArgTree, ProofTree, StmtTree, BlockTree, a_heap, a_term, b_then, b_end, p_hyp}
+use Rattle.htt_syntax.specs.Trees.{p_trivial, p_refl, p_first, p_second, p_left, p_right, p_absurd, p_both, p_give}
+use Rattle.htt_syntax.specs.Trees.{p_app, p_inst, p_case, p_rewrite, p_induct, p_split, p_axiom, p_lem, p_the, p_block}
+use Rattle.htt_syntax.specs.Trees.{p_at, p_unfold, d_intro, d_gen, d_have, d_open, d_at}
 use Rattle.htt_syntax.specs.Views.{mono_tree, term_tree, formula_tree}
 
 unfoldable pub arg_tree : Arg → ArgTree
@@ -23,14 +27,20 @@ unfoldable mutual
   proof_tree (proof.Left' pa (more_of-Proof a end_of-Proof)) = p_left (proof_tree a)
   proof_tree (proof.Right' pa (more_of-Proof a end_of-Proof)) = p_right (proof_tree a)
   proof_tree (proof.Absurd' pa (more_of-Proof a end_of-Proof)) = p_absurd (proof_tree a)
-  proof_tree (proof.Both' pa (more_of-Proof a end_of-Proof) pb (more_of-Proof b end_of-Proof)) = p_both (proof_tree a) (proof_tree b)
+  proof_tree (proof.Both' pa (more_of-Proof a end_of-Proof) pb (more_of-Proof b end_of-Proof)) =
+      p_both (proof_tree a) (proof_tree b)
   proof_tree (proof.Give' a pb (more_of-Proof b end_of-Proof)) = p_give (arg_tree a) (proof_tree b)
-  proof_tree (proof.App' pa (more_of-Proof a end_of-Proof) pb (more_of-Proof b end_of-Proof)) = p_app (proof_tree a) (proof_tree b)
+  proof_tree (proof.App' pa (more_of-Proof a end_of-Proof) pb (more_of-Proof b end_of-Proof)) =
+      p_app (proof_tree a) (proof_tree b)
   proof_tree (proof.Inst' pa (more_of-Proof a end_of-Proof) b) = p_inst (proof_tree a) (arg_tree b)
-  proof_tree (proof.Case' pa (more_of-Proof a end_of-Proof) pb (more_of-Proof b end_of-Proof) pc (more_of-Proof c end_of-Proof)) = p_case (proof_tree a) (proof_tree b) (proof_tree c)
-  proof_tree (proof.Rewrite' pa (more_of-Proof a end_of-Proof) b pc (more_of-Proof c end_of-Proof)) = p_rewrite (proof_tree a) (formula_tree b) (proof_tree c)
-  proof_tree (proof.Induct' a b pc (more_of-Proof c end_of-Proof) pe (more_of-Proof e end_of-Proof)) = p_induct (formula_tree a) (term_tree b) (proof_tree c) (proof_tree e)
-  proof_tree (proof.Split' a b pc (more_of-Proof c end_of-Proof) pe (more_of-Proof e end_of-Proof)) = p_split (formula_tree a) (term_tree b) (proof_tree c) (proof_tree e)
+  proof_tree (proof.Case' pa (more_of-Proof a end_of-Proof) pb (more_of-Proof b end_of-Proof) pc
+      (more_of-Proof c end_of-Proof)) = p_case (proof_tree a) (proof_tree b) (proof_tree c)
+  proof_tree (proof.Rewrite' pa (more_of-Proof a end_of-Proof) b pc (more_of-Proof c end_of-Proof)) =
+      p_rewrite (proof_tree a) (formula_tree b) (proof_tree c)
+  proof_tree (proof.Induct' a b pc (more_of-Proof c end_of-Proof) pe (more_of-Proof e end_of-Proof)) =
+      p_induct (formula_tree a) (term_tree b) (proof_tree c) (proof_tree e)
+  proof_tree (proof.Split' a b pc (more_of-Proof c end_of-Proof) pe (more_of-Proof e end_of-Proof)) =
+      p_split (formula_tree a) (term_tree b) (proof_tree c) (proof_tree e)
   proof_tree (proof.Axiom a b c) = p_axiom a (map mono_tree b) (map arg_tree c)
   proof_tree (proof.Lem a) = p_lem (formula_tree a)
   proof_tree (proof.The' a pb (more_of-Proof b end_of-Proof)) = p_the (formula_tree a) (proof_tree b)

@@ -6,7 +6,7 @@ mod proof;
 mod sequent;
 mod tree;
 
-pub use htt_words::{Bound, Kind, Rule, SyntaxKind, Which, Why};
+pub use htt_syntax_words::{Bound, Kind, Rule, SyntaxKind, Which, Why};
 pub use mono::{Mono, Op};
 pub use proof::{Arg, Proof, Stmt};
 pub use sequent::{Entry, Env, RecPred, Sequent};

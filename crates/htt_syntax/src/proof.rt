@@ -2,7 +2,7 @@
 
 use crate::mono::Mono;
 use crate::tree::{Formula, Term};
-use htt_seq::Seq;
+use htt_syntax_seq::Seq;
 use sqlite_items::Boxed;
 
 /// What a quantified formula or an axiom is used at.

@@ -2,7 +2,7 @@
 
 use crate::mono::Mono;
 use crate::tree::{Formula, Term, Ty};
-use htt_seq::Seq;
+use htt_syntax_seq::Seq;
 
 /// An entry of a context.
 #[derive(Drop)]

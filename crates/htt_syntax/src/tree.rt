@@ -4,7 +4,7 @@
 //! phrase begins, and means nothing else.
 
 use crate::mono::{Mono, Op};
-use htt_seq::Seq;
+use htt_syntax_seq::Seq;
 use sqlite_items::Boxed;
 
 /// A type.

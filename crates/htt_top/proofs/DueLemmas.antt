@@ -1,16 +1,16 @@
 -- How the answer of a run becomes due, stage by stage.
 use Rattle.std.proofs.Common.{ℕ, ◌≡◌, ◌≤◌, ◌<◌, ◌^◌, List, Option, Some, None, Result, Ok, Err, refl, subst, ◌∙◌, arith, inl, inr, ⊎_elim}
 use Rattle.std.specs.Option.{unwrap_or}
-use Rattle.command_words.specs.Forms.{run, HasForm}
+use Rattle.htt_top_words.specs.Forms.{run, HasForm}
 use Rattle.htt_top.specs.Words.{step_limit}
 use Rattle.htt_top.specs.Due.{Due}
 use Rattle.htt_base.specs.Outside.{Held}
-use Rattle.htt_values.specs.Heaps.{Heap, InUse, empty_heap}
-use Rattle.word_loader.specs.declared.code.Code.{Code}
-use Rattle.word_loader.specs.Valid.{IsValid}
-use Rattle.command_answers.specs.declared.answer.Refusal.{Refusal}
-use Rattle.command_answers.specs.Answers.{Answer}
-use Rattle.htt_words.specs.declared.words.Which.TheVariants.{CodeFile, HeapFile}
+use Rattle.theory_values.specs.Heaps.{Heap, InUse, empty_heap}
+use Rattle.word_loader_code.specs.declared.code.Code.{Code}
+use Rattle.word_loader_code.specs.Valid.{IsValid}
+use Rattle.htt_top_answers.specs.declared.answer.Refusal.{Refusal}
+use Rattle.htt_top_answers.specs.Answers.{Answer}
+use Rattle.htt_syntax_words.specs.declared.words.Which.TheVariants.{CodeFile, HeapFile}
 use Rattle.htt_top.specs.Stages.{Seen, seen, Then, FileGives, HeapGives, LoadGives, CodeGives, StartGives, RunGives}
 use Rattle.htt_top.proofs.ReadLemmas.{code_wider, start_wider}
 use Rattle.htt_top.proofs.ValueLemmas.{empty_is_low}
@@ -21,10 +21,14 @@ at_or_above n = omega arith
 abbrev pub RunDue : Seen → List ℕ → Option (List ℕ) → ℕ → Answer → Type 0
 RunDue s name heap steps = Then (CodeGives s name) (λ c. Then (StartGives s heap) (λ h. RunGives c h steps))
 
-pub due_no_code : (s : Seen) (name : List ℕ) (heap : Option (List ℕ)) (steps : ℕ) (r : Refusal) (x : Answer) → CodeGives s name (Err r) → x ≡ Err r → RunDue s name heap steps x
+pub due_no_code : (s : Seen) (name : List ℕ) (heap : Option (List ℕ)) (steps : ℕ) (r : Refusal) (x : Answer)
+    → CodeGives s name (Err r)
+    → x ≡ Err r
+    → RunDue s name heap steps x
 due_no_code s name heap steps r x p e = inl (r, p, e)
 
-module _ (held mid : Option Held) (a b c : ℕ) (name : List ℕ) (heap : Option (List ℕ)) (steps : ℕ) (code : Code) (coded : CodeGives (seen held a b) name (Ok code)) (same : mid ≡ held) (earlier : a ≤ b) (later : b ≤ c) where
+module _ (held mid : Option Held) (a b c : ℕ) (name : List ℕ) (heap : Option (List ℕ)) (steps : ℕ) (code : Code)
+    (coded : CodeGives (seen held a b) name (Ok code)) (same : mid ≡ held) (earlier : a ≤ b) (later : b ≤ c) where
   start_seen : (x : Result Heap Refusal) → StartGives (seen mid b c) heap x → StartGives (seen held a c) heap x
   start_seen x p = start_wider held b c a c earlier (at_or_above c) heap x (subst (λ (o : Option Held). StartGives (seen o b c) heap x) same p)
 
@@ -66,5 +70,9 @@ limit_is : (steps : Option ℕ) → unwrap_or steps 10000000 ≡ step_limit step
 limit_is None = refl
 limit_is (Some n) = refl
 
-pub due_of_run : (words : List (List ℕ)) (s : Seen) (code : List ℕ) (heap : Option (List ℕ)) (steps : Option ℕ) (n : ℕ) (x : Answer) → HasForm words (run code heap steps) → n ≡ unwrap_or steps 10000000 → RunDue s code heap n x → Due words s x
+pub due_of_run : (words : List (List ℕ)) (s : Seen) (code : List ℕ) (heap : Option (List ℕ)) (steps : Option ℕ) (n : ℕ) (x : Answer)
+    → HasForm words (run code heap steps)
+    → n ≡ unwrap_or steps 10000000
+    → RunDue s code heap n x
+    → Due words s x
 due_of_run words s code heap steps n x form e due = inr (run code heap steps, form, subst (λ k. RunDue s code heap k x) (e ∙ limit_is steps) due)

@@ -1,27 +1,27 @@
 -- A run has one end.
 use Rattle.std.proofs.Common.{ℕ, suc, ◌≡◌, ◌+◌, ◌-◌, ◌<◌, ◌≤◌, ◌⊎◌, List, Option, Some, None, Ok, Err, refl, sym, ap, subst, ◌∙◌, arith, ⊎_elim, inl, inr}
 use Rattle.std.proofs.lemmas.Bool.{cases_lt}
-use Rattle.htt_words.specs.declared.words.Bound.{Bound}
-use Rattle.htt_words.specs.declared.words.Bound.TheVariants.{Step, Frame, Heap as HeapBound, Fuel, Turns}
-use Rattle.htt_values.specs.Heaps.{Heap}
-use Rattle.htt_meaning.specs.Choices.{AreShipped, numbers_from}
-use Rattle.htt_meaning.proofs.Shipped.{suffices}
-use Rattle.flat_heap.specs.Blocks.{blocks_of}
-use Rattle.flat_heap.proofs.ChangedListing.{listing_laws}
-use Rattle.word_loader.specs.declared.code.Code.{Code}
-use Rattle.word_loader.specs.declared.code.Function.{Function}
-use Rattle.word_loader.specs.declared.code.Instr.{Instr}
-use Rattle.word_loader.specs.declared.code.Instr.TheVariants.{Const, Mov, Op, Sel, Alloc, Get, Set, Free, Jump, Jz, Call, Ret, Tail}
-use Rattle.word_loader.specs.Machine.{Machine as State, Stack, going, halted, faulted, asking, machine_after}
-use Rattle.word_loader.specs.Laws.{IsOver}
-use Rattle.word_loader.proofs.Steps.{over_is_final_lem}
-use Rattle.machine_laws.specs.Fits.{next_instr}
+use Rattle.htt_syntax_words.specs.declared.words.Bound.{Bound}
+use Rattle.htt_syntax_words.specs.declared.words.Bound.TheVariants.{Step, Frame, Heap as HeapBound, Fuel, Turns}
+use Rattle.theory_values.specs.Heaps.{Heap}
+use Rattle.theory_meaning.specs.Choices.{AreShipped, numbers_from}
+use Rattle.theory_meaning.proofs.Shipped.{suffices}
+use Rattle.heap_model_flat.specs.Blocks.{blocks_of}
+use Rattle.heap_model_flat.proofs.ChangedListing.{listing_laws}
+use Rattle.word_loader_code.specs.declared.code.Code.{Code}
+use Rattle.word_loader_code.specs.declared.code.Function.{Function}
+use Rattle.word_loader_code.specs.declared.code.Instr.{Instr}
+use Rattle.word_loader_code.specs.declared.code.Instr.TheVariants.{Const, Mov, Op, Sel, Alloc, Get, Set, Free, Jump, Jz, Call, Ret, Tail}
+use Rattle.word_loader_code.specs.Machine.{Machine as State, Stack, going, halted, faulted, asking, machine_after}
+use Rattle.word_loader_code.specs.Laws.{IsOver}
+use Rattle.word_loader_code.proofs.Steps.{over_is_final_lem}
+use Rattle.theory_machine.specs.Fits.{next_instr}
 use Rattle.word_machine.specs.Steps.{IsGoing}
-use Rattle.word_machine.specs.Runs.{PassesFrames, PassesHeap, Passes, StopsAt, Reaches, IsStopped, UsesSteps, EndsAs, EndsShipped}
+use Rattle.word_machine.specs.Runs.{PassesFrames, PassesHeap, PassesLimit, StopsAt, Reaches, IsStopped, UsesSteps, EndsAs, EndsShipped}
 use Rattle.word_machine.specs.declared.runs.End.{End}
 use Rattle.word_machine.specs.declared.runs.End.TheVariants as ends
-use Rattle.command_answers.specs.declared.answer.Refusal.TheVariants.{Fault, Stopped, NoMemory}
-use Rattle.command_answers.specs.Answers.{Answer, halt}
+use Rattle.htt_top_answers.specs.declared.answer.Refusal.TheVariants.{Fault, Stopped, NoMemory}
+use Rattle.htt_top_answers.specs.Answers.{Answer, halt}
 use Rattle.htt_top.specs.Stages.{answer_of_end}
 
 -- numbers alone, so that no tactic reads a run
@@ -43,7 +43,10 @@ frames_agree (Some f) others t u p q = p.0 ∙ sym q.0
 heap_agrees : (h : Heap) (n t u : ℕ) → PassesHeap h n t → PassesHeap h n u → t ≡ u
 heap_agrees h n t u p q = let s : p.0 ≡ q.0 = listing_laws.sizes_agree h p.0 q.0 p.1 q.1 in p.2 ∙ ap (λ (m : ℕ). m + (n + 1)) s ∙ sym q.2
 
-passes_agree : (code : Code) (h : Heap) (stack : Stack) (instr : Option Instr) (b c : Bound) (t u : ℕ) → Passes code h stack instr b t → Passes code h stack instr c u → (b ≡ c) × (t ≡ u)
+passes_agree : (code : Code) (h : Heap) (stack : Stack) (instr : Option Instr) (b c : Bound) (t u : ℕ)
+    → PassesLimit code h stack instr b t
+    → PassesLimit code h stack instr c u
+    → (b ≡ c) × (t ≡ u)
 passes_agree code h stack (Some (Call g a d)) Frame Frame t u p q = (refl, frames_agree _ _ t u p q)
 passes_agree code h stack (Some (Tail g a)) Frame Frame t u p q = (refl, frames_agree _ _ t u p q)
 passes_agree code h stack (Some (Alloc d s n)) HeapBound HeapBound t u p q = (refl, heap_agrees h n t u p q)
@@ -148,7 +151,8 @@ module _ (code : Code) (h : Heap) (cs : List ℕ) (steps : ℕ) where
       ⊎_elim
       (λ (f : q.count < p.count). absurd (p.unstopped q.count f c u q.stops))
       (λ (f : p.count ≤ q.count).
-      stops_agree code (machine_after code h cs p.count) b c t u p.stops (subst (λ k. StopsAt code (machine_after code h cs k) c u) (between q.count p.count d f) q.stops))
+      stops_agree code (machine_after code h cs p.count) b c t u p.stops
+      (subst (λ k. StopsAt code (machine_after code h cs k) c u) (between q.count p.count d f) q.stops))
       (cases_lt q.count p.count))
       (cases_lt p.count q.count)
 
@@ -157,8 +161,12 @@ module _ (code : Code) (h : Heap) (cs : List ℕ) (steps : ℕ) where
 
   pub facts_agree : (f g : Fact) → IsFact code h cs steps f → IsFact code h cs steps g → f ≡ g
   facts_agree (over_in s) (over_in t) p q = ap over_in (one_state s t p.0 q.0 p.1 q.1)
-  facts_agree (over_in s) (stopped_by b t) p q = absurd (⊎_elim (λ (x : IsStopped code h cs steps b t). reach_stop s b t p.0 p.1 x) (λ (x : (b ≡ Step) × (t ≡ steps) × UsesSteps code h cs steps). reach_uses s p.0 p.1 x.2) q)
-  facts_agree (stopped_by b t) (over_in s) p q = absurd (⊎_elim (λ (x : IsStopped code h cs steps b t). reach_stop s b t q.0 q.1 x) (λ (x : (b ≡ Step) × (t ≡ steps) × UsesSteps code h cs steps). reach_uses s q.0 q.1 x.2) p)
+  facts_agree (over_in s) (stopped_by b t) p q =
+      absurd (⊎_elim (λ (x : IsStopped code h cs steps b t). reach_stop s b t p.0 p.1 x)
+      (λ (x : (b ≡ Step) × (t ≡ steps) × UsesSteps code h cs steps). reach_uses s p.0 p.1 x.2) q)
+  facts_agree (stopped_by b t) (over_in s) p q =
+      absurd (⊎_elim (λ (x : IsStopped code h cs steps b t). reach_stop s b t q.0 q.1 x)
+      (λ (x : (b ≡ Step) × (t ≡ steps) × UsesSteps code h cs steps). reach_uses s q.0 q.1 x.2) p)
   facts_agree (stopped_by b t) (stopped_by c u) p q =
       ⊎_elim
       (λ (x : IsStopped code h cs steps b t).
@@ -183,15 +191,22 @@ module _ (code : Code) (h : Heap) (cs : List ℕ) (steps : ℕ) where
   fact_holds (ends.Stopped Turns t) p = inl p
 
 one_choice : (h : Heap) (n : ℕ) (cs ds : List ℕ) → AreShipped h n cs → AreShipped h n ds → cs ≡ ds
-one_choice h n cs ds p q = p.in_order ∙ ap (λ (g : ℕ). numbers_from (suc g) n) (suffices.greatest_is_one h p.greatest q.greatest p.is_greatest q.is_greatest) ∙ sym q.in_order
+one_choice h n cs ds p q =
+    p.in_order
+    ∙ ap (λ (g : ℕ). numbers_from (suc g) n) (suffices.greatest_is_one h p.greatest q.greatest p.is_greatest q.is_greatest)
+    ∙ sym q.in_order
 
 -- the end is that of each fact of the run
-pub fact_of_end : (code : Code) (h : Heap) (steps : ℕ) (e : End) (f : Fact) → EndsShipped code h steps e → ((cs : List ℕ) → AreShipped h steps cs → IsFact code h cs steps f) → fact_of e ≡ f
+pub fact_of_end : (code : Code) (h : Heap) (steps : ℕ) (e : End) (f : Fact)
+    → EndsShipped code h steps e
+    → ((cs : List ℕ) → AreShipped h steps cs → IsFact code h cs steps f)
+    → fact_of e ≡ f
 fact_of_end code h steps e f x holds = facts_agree code h x.0 steps (fact_of e) f (fact_holds code h x.0 steps e x.2) (holds x.0 x.1)
 
 pub one_fact : (code : Code) (h : Heap) (steps : ℕ) (a b : End) → EndsShipped code h steps a → EndsShipped code h steps b → fact_of a ≡ fact_of b
 one_fact code h steps a b x y =
-    fact_of_end code h steps a (fact_of b) x (λ cs s. subst (λ ds. IsFact code h ds steps (fact_of b)) (one_choice h steps y.0 cs y.1 s) (fact_holds code h y.0 steps b y.2))
+    fact_of_end code h steps a (fact_of b) x
+    (λ cs s. subst (λ ds. IsFact code h ds steps (fact_of b)) (one_choice h steps y.0 cs y.1 s) (fact_holds code h y.0 steps b y.2))
 
 -- ---- as answers
 

@@ -3,12 +3,12 @@ use Rattle.std.proofs.Common.{ℕ, ◌≡◌, ◌+◌, ◌*◌, ◌≤◌, List,
 use Rattle.std.specs.Fmt.{decimal}
 use Rattle.std.proofs.lemmas.Fmt.{decimal_nonempty}
 use Rattle.std.proofs.lemmas.List.Sums.{sum_by-cons}
-use Rattle.htt_values.specs.Heaps.{Block}
-use Rattle.flat_heap.specs.Listing.{listing_size}
-use Rattle.flat_heap.proofs.ChangedListing.{listing_laws}
-use Rattle.heap_text.specs.HeapText.{words_text, listing_text}
-use Rattle.heap_text.proofs.LineLemmas.{AreWords, ArePlaced}
-use Rattle.heap_text.proofs.FileLemmas.{listing_placed}
+use Rattle.theory_values.specs.Heaps.{Block}
+use Rattle.heap_model_flat.specs.Listing.{listing_size}
+use Rattle.heap_model_flat.proofs.ChangedListing.{listing_laws}
+use Rattle.heap_model_text.specs.HeapText.{words_text, listing_text}
+use Rattle.heap_model_text.proofs.LineLemmas.{AreWords, ArePlaced}
+use Rattle.heap_model_text.proofs.FileLemmas.{listing_placed}
 use Rattle.htt_top.specs.Laws.{HeapFilesFit}
 
 words_long : (b : Block) → AreWords b → 2 * length b ≤ length (words_text b)

@@ -1,7 +1,7 @@
 -- One stage and then another: where each gives one value or one refusal, both together do.
 use Rattle.std.proofs.Common.{ℕ, ◌≡◌, ◌≢◌, ◌<◌, ◌≤◌, ◌⊎◌, Some, Result, Ok, Err, sym, ◌∙◌, ap, subst, arith, ⊎_elim, inl, inr}
-use Rattle.command_answers.specs.declared.answer.Refusal.{Refusal}
-use Rattle.command_answers.specs.declared.answer.Refusal.TheVariants.{NoMemory}
+use Rattle.htt_top_answers.specs.declared.answer.Refusal.{Refusal}
+use Rattle.htt_top_answers.specs.declared.answer.Refusal.TheVariants.{NoMemory}
 use Rattle.htt_top.specs.Stages.{Then}
 
 -- two results of a stage are related, want of memory aside

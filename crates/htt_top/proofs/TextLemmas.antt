@@ -1,39 +1,39 @@
 -- A text has one list of tokens or one refusal, these have one list of declarations or one refusal,
 -- and these say one thing.
 use Rattle.std.proofs.Common.{ℕ, ◌≡◌, ◌≢◌, ◌⊎◌, List, length, Result, Ok, Err, refl, sym, ◌∙◌, ap, subst, ⊎_elim, inl, inr}
-use Rattle.htt_words.specs.declared.words.SyntaxKind.{SyntaxKind}
-use Rattle.htt_words.specs.declared.words.SyntaxKind.TheVariants as kinds
-use Rattle.htt_words.specs.declared.words.Which.TheVariants.{File, CodeFile, HeapFile, Declarations, Nesting, Chain, Nodes, Depth, Context, Mono}
-use Rattle.htt_tokens.specs.declared.tokens.Token.{Token}
+use Rattle.htt_syntax_words.specs.declared.words.SyntaxKind.{SyntaxKind}
+use Rattle.htt_syntax_words.specs.declared.words.SyntaxKind.TheVariants as kinds
+use Rattle.htt_syntax_words.specs.declared.words.Which.TheVariants.{File, CodeFile, HeapFile, Declarations, Nesting, Chain, Nodes, Depth, Context, Mono}
+use Rattle.htt_lexer_tokens.specs.declared.tokens.Token.{Token}
 use Rattle.htt_lexer.specs.declared.lexer.LexStop.{LexStop}
 use Rattle.htt_lexer.specs.declared.lexer.LexStop.TheVariants as lex
 use Rattle.htt_lexer.specs.Tokens.{AreTokens}
-use Rattle.htt_lexer.specs.Refusals.{Refuses}
+use Rattle.htt_lexer.specs.Refusals.{RefusesText}
 use Rattle.htt_lexer.specs.Laws.{IsCause}
 use Rattle.htt_lexer.proofs.TokenLaws as token
-use Rattle.raw_trees.specs.Trees.{DeclTree}
-use Rattle.htt_grammar.specs.Derivations.{IsFile, IsFileWithin}
-use Rattle.htt_grammar.specs.Readers.{Halt}
-use Rattle.htt_grammar.proofs.One.{one_file}
-use Rattle.htt_reading.specs.Laws.{read_file}
-use Rattle.htt_refusals.specs.Refusals.{FileRefusal}
-use Rattle.htt_refusals.proofs.One.{file_is_not_derived}
+use Rattle.htt_parser_trees.specs.Trees.{RawDeclTree}
+use Rattle.theory_grammar.specs.Derivations.{IsFile, IsFileWithin}
+use Rattle.theory_grammar.specs.Readers.{Halt}
+use Rattle.theory_grammar.proofs.One.{one_file}
+use Rattle.theory_reading.specs.Laws.{read_file}
+use Rattle.theory_refusals.specs.Refusals.{FileRefusal}
+use Rattle.theory_refusals.proofs.One.{file_is_not_derived}
 use Rattle.htt_parser.specs.declared.stops.ParseStop.{ParseStop}
 use Rattle.htt_parser.specs.declared.stops.ParseStop.TheVariants as stops
 use Rattle.htt_parser.specs.Refusals.{stop_at}
-use Rattle.one_form.specs.declared.form.Form.{Form}
-use Rattle.one_form.specs.Form.{IsForm}
-use Rattle.one_form.proofs.Meaning.{one_form}
-use Rattle.command_answers.specs.declared.answer.Refusal.{Refusal}
-use Rattle.command_answers.specs.declared.answer.Refusal.TheVariants.{Usage, ReadFault, Limit, Syntax, NotInferred, BadCode, BadHeap, Fault, Stopped, NoMemory}
-use Rattle.command_answers.specs.Answers.{Answer, value, halt}
-use Rattle.htt_top.specs.Stages.{TokensGive, ParseGives, FormGives, DeclsGive, result_of}
+use Rattle.htt_top_one_form.specs.declared.form.Form.{Form}
+use Rattle.htt_top_one_form.specs.Form.{IsForm}
+use Rattle.htt_top_one_form.proofs.Meaning.{one_form}
+use Rattle.htt_top_answers.specs.declared.answer.Refusal.{Refusal}
+use Rattle.htt_top_answers.specs.declared.answer.Refusal.TheVariants.{Usage, ReadFault, Limit, Syntax, NotInferred, BadCode, BadHeap, Fault, Stopped, NoMemory}
+use Rattle.htt_top_answers.specs.Answers.{Answer, value, halt}
+use Rattle.htt_top.specs.Stages.{TokensGive, ParseGives, FormGives, DeclsGive, form_result}
 use Rattle.htt_top.specs.Answers.{IsSyntax}
 use Rattle.htt_top.proofs.StageLemmas.{Agree}
 
 -- ---- what declarations say
 
-pub decls_gives : (bytes : List ℕ) (decls : List DeclTree) (f : Form) (x : Answer) → IsForm bytes decls f → FormGives f x → DeclsGive bytes decls x
+pub decls_gives : (bytes : List ℕ) (decls : List RawDeclTree) (f : Form) (x : Answer) → IsForm bytes decls f → FormGives f x → DeclsGive bytes decls x
 decls_gives bytes decls f (Ok outcome) t g = (f, t, g)
 decls_gives bytes decls f (Err Usage) t g = (f, t, g)
 decls_gives bytes decls f (Err ReadFault) t g = (f, t, g)
@@ -46,7 +46,10 @@ decls_gives bytes decls f (Err (Fault kind location)) t g = (f, t, g)
 decls_gives bytes decls f (Err (Stopped bound count)) t g = (f, t, g)
 decls_gives bytes decls f (Err NoMemory) t g = tt
 
-form_cases : (f : Form) (x : Answer) → FormGives f x → x ≢ Err NoMemory → ((f.claimed ≡ result_of f) × (x ≡ Ok (value (result_of f)))) ⊎ ((f.claimed ≢ result_of f) × (x ≡ Err (NotInferred f.place)))
+form_cases : (f : Form) (x : Answer)
+    → FormGives f x
+    → x ≢ Err NoMemory
+    → ((f.claimed ≡ form_result f) × (x ≡ Ok (value (form_result f)))) ⊎ ((f.claimed ≢ form_result f) × (x ≡ Err (NotInferred f.place)))
 form_cases f (Ok (value n)) p m = inl (p.0, ap (λ (n : ℕ). Ok (value n)) p.1)
 form_cases f (Ok (halt words h)) p m = absurd p
 form_cases f (Err (NotInferred at)) p m = inr (p.0, ap (λ (at : ℕ). Err (NotInferred at)) p.1)
@@ -63,19 +66,22 @@ form_cases f (Err (Stopped bound count)) p m = absurd p
 form_agrees : (f : Form) → Agree (FormGives f)
 form_agrees f x y p q m k =
     ⊎_elim
-    (λ (i : (f.claimed ≡ result_of f) × (x ≡ Ok (value (result_of f)))).
+    (λ (i : (f.claimed ≡ form_result f) × (x ≡ Ok (value (form_result f)))).
     ⊎_elim
-    (λ (j : (f.claimed ≡ result_of f) × (y ≡ Ok (value (result_of f)))). i.1 ∙ sym j.1)
-    (λ (j : (f.claimed ≢ result_of f) × (y ≡ Err (NotInferred f.place))). absurd (j.0 i.0))
+    (λ (j : (f.claimed ≡ form_result f) × (y ≡ Ok (value (form_result f)))). i.1 ∙ sym j.1)
+    (λ (j : (f.claimed ≢ form_result f) × (y ≡ Err (NotInferred f.place))). absurd (j.0 i.0))
     (form_cases f y q k))
-    (λ (i : (f.claimed ≢ result_of f) × (x ≡ Err (NotInferred f.place))).
+    (λ (i : (f.claimed ≢ form_result f) × (x ≡ Err (NotInferred f.place))).
     ⊎_elim
-    (λ (j : (f.claimed ≡ result_of f) × (y ≡ Ok (value (result_of f)))). absurd (i.0 j.0))
-    (λ (j : (f.claimed ≢ result_of f) × (y ≡ Err (NotInferred f.place))). i.1 ∙ sym j.1)
+    (λ (j : (f.claimed ≡ form_result f) × (y ≡ Ok (value (form_result f)))). absurd (i.0 j.0))
+    (λ (j : (f.claimed ≢ form_result f) × (y ≡ Err (NotInferred f.place))). i.1 ∙ sym j.1)
     (form_cases f y q k))
     (form_cases f x p m)
 
-decls_cases : (bytes : List ℕ) (decls : List DeclTree) (x : Answer) → DeclsGive bytes decls x → x ≢ Err NoMemory → ((f : Form) × IsForm bytes decls f × FormGives f x) ⊎ (IsSyntax x × ((f : Form) → IsForm bytes decls f → ⊥))
+decls_cases : (bytes : List ℕ) (decls : List RawDeclTree) (x : Answer)
+    → DeclsGive bytes decls x
+    → x ≢ Err NoMemory
+    → ((f : Form) × IsForm bytes decls f × FormGives f x) ⊎ (IsSyntax x × ((f : Form) → IsForm bytes decls f → ⊥))
 decls_cases bytes decls (Ok outcome) p m = inl p
 decls_cases bytes decls (Err (Syntax at kind)) p m = inr (tt, p)
 decls_cases bytes decls (Err NoMemory) p m = absurd (m refl)
@@ -88,7 +94,12 @@ decls_cases bytes decls (Err (BadHeap line)) p m = inl p
 decls_cases bytes decls (Err (Fault kind location)) p m = inl p
 decls_cases bytes decls (Err (Stopped bound count)) p m = inl p
 
-pub decls_agree : (bytes : List ℕ) (decls : List DeclTree) (x y : Answer) → DeclsGive bytes decls x → DeclsGive bytes decls y → x ≢ Err NoMemory → y ≢ Err NoMemory → (x ≡ y) ⊎ (((f : Form) → IsForm bytes decls f → ⊥) × IsSyntax x × IsSyntax y)
+pub decls_agree : (bytes : List ℕ) (decls : List RawDeclTree) (x y : Answer)
+    → DeclsGive bytes decls x
+    → DeclsGive bytes decls y
+    → x ≢ Err NoMemory
+    → y ≢ Err NoMemory
+    → (x ≡ y) ⊎ (((f : Form) → IsForm bytes decls f → ⊥) × IsSyntax x × IsSyntax y)
 decls_agree bytes decls x y p q m k =
     ⊎_elim
     (λ (i : (f : Form) × IsForm bytes decls f × FormGives f x).
@@ -117,9 +128,12 @@ record IsLexed (bytes : List ℕ) (x : Result (List Token) Refusal) : Type 0 whe
   pub stop : LexStop
   pub cause : IsCause stop
   pub is : x ≡ Err (lex_refusal stop)
-  pub refuses : Refuses bytes stop
+  pub refuses : RefusesText bytes stop
 
-tokens_cases : (bytes : List ℕ) (x : Result (List Token) Refusal) → TokensGive bytes x → x ≢ Err NoMemory → ((tokens : List Token) × (x ≡ Ok tokens) × AreTokens bytes tokens) ⊎ IsLexed bytes x
+tokens_cases : (bytes : List ℕ) (x : Result (List Token) Refusal)
+    → TokensGive bytes x
+    → x ≢ Err NoMemory
+    → ((tokens : List Token) × (x ≡ Ok tokens) × AreTokens bytes tokens) ⊎ IsLexed bytes x
 tokens_cases bytes (Ok tokens) p m = inl (tokens, refl, p)
 tokens_cases bytes (Err (Syntax at kinds.Utf8)) p m = inr (record { stop = lex.NotUtf8 at; cause = tt; is = refl; refuses = p })
 tokens_cases bytes (Err (Syntax at kinds.Char)) p m = inr (record { stop = lex.BadChar at; cause = tt; is = refl; refuses = p })
@@ -149,7 +163,10 @@ tokens_agree bytes x y p q m k =
     (λ (i : IsLexed bytes x).
     ⊎_elim
     (λ (j : (tokens : List Token) × (y ≡ Ok tokens) × AreTokens bytes tokens). absurd (token.laws.one_answer bytes j.0 i.stop i.cause j.2 i.refuses))
-    (λ (j : IsLexed bytes y). i.is ∙ ap (λ (stop : LexStop). Err (lex_refusal stop)) (token.laws.one_refusal bytes i.stop j.stop i.cause j.cause i.refuses j.refuses) ∙ sym j.is)
+    (λ (j : IsLexed bytes y).
+    i.is
+    ∙ ap (λ (stop : LexStop). Err (lex_refusal stop)) (token.laws.one_refusal bytes i.stop j.stop i.cause j.cause i.refuses j.refuses)
+    ∙ sym j.is)
     (tokens_cases bytes y q k))
     (tokens_cases bytes x p m)
 
@@ -162,21 +179,28 @@ parse_refusal (stops.TooLongChain at) = Limit Chain
 parse_refusal (stops.TooMany at) = Limit Declarations
 parse_refusal stops.NoMemory = NoMemory
 
-record IsParsed (bytes : List ℕ) (tokens : List Token) (x : Result (List DeclTree) Refusal) : Type 0 where
+record IsParsed (bytes : List ℕ) (tokens : List Token) (x : Result (List RawDeclTree) Refusal) : Type 0 where
   pub stop : Halt
   pub is : x ≡ Err (parse_refusal (stop_at (length bytes) stop))
   pub read : read_file tokens ≡ Err stop
   pub refuses : FileRefusal tokens stop
 
-abbrev HasDecls : List Token → Result (List DeclTree) Refusal → Type 0
-HasDecls tokens x = (decls : List DeclTree) × (x ≡ Ok decls) × IsFile tokens decls × IsFileWithin decls
+abbrev HasDecls : List Token → Result (List RawDeclTree) Refusal → Type 0
+HasDecls tokens x = (decls : List RawDeclTree) × (x ≡ Ok decls) × IsFile tokens decls × IsFileWithin decls
 
-parse_cases : (bytes : List ℕ) (tokens : List Token) (x : Result (List DeclTree) Refusal) → ParseGives bytes tokens x → x ≢ Err NoMemory → HasDecls tokens x ⊎ IsParsed bytes tokens x
+parse_cases : (bytes : List ℕ) (tokens : List Token) (x : Result (List RawDeclTree) Refusal)
+    → ParseGives bytes tokens x
+    → x ≢ Err NoMemory
+    → HasDecls tokens x ⊎ IsParsed bytes tokens x
 parse_cases bytes tokens (Ok decls) p m = inl (decls, refl, p.0, p.1)
-parse_cases bytes tokens (Err (Syntax at kinds.Token)) p m = inr (record { stop = p.0; is = ap (λ (s : ParseStop). Err (parse_refusal s)) p.3; read = p.1; refuses = p.2 })
-parse_cases bytes tokens (Err (Limit Nesting)) p m = inr (record { stop = p.1.0; is = ap (λ (s : ParseStop). Err (parse_refusal s)) p.1.3; read = p.1.1; refuses = p.1.2 })
-parse_cases bytes tokens (Err (Limit Chain)) p m = inr (record { stop = p.1.0; is = ap (λ (s : ParseStop). Err (parse_refusal s)) p.1.3; read = p.1.1; refuses = p.1.2 })
-parse_cases bytes tokens (Err (Limit Declarations)) p m = inr (record { stop = p.1.0; is = ap (λ (s : ParseStop). Err (parse_refusal s)) p.1.3; read = p.1.1; refuses = p.1.2 })
+parse_cases bytes tokens (Err (Syntax at kinds.Token)) p m =
+    inr (record { stop = p.0; is = ap (λ (s : ParseStop). Err (parse_refusal s)) p.3; read = p.1; refuses = p.2 })
+parse_cases bytes tokens (Err (Limit Nesting)) p m =
+    inr (record { stop = p.1.0; is = ap (λ (s : ParseStop). Err (parse_refusal s)) p.1.3; read = p.1.1; refuses = p.1.2 })
+parse_cases bytes tokens (Err (Limit Chain)) p m =
+    inr (record { stop = p.1.0; is = ap (λ (s : ParseStop). Err (parse_refusal s)) p.1.3; read = p.1.1; refuses = p.1.2 })
+parse_cases bytes tokens (Err (Limit Declarations)) p m =
+    inr (record { stop = p.1.0; is = ap (λ (s : ParseStop). Err (parse_refusal s)) p.1.3; read = p.1.1; refuses = p.1.2 })
 parse_cases bytes tokens (Err NoMemory) p m = absurd (m refl)
 parse_cases bytes tokens (Err (Syntax at kinds.Utf8)) p m = absurd p
 parse_cases bytes tokens (Err (Syntax at kinds.Char)) p m = absurd p
@@ -213,6 +237,9 @@ parse_agrees bytes tokens x y p q m k =
     (λ (i : IsParsed bytes tokens x).
     ⊎_elim
     (λ (j : HasDecls tokens y). absurd (file_is_not_derived tokens i.stop j.0 i.refuses j.2 j.3))
-    (λ (j : IsParsed bytes tokens y). i.is ∙ ap (λ (h : Halt). Err (parse_refusal (stop_at (length bytes) h))) (same_halt (read_file tokens) i.stop j.stop i.read j.read) ∙ sym j.is)
+    (λ (j : IsParsed bytes tokens y).
+    i.is
+    ∙ ap (λ (h : Halt). Err (parse_refusal (stop_at (length bytes) h))) (same_halt (read_file tokens) i.stop j.stop i.read j.read)
+    ∙ sym j.is)
     (parse_cases bytes tokens y q k))
     (parse_cases bytes tokens x p m)

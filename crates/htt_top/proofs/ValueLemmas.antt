@@ -1,24 +1,26 @@
 -- The code for a number: its bytes, and its end.
 use Rattle.std.proofs.Common.{ℕ, zero, suc, ◌≡◌, ◌<◌, ◌≤◌, ◌^◌, List, [], ◌∷◌, refl, sym, ap, subst, ◌∙◌, arith, Some, None}
-use Rattle.htt_words.specs.declared.words.Bound.{Bound}
-use Rattle.htt_words.specs.declared.words.Kind.{Kind}
-use Rattle.htt_values.specs.Heaps.{Heap, Block, InUse, empty_heap}
-use Rattle.word_loader.specs.declared.code.Code.{Code}
-use Rattle.word_loader.specs.Machine.{Machine, going, halted, faulted, bottom, step, after_steps, machine_after}
+use Rattle.htt_syntax_words.specs.declared.words.Bound.{Bound}
+use Rattle.htt_syntax_words.specs.declared.words.Kind.{Kind}
+use Rattle.theory_values.specs.Heaps.{Heap, Block, InUse, empty_heap}
+use Rattle.word_loader_code.specs.declared.code.Code.{Code}
+use Rattle.word_loader_code.specs.Machine.{Machine, going, halted, faulted, bottom, step, after_steps, machine_after}
 use Rattle.word_machine.specs.Runs.{StopsAt, EndsShipped}
 use Rattle.word_machine.specs.declared.runs.End.{End}
-use Rattle.htt_top.specs.Code.{code_of}
+use Rattle.htt_top.specs.Code.{form_code}
 use Rattle.htt_top.proofs.EndLemmas.{over_in, stopped_by, fact_of, IsFact, fact_of_end}
 
-at_start : (n : ℕ) (cs : List ℕ) → machine_after (code_of n) empty_heap cs 0 ≡ going empty_heap (bottom (record { function = 0; next = 0; locals = 0 ∷ [] })) cs
+at_start : (n : ℕ) (cs : List ℕ)
+    → machine_after (form_code n) empty_heap cs 0 ≡ going empty_heap (bottom (record { function = 0; next = 0; locals = 0 ∷ [] })) cs
 unfolding step after_steps
 at_start n cs = refl
 
-after_one : (n : ℕ) (cs : List ℕ) → machine_after (code_of n) empty_heap cs 1 ≡ going empty_heap (bottom (record { function = 0; next = 1; locals = n ∷ [] })) cs
+after_one : (n : ℕ) (cs : List ℕ)
+    → machine_after (form_code n) empty_heap cs 1 ≡ going empty_heap (bottom (record { function = 0; next = 1; locals = n ∷ [] })) cs
 unfolding step after_steps
 after_one n cs = refl
 
-after_two : (n : ℕ) (cs : List ℕ) → machine_after (code_of n) empty_heap cs 2 ≡ halted (n ∷ []) empty_heap
+after_two : (n : ℕ) (cs : List ℕ) → machine_after (form_code n) empty_heap cs 2 ≡ halted (n ∷ []) empty_heap
 unfolding step after_steps
 after_two n cs = refl
 
@@ -28,19 +30,33 @@ no_third k d = omega arith
 two_steps : 2 ≤ 10000000
 two_steps = omega arith
 
-unstopped : (n : ℕ) (cs : List ℕ) (k : ℕ) → k < 2 → (bound : Bound) (total : ℕ) → StopsAt (code_of n) (machine_after (code_of n) empty_heap cs k) bound total → ⊥
-unstopped n cs zero d bound total h = let z : StopsAt (code_of n) (going empty_heap (bottom (record { function = 0; next = 0; locals = 0 ∷ [] })) cs) bound total = subst (λ (m : Machine). StopsAt (code_of n) m bound total) (at_start n cs) h in z
-unstopped n cs (suc zero) d bound total h = let z : StopsAt (code_of n) (going empty_heap (bottom (record { function = 0; next = 1; locals = n ∷ [] })) cs) bound total = subst (λ (m : Machine). StopsAt (code_of n) m bound total) (after_one n cs) h in z
+unstopped : (n : ℕ) (cs : List ℕ) (k : ℕ)
+    → k < 2
+    → (bound : Bound) (total : ℕ)
+    → StopsAt (form_code n) (machine_after (form_code n) empty_heap cs k) bound total
+    → ⊥
+unstopped n cs zero d bound total h =
+    let z : StopsAt (form_code n) (going empty_heap (bottom (record { function = 0; next = 0; locals = 0 ∷ [] })) cs) bound total =
+    subst (λ (m : Machine). StopsAt (form_code n) m bound total) (at_start n cs) h in
+    z
+unstopped n cs (suc zero) d bound total h =
+    let z : StopsAt (form_code n) (going empty_heap (bottom (record { function = 0; next = 1; locals = n ∷ [] })) cs) bound total =
+    subst (λ (m : Machine). StopsAt (form_code n) m bound total) (after_one n cs) h in
+    z
 unstopped n cs (suc (suc k)) d bound total h = absurd (no_third k d)
 
-pub halts : (n steps : ℕ) → 2 ≤ steps → (cs : List ℕ) → IsFact (code_of n) empty_heap cs steps (over_in (halted (n ∷ []) empty_heap))
+pub halts : (n steps : ℕ) → 2 ≤ steps → (cs : List ℕ) → IsFact (form_code n) empty_heap cs steps (over_in (halted (n ∷ []) empty_heap))
 halts n steps d cs = (record { count = 2; within = d; unstopped = unstopped n cs; there = after_two n cs }, tt)
 
 -- the end of its run
-pub value_end : (n : ℕ) (code : Code) (h : Heap) (end : End) → code ≡ code_of n → h ≡ empty_heap → EndsShipped code h 10000000 end → fact_of end ≡ over_in (halted (n ∷ []) empty_heap)
+pub value_end : (n : ℕ) (code : Code) (h : Heap) (end : End)
+    → code ≡ form_code n
+    → h ≡ empty_heap
+    → EndsShipped code h 10000000 end
+    → fact_of end ≡ over_in (halted (n ∷ []) empty_heap)
 value_end n code h end e f x =
-    fact_of_end (code_of n) empty_heap 10000000 end (over_in (halted (n ∷ []) empty_heap))
-    (subst (λ (k : Heap). EndsShipped (code_of n) k 10000000 end) f (subst (λ (c : Code). EndsShipped c h 10000000 end) e x))
+    fact_of_end (form_code n) empty_heap 10000000 end (over_in (halted (n ∷ []) empty_heap))
+    (subst (λ (k : Heap). EndsShipped (form_code n) k 10000000 end) f (subst (λ (c : Code). EndsShipped c h 10000000 end) e x))
     (λ cs s. halts n 10000000 two_steps cs)
 
 -- no location of the empty heap is in use

@@ -3,16 +3,16 @@ use Rattle.std.specs.Prelude.{ℕ, ◌≡◌, ◌≢◌, ◌⊎◌, List, Some, 
 use Rattle.htt_base.specs.Outside.{Held, Rose}
 use Rattle.htt_base.specs.declared.status.Status.{Status}
 use Rattle.htt_base.specs.declared.status.Status.TheVariants as status
-use Rattle.htt_words.specs.declared.words.Which.TheVariants.{File}
-use Rattle.htt_tokens.specs.declared.tokens.Token.{Token}
-use Rattle.raw_trees.specs.Trees.{DeclTree}
-use Rattle.one_form.specs.declared.form.Form.{Form}
-use Rattle.one_form.specs.Form.{IsForm}
-use Rattle.command_words.specs.Forms.{go, HasForm}
-use Rattle.command_answers.specs.declared.answer.Refusal.TheVariants.{Syntax, NoMemory}
-use Rattle.command_answers.specs.Answers.{Answer, status_of}
-use Rattle.command_answers.specs.Lines.{AreLines}
-use Rattle.command_answers.specs.Printing.{Printed, Appended, Prints}
+use Rattle.htt_syntax_words.specs.declared.words.Which.TheVariants.{File}
+use Rattle.htt_lexer_tokens.specs.declared.tokens.Token.{Token}
+use Rattle.htt_parser_trees.specs.Trees.{RawDeclTree}
+use Rattle.htt_top_one_form.specs.declared.form.Form.{Form}
+use Rattle.htt_top_one_form.specs.Form.{IsForm}
+use Rattle.htt_top_words.specs.Forms.{go, HasForm}
+use Rattle.htt_top_answers.specs.declared.answer.Refusal.TheVariants.{Syntax, NoMemory}
+use Rattle.htt_top_answers.specs.Answers.{Answer, status_of}
+use Rattle.htt_top_answers.specs.Lines.{AreLines}
+use Rattle.htt_top_answers.specs.Printing.{Printed, Appended, Prints}
 use Rattle.htt_top.specs.Stages.{Seen, FileGives, TokensGive, ParseGives}
 use Rattle.htt_top.specs.Due.{Due}
 
@@ -31,7 +31,7 @@ pub record IsOtherFile (words : List (List ℕ)) (s : Seen) : Type 0 where
   pub name : List ℕ
   pub bytes : List ℕ
   pub tokens : List Token
-  pub decls : List DeclTree
+  pub decls : List RawDeclTree
   pub named : HasForm words (go name)
   pub read : FileGives s name File (Ok bytes)
   pub cut : TokensGive bytes (Ok tokens)
@@ -50,5 +50,13 @@ IsSameAnswer words s due given = (given ≡ due) ⊎ (IsOtherFile words s × IsS
 -- whatever is due to it and prints all its lines: each answer comes exactly where its cause stands
 abbrev pub AnswersExactly : List (List ℕ) → Seen → Printed → Status → Type 0
 AnswersExactly words s p answer =
-    (held : Held) → s.held ≡ Some held → IsUndisturbed s p answer → (due : Answer) → Due words s due → due ≢ Err NoMemory →
-    (given : Answer) × IsSameAnswer words s due given × (answer ≡ status_of given) × ((lines : List ℕ) × AreLines given lines × Appended p lines)
+    (held : Held)
+    → s.held ≡ Some held
+    → IsUndisturbed s p answer
+    → (due : Answer)
+    → Due words s due
+    → due ≢ Err NoMemory →
+    (given : Answer)
+    × IsSameAnswer words s due given
+    × (answer ≡ status_of given)
+    × ((lines : List ℕ) × AreLines given lines × Appended p lines)

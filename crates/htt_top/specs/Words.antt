@@ -1,8 +1,8 @@
 -- What a command's words name, and which of it was read.
 use Rattle.std.specs.Prelude.{ℕ, ◌≡◌, ◌++◌, ◌⊎◌, List, [], ◌∷◌, Option, Some, None, Ok}
 use Rattle.htt_base.specs.Outside.{Told}
-use Rattle.word_loader.specs.declared.code.Code.{Code}
-use Rattle.command_words.specs.Forms.{Form, go, run, HasForm}
+use Rattle.word_loader_code.specs.declared.code.Code.{Code}
+use Rattle.htt_top_words.specs.Forms.{WordsForm, go, run, HasForm}
 use Rattle.htt_top.specs.Stages.{Seen, CodeGives}
 
 -- the most steps of a run that is asked for none
@@ -28,12 +28,14 @@ HasCode s name = (code : Code) × CodeGives s name (Ok code)
 
 -- at most the code file was read more, or it has code and the heap file was read behind it
 abbrev pub ReadsRun : Seen → List ℕ → Option (List ℕ) → Option (List (List ℕ)) → Option (List (List ℕ)) → Type 0
-ReadsRun s code heap before now = ReadsOf (code ∷ []) before now ⊎ (HasCode s code × ReadsOf (code ∷ names_of heap) before now)
+ReadsRun s code heap before now =
+    ReadsOf (code ∷ []) before now ⊎ (HasCode s code × ReadsOf (code ∷ names_of heap) before now)
 
-abbrev pub ReadsForm : Seen → Form → Option (List (List ℕ)) → Option (List (List ℕ)) → Type 0
+abbrev pub ReadsForm : Seen → WordsForm → Option (List (List ℕ)) → Option (List (List ℕ)) → Type 0
 ReadsForm s (go file) = ReadsOf (file ∷ [])
 ReadsForm s (run code heap steps) = ReadsRun s code heap
 
 -- only what the words name was read more, in its order, and a heap file only where the code file has code
 abbrev pub ReadsNamed : List (List ℕ) → Seen → Option (List (List ℕ)) → Option (List (List ℕ)) → Type 0
-ReadsNamed words s before now = ReadsOf [] before now ⊎ ((form : Form) × HasForm words form × ReadsForm s form before now)
+ReadsNamed words s before now =
+    ReadsOf [] before now ⊎ ((form : WordsForm) × HasForm words form × ReadsForm s form before now)

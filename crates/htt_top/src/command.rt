@@ -2,26 +2,23 @@
 //! printed before the answer stands, so that each command prints one answer.
 
 ghost use Rattle.std.specs.Prelude.{◌≡◌, map, string_bytes};
-ghost use Rattle.command_answers.specs.Answers.{answer_of};
-ghost use Rattle.command_answers.specs.Printing.{printed};
+ghost use Rattle.htt_top_answers.specs.Answers.{seen_answer};
+ghost use Rattle.htt_top_answers.specs.Printing.{printed};
 ghost use Rattle.htt_top.specs.Answers.{Answers, AnswersExactly};
 ghost use Rattle.htt_top.specs.Due.{Due};
 ghost use Rattle.htt_top.specs.Stages.{seen};
 ghost use Rattle.htt_top.specs.Words.{ReadsNamed};
 
 use crate::go::go;
-use crate::run::load_and_run;
-use command_answers::{Refusal, Success, print};
-use command_words::{Command, read_words};
+use crate::run::{DEFAULT_STEPS, load_and_run};
 use htt_base::{Files, Sink, Status};
+use htt_top_answers::{Refusal, Success, print};
+use htt_top_words::{Command, read_words};
 use std::alloc::Global;
-
-/// The most steps of a run that is asked for none.
-pub(crate) const DEFAULT_STEPS: u64 = 10_000_000;
 
 /// The answer that is due to the words, by the files that they name.
 fn answer<F: Files>(alloc: Global, words: &[String], files: &mut F) -> Result<Success, Refusal>
-    ensures due { Due (map string_bytes words.now) (seen (F.held files.old) (F.read_faults files.old) (F.read_faults files.new)) (answer_of result) }
+    ensures due { Due (map string_bytes words.now) (seen (F.held files.old) (F.read_faults files.old) (F.read_faults files.new)) (seen_answer result) }
     ensures reads { ReadsNamed (map string_bytes words.now) (seen (F.held files.old) (F.read_faults files.old) (F.read_faults files.new)) (F.reads files.old) (F.reads files.new) }
     ensures held { F.held files.new ≡ F.held files.old }
     ensures write_faults { F.write_faults files.new ≡ F.write_faults files.old }

@@ -2,33 +2,33 @@
 //! code for the result, and its run. The code goes through its written bytes, as that of a code file does.
 
 ghost use Rattle.std.specs.Prelude.{◌≡◌, [], ◌∷◌, map, IfOk};
-ghost use Rattle.raw_trees.specs.DeclViews.{decl_tree};
-ghost use Rattle.word_loader.specs.Valid.{IsValid};
-ghost use Rattle.command_answers.specs.Answers.{answer_of};
-ghost use Rattle.htt_top.specs.Code.{code_of};
-ghost use Rattle.htt_words.specs.declared.words.Which.TheVariants.{File};
-ghost use Rattle.htt_top.specs.Stages.{DeclsGive, FileGives, FormGives, GoGives, Then, result_of, seen};
+ghost use Rattle.htt_parser_trees.specs.DeclViews.{raw_decl_tree};
+ghost use Rattle.word_loader_code.specs.Valid.{IsValid};
+ghost use Rattle.htt_top_answers.specs.Answers.{seen_answer};
+ghost use Rattle.htt_top.specs.Code.{form_code};
+ghost use Rattle.htt_syntax_words.specs.declared.words.Which.TheVariants.{File};
+ghost use Rattle.htt_top.specs.Stages.{DeclsGive, FileGives, FormGives, GoGives, Then, form_result, seen};
 ghost use Rattle.htt_top.specs.Words.{ReadsOf};
 
-use crate::command::DEFAULT_STEPS;
 use crate::read::read_file;
+use crate::run::DEFAULT_STEPS;
 use crate::text::{decls_of, first_byte, tokens_of};
-use code_bytes::{LoadStop, load, write_code};
-use command_answers::{Refusal, Success};
-use flat_heap::Heap;
+use heap_model_flat::Heap;
 use htt_base::Files;
-use htt_seq::Seq;
-use htt_tokens::Token;
-use htt_words::{SyntaxKind, Which};
-use one_form::{Form, form_of};
-use raw_trees::RawDecl;
+use htt_lexer_tokens::Token;
+use htt_parser_trees::RawDecl;
+use htt_syntax_seq::Seq;
+use htt_syntax_words::{SyntaxKind, Which};
+use htt_top_answers::{Refusal, Success};
+use htt_top_one_form::{Form, form_of};
 use std::alloc::{AllocError, Global};
-use word_loader::{Code, Function, Instr};
+use word_loader::{LoadStop, load, write_code};
+use word_loader_code::{Code, Function, Instr};
 use word_machine::{End, run};
 
 /// The result of a form's program.
 fn result_of(form: &Form) -> u64
-    ensures { result ≡ result_of form.now }
+    ensures { result ≡ form_result form.now }
 {
     match form.right {
         Some(right) => form.left.wrapping_add(right),
@@ -38,7 +38,7 @@ fn result_of(form: &Form) -> u64
 
 /// The code that returns a number.
 fn code_of(alloc: Global, number: u64) -> Result<Code, AllocError>
-    ensures code { IfOk result (λ code. code ≡ code_of number) }
+    ensures code { IfOk result (λ code. code ≡ form_code number) }
     ensures valid { IfOk result IsValid }
 {
     let main = Function {
@@ -55,7 +55,7 @@ fn code_of(alloc: Global, number: u64) -> Result<Code, AllocError>
 
 /// The same code, loaded from its written bytes.
 fn loaded_code_of(alloc: Global, number: u64) -> Result<Code, AllocError>
-    ensures code { IfOk result (λ code. code ≡ code_of number) }
+    ensures code { IfOk result (λ code. code ≡ form_code number) }
     ensures valid { IfOk result IsValid }
 {
     let code = code_of(alloc, number)?;
@@ -80,7 +80,7 @@ fn value(alloc: Global, number: u64) -> Result<u64, AllocError>
 
 /// The answer to a form: its value, by a run of its code, where its claim is right.
 fn run_form(alloc: Global, form: &Form) -> Result<Success, Refusal>
-    ensures { FormGives form.now (answer_of result) }
+    ensures { FormGives form.now (seen_answer result) }
 {
     let result = result_of(form);
     if form.claimed != result {
@@ -99,7 +99,7 @@ fn run_decls(
     tokens: &[Token],
     decls: &[RawDecl],
 ) -> Result<Success, Refusal>
-    ensures { DeclsGive bytes.now (map decl_tree decls.now) (answer_of result) }
+    ensures { DeclsGive bytes.now (map raw_decl_tree decls.now) (seen_answer result) }
 {
     match form_of(bytes, decls) {
         Some(form) => run_form(alloc, &form),
@@ -112,7 +112,7 @@ fn run_decls(
 
 /// The answer to the bytes of a file.
 fn run_text(alloc: Global, bytes: &[u8]) -> Result<Success, Refusal>
-    ensures { GoGives bytes.now (answer_of result) }
+    ensures { GoGives bytes.now (seen_answer result) }
 {
     let tokens = tokens_of(alloc, bytes)?;
     let decls = decls_of(alloc, bytes, &tokens)?;
@@ -121,7 +121,7 @@ fn run_text(alloc: Global, bytes: &[u8]) -> Result<Success, Refusal>
 
 /// Reads a file and runs the program of its text.
 pub(crate) fn go<F: Files>(alloc: Global, files: &mut F, name: &str) -> Result<Success, Refusal>
-    ensures due { Then (FileGives (seen (F.held files.old) (F.read_faults files.old) (F.read_faults files.new)) name.now File) GoGives (answer_of result) }
+    ensures due { Then (FileGives (seen (F.held files.old) (F.read_faults files.old) (F.read_faults files.new)) name.now File) GoGives (seen_answer result) }
     ensures reads { ReadsOf (name.now ∷ []) (F.reads files.old) (F.reads files.new) }
     ensures held { F.held files.new ≡ F.held files.old }
     ensures write_faults { F.write_faults files.new ≡ F.write_faults files.old }

@@ -5,9 +5,9 @@ ghost use Rattle.htt_top.specs.Stages.{FileGives, seen};
 ghost use Rattle.htt_top.specs.Words.{ReadsOf};
 ghost use Rattle.htt_top.specs.Views.{bytes_result, ReadsAll};
 
-use command_answers::{Refusal, limit_of};
 use htt_base::{Files, ReadStop};
-use htt_words::Which;
+use htt_syntax_words::Which;
+use htt_top_answers::{Refusal, limit_of};
 use std::alloc::Global;
 
 /// The bytes of a file, within the limit on its kind.

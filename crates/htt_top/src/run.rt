@@ -1,24 +1,27 @@
 //! The command `run`: the code of the code file, the heap of the heap file, and a run.
 
 ghost use Rattle.std.specs.Prelude.{◌≡◌, ◌≤◌, ◌<◌, ◌^◌, ℕ, [], ◌∷◌, ◌++◌, option_map};
-ghost use Rattle.htt_values.specs.Heaps.{InUse};
-ghost use Rattle.flat_heap.specs.Blocks.{blocks_of};
-ghost use Rattle.word_loader.specs.Valid.{IsValid};
-ghost use Rattle.command_answers.specs.Answers.{answer_of};
+ghost use Rattle.theory_values.specs.Heaps.{InUse};
+ghost use Rattle.heap_model_flat.specs.Blocks.{blocks_of};
+ghost use Rattle.word_loader_code.specs.Valid.{IsValid};
+ghost use Rattle.htt_top_answers.specs.Answers.{seen_answer};
 ghost use Rattle.htt_top.specs.Stages.{CodeGives, HeapGives, LoadGives, RunGives, StartGives, Then, seen};
 ghost use Rattle.htt_top.specs.Views.{ReadsAll, blocks_result};
 ghost use Rattle.htt_top.specs.Words.{ReadsOf, ReadsRun, names_of};
 
 use crate::read::read_file;
-use code_bytes::{LoadStop, load};
-use command_answers::{Refusal, Success};
-use flat_heap::Heap;
-use heap_text::{HeapStop, read_heap};
+use heap_model_flat::Heap;
+use heap_model_text::{HeapStop, read_heap};
 use htt_base::Files;
-use htt_words::Which;
+use htt_syntax_words::Which;
+use htt_top_answers::{Refusal, Success};
 use std::alloc::Global;
-use word_loader::Code;
+use word_loader::{LoadStop, load};
+use word_loader_code::Code;
 use word_machine::{End, run};
+
+/// The most steps of a run that is asked for none.
+pub(crate) const DEFAULT_STEPS: u64 = 10_000_000;
 
 fn code_of_bytes(alloc: Global, bytes: &[u8]) -> Result<Code, Refusal>
     ensures { LoadGives bytes.now result }
@@ -73,7 +76,7 @@ fn run_code(alloc: Global, code: &Code, heap: Heap, steps: u64) -> Result<Succes
     requires valid { IsValid code.now }
     requires low { (l : ℕ) → InUse (blocks_of heap) l → l < 2 ^ 63 }
     requires few { steps ≤ 1000000000 }
-    ensures { RunGives code.now (blocks_of heap) steps (answer_of result) }
+    ensures { RunGives code.now (blocks_of heap) steps (seen_answer result) }
 {
     match run(alloc, code, heap, steps) {
         Ok(End::Halted(words, heap)) => Ok(Success::Halted(words, heap)),
@@ -92,7 +95,7 @@ pub(crate) fn load_and_run<F: Files>(
     steps: u64,
 ) -> Result<Success, Refusal>
     requires { steps ≤ 1000000000 }
-    ensures due { let s = seen (F.held files.old) (F.read_faults files.old) (F.read_faults files.new) in Then (CodeGives s code.now) (λ c. Then (StartGives s (option_map (λ n. n.now) heap.entry)) (λ h. RunGives c h steps)) (answer_of result) }
+    ensures due { let s = seen (F.held files.old) (F.read_faults files.old) (F.read_faults files.new) in Then (CodeGives s code.now) (λ c. Then (StartGives s (option_map (λ n. n.now) heap.entry)) (λ h. RunGives c h steps)) (seen_answer result) }
     ensures reads { ReadsRun (seen (F.held files.old) (F.read_faults files.old) (F.read_faults files.new)) code.now (option_map (λ n. n.now) heap.entry) (F.reads files.old) (F.reads files.new) }
     ensures held { F.held files.new ≡ F.held files.old }
     ensures write_faults { F.write_faults files.new ≡ F.write_faults files.old }

@@ -3,7 +3,7 @@
 
 use crate::htt_command;
 use htt_base::{MemFiles, MemSink, Status};
-use htt_words::{Bound, Kind, Rule, SyntaxKind, Which};
+use htt_syntax_words::{Bound, Kind, Rule, SyntaxKind, Which};
 use std::alloc::{AllocError, Global};
 use std::test::Fail;
 

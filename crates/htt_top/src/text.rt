@@ -5,12 +5,12 @@ ghost use Rattle.htt_parser.specs.Refusals.{first_byte};
 ghost use Rattle.htt_top.specs.Stages.{ParseGives, TokensGive};
 ghost use Rattle.htt_top.specs.Views.{decls_result, tokens_result};
 
-use command_answers::Refusal;
 use htt_lexer::{LexStop, tokens};
+use htt_lexer_tokens::Token;
 use htt_parser::{ParseStop, parse};
-use htt_tokens::Token;
-use htt_words::{SyntaxKind, Which};
-use raw_trees::RawDecl;
+use htt_parser_trees::RawDecl;
+use htt_syntax_words::{SyntaxKind, Which};
+use htt_top_answers::Refusal;
 use std::alloc::Global;
 
 /// The tokens of a text.

@@ -1,108 +1,192 @@
--- What one step keeps: a machine that is over, and the choices that it doesn't use.
-use Rattle.std.proofs.Common.{ℕ, zero, suc, ◌≡◌, ◌+◌, List, [], ◌∷◌, ◌++◌, Option, Some, None, Bool, true, false, refl, sym, ap, ◌∙◌, add-zero, add-suc, nat_eq, if◌then◌else◌, slice_get, length}
-use Rattle.htt_words.specs.declared.words.Kind.{Kind}
-use Rattle.htt_values.specs.Heaps.{Heap, Block}
-use Rattle.word_loader.specs.declared.code.Code.{Code}
-use Rattle.word_loader.specs.declared.code.Function.{Function}
-use Rattle.word_loader.specs.declared.code.Instr.{Instr}
-use Rattle.word_loader.specs.declared.code.Instr.TheVariants.{Const, Mov, Op, Sel, Alloc, Get, Set, Free, Jump, Jz, Call, Ret, Tail}
-use Rattle.word_loader.specs.Machine.{Machine, Stack, bottom, above, going, halted, faulted, asking, step, after_steps, machine_after, started, stepped, fetched, effect, called, replaced, returned, at_block, with_choice, is_fresh, top, words_at}
-use Rattle.word_loader.specs.Laws.{IsOver, OverIsFinal, with_more, Asks, ChoicesAreHandedOn}
+-- The tests of a part and of what is left: the first that isn't met, and one more step of a loop.
+use Rattle.std.proofs.Common.{◌≡◌, ℕ, suc, ◌+◌, ◌-◌, ◌<◌, ◌≤◌, Bool, false, List, [], ◌∷◌, ◌++◌, length, get_or, drop, Ok, Err, sym, ap, ◌∙◌, arith, append-nil}
+use Rattle.std.proofs.Common.{append_assoc}
+use Rattle.std.specs.Prelude.{nat_eq, ◌==◌}
+use Rattle.std.proofs.lemmas.Bool.{ne_eqb}
+use Rattle.std.proofs.lemmas.Bool.Decides.{nat_tests}
+use Rattle.std.proofs.lemmas.List.{drop_more, drop_all}
+use Rattle.word_loader_format.specs.declared.rows.Fault.{Fault}
+use Rattle.word_loader_format.specs.declared.rows.Header.{Header}
+use Rattle.word_loader_format.specs.declared.table.Operand.{Operand}
+use Rattle.word_loader_format.specs.Numbers.{number_in_file}
+use Rattle.word_loader_format.specs.Table.{width_of}
+use Rattle.word_loader_format.specs.Rows.{Site, Test, checked, is_there, operand_tests, operands_tests, width_all, header_tests, header_at, headers_at}
+use Rattle.word_loader_format.specs.Rows.{headers_tests, instr_tests, after_instr, body_tests, after_body, bodies_tests, after_bodies}
+use Rattle.word_loader_format.specs.Reading.{instr_in, body_in, function_at, functions_at}
+use Rattle.word_loader_format.proofs.Tests.{checked_after, checked_before}
+use Rattle.word_loader.specs.declared.loader.LoadStop.{LoadStop}
+use Rattle.word_loader.specs.declared.loader.LoadStop.TheVariants.{Bad, NoMemory}
+use Rattle.word_loader.specs.Loads.{Loads}
 
-over_step : (code : Code) (m : Machine) → IsOver m → step code m ≡ m
-unfolding step
-over_step code (going h stack choices) o = absurd o
-over_step code (halted words h) o = refl
-over_step code (faulted kind l) o = refl
-over_step code asking o = refl
+-- ---- a part of all tests
 
-over_stays : (code : Code) (m : Machine) (n more : ℕ) → IsOver (after_steps code m n) → after_steps code m (n + more) ≡ after_steps code m n
-unfolding after_steps
-over_stays code m n zero o = rw add-zero refl
-over_stays code m n (suc more) o = rw (add-suc, over_stays code m n more o) (over_step code (after_steps code m n) o)
+-- all tests are decided by those that are left
+pub record IsDecidedBy (all left : List Test) : Type 0 where
+  pub same : checked all ≡ checked left
 
-pub over_is_final_lem : OverIsFinal
-over_is_final_lem code h choices n more o = over_stays code (started (slice_get code.functions 0) h choices) n more o
+-- what is left is a part and the rest
+pub record Cut (left part rest : List Test) : Type 0 where
+  pub split : left ≡ part ++ rest
 
--- the parts of a step that look at a test, a block or a choice
-if_more : (b : Bool) (x y u v : Machine) (more : List ℕ) → u ≡ with_more x more → v ≡ with_more y more → (if b then u else v) ≡ with_more (if b then x else y) more
-if_more true x y u v more p q = p
-if_more false x y u v more p q = q
+pub passed : {all left part rest : List Test} → IsDecidedBy all left → Cut left part rest → checked part ≡ Ok tt → IsDecidedBy all rest
+passed {part = part} {rest = rest} decided cut ok = record { same = decided.same ∙ ap checked cut.split ∙ checked_after part rest ok }
 
-block_more : (kind : Kind) (l : ℕ) (o : Option Block) (n : ℕ) (f g : Block → Machine) (more : List ℕ) → ((b : Block) → g b ≡ with_more (f b) more) → at_block kind l o n g ≡ with_more (at_block kind l o n f) more
-block_more kind l None n f g more p = refl
-block_more kind l (Some b) n f g more p = if_more (nat_eq (length b) n) (f b) (faulted kind l) (g b) (faulted kind l) more (p b) refl
+pub failed : {all left part rest : List Test} (f : Fault) → IsDecidedBy all left → Cut left part rest → checked part ≡ Err f → checked all ≡ Err f
+failed {part = part} {rest = rest} f decided cut bad = decided.same ∙ ap checked cut.split ∙ checked_before part rest f bad
 
-taken_more : (b : Bool) (x y : Machine) (more : List ℕ) → y ≡ with_more x more → (Asks (if b then x else asking) → ⊥) → (if b then y else asking) ≡ with_more (if b then x else asking) more
-taken_more true x y more p a = p
-taken_more false x y more p a = absurd (a tt)
+-- a part that stops loading stops the whole
+pub stopped : {X Y : Type 0} (V : X → Type 0) (W : Y → Type 0) {all left part rest : List Test} (stop : LoadStop)
+    → IsDecidedBy all left
+    → Cut left part rest
+    → Loads (Err stop) part V
+    → Loads (Err stop) all W
+stopped V W (Bad at row) decided cut bad = failed (record { at = at; row = row }) decided cut bad
+stopped V W NoMemory decided cut bad = tt
 
-choice_more : (h : Heap) (choices more : List ℕ) (f : ℕ → List ℕ → Machine) → ((l : ℕ) (left : List ℕ) → f l (left ++ more) ≡ with_more (f l left) more) → (Asks (with_choice h choices f) → ⊥) → with_choice h (choices ++ more) f ≡ with_more (with_choice h choices f) more
-choice_more h [] more f p a = absurd (a tt)
-choice_more h (l ∷ choices) more f p a = taken_more (is_fresh h l) (f l choices) (f l (choices ++ more)) more (p l choices) a
+-- ---- operands
 
-called_more : (o : Option Function) (h : Heap) (stack : Stack) (g : ℕ) (choices more : List ℕ) (a d : ℕ) → called o h stack g (choices ++ more) a d ≡ with_more (called o h stack g choices a d) more
-called_more None h stack g choices more a d = refl
-called_more (Some f) h stack g choices more a d = refl
+abbrev pub operand_part : List ℕ → Site → ℕ → Operand → List Test
+operand_part file site at op = is_there file at (width_of op) ∷ operand_tests site at op (number_in_file file at (width_of op))
 
-replaced_more : (o : Option Function) (h : Heap) (stack : Stack) (g : ℕ) (choices more : List ℕ) (a : ℕ) → replaced o h stack g (choices ++ more) a ≡ with_more (replaced o h stack g choices a) more
-replaced_more None h stack g choices more a = refl
-replaced_more (Some f) h stack g choices more a = refl
+pub next_operand : (file : List ℕ) (site : Site) (at : ℕ) (ops : List Operand) (i : ℕ) (d : Operand)
+    → i < length ops
+    → Cut (operands_tests file site at (drop i ops)) (operand_part file site at (get_or ops i d))
+    (operands_tests file site (at + width_of (get_or ops i d)) (drop (i + 1) ops))
+unfolding operands_tests
+next_operand file site at ops i d h = record { split = ap (operands_tests file site at) (drop_more ops i d h) }
 
-returned_more : (h : Heap) (stack : Stack) (words choices more : List ℕ) → returned h stack words (choices ++ more) ≡ with_more (returned h stack words choices) more
-returned_more h (bottom frame) words choices more = refl
-returned_more h (above frame d below) words choices more = refl
+pub width_more : (ops : List Operand) (i : ℕ) (d : Operand) → i < length ops → width_all (drop i ops) ≡ width_of (get_or ops i d) + width_all (drop (i + 1) ops)
+width_more ops i d h = ap width_all (drop_more ops i d h)
 
-effect_more : (code : Code) (f : Function) (i : Instr) (h : Heap) (stack : Stack) (choices more : List ℕ) → (Asks (effect code f i h stack choices) → ⊥) → effect code f i h stack (choices ++ more) ≡ with_more (effect code f i h stack choices) more
-effect_more code f (Const d v) h stack choices more a = refl
-effect_more code f (Mov d s n) h stack choices more a = refl
-effect_more code f (Op d o x y) h stack choices more a = refl
-effect_more code f (Sel d c x y n) h stack choices more a = refl
-effect_more code f (Alloc d s n) h stack choices more a = choice_more h choices more _ (λ l left. refl) a
-effect_more code f (Get d p n) h stack choices more a = block_more _ _ (h _) n _ _ more (λ b. refl)
-effect_more code f (Set p s n) h stack choices more a = block_more _ _ (h _) n _ _ more (λ b. refl)
-effect_more code f (Free p n) h stack choices more a = block_more _ _ (h _) n _ _ more (λ b. refl)
-effect_more code f (Jump target) h stack choices more a = refl
-effect_more code f (Jz c target) h stack choices more a = if_more _ _ _ _ _ more refl refl
-effect_more code f (Call g x d) h stack choices more a = called_more (slice_get code.functions g) h stack g choices more x d
-effect_more code f (Ret s) h stack choices more a = returned_more h stack (words_at (top stack).locals s f.result) choices more
-effect_more code f (Tail g x) h stack choices more a = replaced_more (slice_get code.functions g) h stack g choices more x
+pub width_none : (ops : List Operand) (i : ℕ) → length ops ≤ i → width_all (drop i ops) ≡ 0
+width_none ops i h = ap width_all (drop_all i ops h)
 
-fetched_more : (code : Code) (f : Function) (o : Option Instr) (h : Heap) (stack : Stack) (choices more : List ℕ) → (Asks (fetched code f o h stack choices) → ⊥) → fetched code f o h stack (choices ++ more) ≡ with_more (fetched code f o h stack choices) more
-fetched_more code f None h stack choices more a = refl
-fetched_more code f (Some i) h stack choices more a = effect_more code f i h stack choices more a
+pub no_operands : (file : List ℕ) (site : Site) (at : ℕ) (ops : List Operand) (i : ℕ)
+    → length ops ≤ i
+    → checked (operands_tests file site at (drop i ops)) ≡ Ok tt
+unfolding operands_tests
+no_operands file site at ops i h = ap (λ os. checked (operands_tests file site at os)) (drop_all i ops h)
 
-stepped_more : (code : Code) (o : Option Function) (h : Heap) (stack : Stack) (choices more : List ℕ) → (Asks (stepped code o h stack choices) → ⊥) → stepped code o h stack (choices ++ more) ≡ with_more (stepped code o h stack choices) more
-stepped_more code None h stack choices more a = refl
-stepped_more code (Some f) h stack choices more a = fetched_more code f (slice_get f.body (top stack).next) h stack choices more a
+-- ---- headers
 
-step_more : (code : Code) (m : Machine) (more : List ℕ) → (Asks (step code m) → ⊥) → step code (with_more m more) ≡ with_more (step code m) more
-unfolding step
-step_more code (going h stack choices) more a = stepped_more code (slice_get code.functions (top stack).function) h stack choices more a
-step_more code (halted words h) more a = refl
-step_more code (faulted kind l) more a = refl
-step_more code asking more a = refl
+abbrev pub header_part : List ℕ → ℕ → Bool → ℕ → List Test
+header_part file at is_first before = is_there file at 10 ∷ header_tests at is_first before (header_at file at)
 
--- a machine that doesn't ask after a step didn't ask before it
-asked_before : (code : Code) (m : Machine) → Asks m → Asks (step code m)
-unfolding step
-asked_before code asking a = tt
-asked_before code (going h stack choices) a = absurd a
-asked_before code (halted words h) a = absurd a
-asked_before code (faulted kind l) a = absurd a
+pub not_zero : (i : ℕ) → false ≡ nat_eq (i + 1) 0
+not_zero i = sym (ne_eqb (i + 1) 0 (λ e. absurd (omega (arith, e))))
 
-after_more : (code : Code) (m : Machine) (more : List ℕ) (n : ℕ) → (Asks (after_steps code m n) → ⊥) → after_steps code (with_more m more) n ≡ with_more (after_steps code m n) more
-unfolding after_steps
-after_more code m more zero a = refl
-after_more code m more (suc n) a =
-    let before = after_more code m more n (λ asks. a (asked_before code (after_steps code m n) asks)) in
-    ap (step code) before ∙ step_more code (after_steps code m n) more a
+pub next_header : (file : List ℕ) (at : ℕ) (is_first : Bool) (before n i : ℕ)
+    → i < n
+    → Cut (headers_tests file at is_first before (n - i)) (header_part file at is_first before)
+    (headers_tests file (at + 10) (nat_eq (i + 1) 0) (before + (header_at file at).count) (n - (i + 1)))
+unfolding headers_tests
+next_header file at is_first before n i h =
+    let e : n - i ≡ suc (n - (i + 1)) = omega (arith, h) in
+    record {
+      split = ap (headers_tests file at is_first before) e
+          ∙ ap (λ b. header_part file at is_first before ++ headers_tests file (at + 10) b (before + (header_at file at).count) (n - (i + 1))) (not_zero i);
+    }
 
-started_more : (o : Option Function) (h : Heap) (choices more : List ℕ) → started o h (choices ++ more) ≡ with_more (started o h choices) more
-started_more None h choices more = refl
-started_more (Some main) h choices more = refl
+pub header_more : (file : List ℕ) (at n i : ℕ) → i < n → headers_at file at (n - i) ≡ header_at file at ∷ headers_at file (at + 10) (n - (i + 1))
+unfolding headers_at
+header_more file at n i h = let e : n - i ≡ suc (n - (i + 1)) = omega (arith, h) in ap (headers_at file at) e
 
-pub choices_are_handed_on_lem : ChoicesAreHandedOn
-choices_are_handed_on_lem code h choices more n a =
-    ap (λ m. after_steps code m n) (started_more (slice_get code.functions 0) h choices more)
-    ∙ after_more code (started (slice_get code.functions 0) h choices) more n a
+pub no_headers : (file : List ℕ) (at : ℕ) (is_first : Bool) (before n : ℕ) → n ≡ 0 → checked (headers_tests file at is_first before n) ≡ Ok tt
+unfolding headers_tests
+no_headers file at is_first before n e = ap (λ k. checked (headers_tests file at is_first before k)) e
+
+pub header_none : (file : List ℕ) (at n : ℕ) → n ≡ 0 → headers_at file at n ≡ []
+unfolding headers_at
+header_none file at n e = ap (headers_at file at) e
+
+-- ---- bodies
+
+pub last_is : (n i : ℕ) → i < n → (n - (i + 1) == 0) ≡ nat_eq (i + 1) n
+last_is n i h = grind (arith, nat_tests)
+
+pub next_instr : (file : List ℕ) (version : ℕ) (headers : List Header) (own : Header) (at n i : ℕ)
+    → i < n
+    → Cut (body_tests file version headers own at (n - i)) (instr_tests file version headers own (nat_eq (i + 1) n) at)
+    (body_tests file version headers own (after_instr file version at) (n - (i + 1)))
+unfolding body_tests
+next_instr file version headers own at n i h =
+    let e : n - i ≡ suc (n - (i + 1)) = omega (arith, h) in
+    record {
+      split = ap (body_tests file version headers own at) e
+          ∙ ap (λ b.
+          instr_tests file version headers own b at ++ body_tests file version headers own (after_instr file version at) (n - (i + 1)))
+          (last_is n i h);
+    }
+
+pub instr_more : (file : List ℕ) (version at n i : ℕ)
+    → i < n
+    → body_in file version at (n - i) ≡ instr_in file version at ∷ body_in file version (after_instr file version at) (n - (i + 1))
+unfolding body_in
+instr_more file version at n i h = let e : n - i ≡ suc (n - (i + 1)) = omega (arith, h) in ap (body_in file version at) e
+
+pub after_more : (file : List ℕ) (version at n i : ℕ)
+    → i < n
+    → after_body file version at (n - i) ≡ after_body file version (after_instr file version at) (n - (i + 1))
+unfolding after_body
+after_more file version at n i h = let e : n - i ≡ suc (n - (i + 1)) = omega (arith, h) in ap (after_body file version at) e
+
+pub no_instrs : (file : List ℕ) (version : ℕ) (headers : List Header) (own : Header) (at n : ℕ)
+    → n ≡ 0
+    → checked (body_tests file version headers own at n) ≡ Ok tt
+unfolding body_tests
+no_instrs file version headers own at n e = ap (λ k. checked (body_tests file version headers own at k)) e
+
+pub instr_none : (file : List ℕ) (version at n : ℕ) → n ≡ 0 → body_in file version at n ≡ []
+unfolding body_in
+instr_none file version at n e = ap (body_in file version at) e
+
+pub after_none : (file : List ℕ) (version at n : ℕ) → n ≡ 0 → after_body file version at n ≡ at
+unfolding after_body
+after_none file version at n e = ap (after_body file version at) e
+
+-- ---- functions
+
+pub next_body : (file : List ℕ) (version : ℕ) (headers : List Header) (at : ℕ) (hs : List Header) (i : ℕ) (d : Header)
+    → i < length hs
+    → Cut (bodies_tests file version headers at (drop i hs)) (body_tests file version headers (get_or hs i d) at (get_or hs i d).count)
+    (bodies_tests file version headers (after_body file version at (get_or hs i d).count) (drop (i + 1) hs))
+unfolding bodies_tests
+next_body file version headers at hs i d h = record { split = ap (bodies_tests file version headers at) (drop_more hs i d h) }
+
+pub function_more : (file : List ℕ) (version at : ℕ) (hs : List Header) (i : ℕ) (d : Header)
+    → i < length hs
+    → functions_at file version at (drop i hs)
+    ≡ function_at file version at (get_or hs i d) ∷
+    functions_at file version (after_body file version at (get_or hs i d).count) (drop (i + 1) hs)
+unfolding functions_at
+function_more file version at hs i d h = ap (functions_at file version at) (drop_more hs i d h)
+
+pub after_function : (file : List ℕ) (version at : ℕ) (hs : List Header) (i : ℕ) (d : Header)
+    → i < length hs
+    → after_bodies file version at (drop i hs)
+    ≡ after_bodies file version (after_body file version at (get_or hs i d).count) (drop (i + 1) hs)
+unfolding after_bodies
+after_function file version at hs i d h = ap (after_bodies file version at) (drop_more hs i d h)
+
+pub no_bodies : (file : List ℕ) (version : ℕ) (headers : List Header) (at : ℕ) (hs : List Header) (i : ℕ)
+    → length hs ≤ i
+    → checked (bodies_tests file version headers at (drop i hs)) ≡ Ok tt
+unfolding bodies_tests
+no_bodies file version headers at hs i h = ap (λ gs. checked (bodies_tests file version headers at gs)) (drop_all i hs h)
+
+pub function_none : (file : List ℕ) (version at : ℕ) (hs : List Header) (i : ℕ) → length hs ≤ i → functions_at file version at (drop i hs) ≡ []
+unfolding functions_at
+function_none file version at hs i h = ap (functions_at file version at) (drop_all i hs h)
+
+pub after_last : (file : List ℕ) (version at : ℕ) (hs : List Header) (i : ℕ) → length hs ≤ i → after_bodies file version at (drop i hs) ≡ at
+unfolding after_bodies
+after_last file version at hs i h = ap (after_bodies file version at) (drop_all i hs h)
+
+-- ---- items so far, and those that are left
+
+pub one_more : {X : Type 0} (out new all : List X) (x : X) (left rest : List X) → out ++ left ≡ all → left ≡ x ∷ rest → new ≡ out ++ x ∷ [] → new ++ rest ≡ all
+one_more out new all x left rest e split push =
+    ap (λ t. t ++ rest) push ∙ append_assoc out (x ∷ []) rest ∙ ap (λ t. out ++ t) (sym split) ∙ e
+
+pub none_left : {X : Type 0} (out all left : List X) → out ++ left ≡ all → left ≡ [] → out ≡ all
+none_left out all left e empty = sym (append-nil out) ∙ ap (λ t. out ++ t) (sym empty) ∙ e

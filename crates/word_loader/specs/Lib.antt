@@ -1,3 +1,4 @@
-pub mod Valid
-pub mod Machine
-pub mod Laws
+pub mod Parts
+pub mod Answers
+pub mod Loads
+pub mod Validity

@@ -1,10 +1,19 @@
-//! The code of the word machine, as a type, with the written machine in `specs/`: valid code, one
-//! step, and the machine after a number of steps. A function without a body states a law by its
-//! contract.
+//! Code as bytes, both ways: `write_code` gives the layout of valid code, `load` reads it again or
+//! answers the first field that fails and its row, and `is_valid` tests code. Each stands on the
+//! tests of `rules.rt` and on the table of instructions of `word_loader_format`.
 #![tactic(auto)]
 
-mod code;
-mod laws;
+mod fields;
+mod loader;
+mod parts;
+mod rules;
+mod validity;
+mod writer;
 
-pub use code::{Code, Function, Instr};
-pub use laws::{choices_are_handed_on, over_is_final, worked_code, worked_runs};
+pub use loader::{LoadStop, load};
+pub use validity::is_valid;
+pub use word_loader_code::{Code, Function, Instr};
+pub use writer::write_code;
+
+#[cfg(test)]
+mod tests;

@@ -1,20 +1,23 @@
 -- The numbers that valid code keeps small.
-use Rattle.std.proofs.Common.{ℕ, zero, suc, ◌≡◌, ◌+◌, ◌<◌, ◌≤◌, ◌^◌, List, [], ◌∷◌, length, Option, Some, None, slice_get, get_or, sum_by, refl, sym, ap, ◌∙◌, subst, arith}
+use Rattle.std.proofs.Common.{ℕ, zero, suc, ◌≡◌, ◌+◌, ◌<◌, ◌≤◌, ◌^◌, List, [], ◌∷◌, length, Option, Some, None, slice_get, get_or, sum_by, refl, sym, ap, ◌∙◌}
+use Rattle.std.proofs.Common.{subst, arith}
 use Rattle.std.proofs.lemmas.List.Sums.{sum_by-cons}
 use Rattle.std.proofs.lemmas.Option.{same_Some, slice_get_within, slice_get_read}
-use Rattle.word_loader.specs.declared.code.Code.{Code}
-use Rattle.word_loader.specs.declared.code.Function.{Function}
-use Rattle.word_loader.specs.declared.code.Instr.{Instr}
-use Rattle.word_loader.specs.declared.code.Instr.TheVariants.{Call, Tail}
-use Rattle.word_loader.specs.Valid.{IsValid, IsValidFunction, Takes, Leaves}
-use Rattle.word_loader.specs.Machine.{Stack, bottom, above, top, with_top, goes_on, going, entered, words_at, called, replaced, effect}
-use Rattle.htt_values.specs.Heaps.{Heap}
-use Rattle.flat_frames.specs.Stacks.{locals_of, ResultFits}
-use Rattle.machine_laws.specs.Fits.{function_of, ResultHasPlace, StackFits}
-use Rattle.machine_laws.proofs.Standing.{All-slice_get, Standing, next_within}
+use Rattle.word_loader_code.specs.declared.code.Code.{Code}
+use Rattle.word_loader_code.specs.declared.code.Function.{Function}
+use Rattle.word_loader_code.specs.declared.code.Instr.{Instr}
+use Rattle.word_loader_code.specs.declared.code.Instr.TheVariants.{Call, Tail}
+use Rattle.word_loader_code.specs.Valid.{IsValid, IsValidFunction, Takes, NeverFallsThrough}
+use Rattle.word_loader_code.specs.Machine.{Stack, bottom, above, top, with_top, goes_on, going, entered_frame, words_at, called, replaced, effect}
+use Rattle.theory_values.specs.Heaps.{Heap}
+use Rattle.word_machine_frames.specs.Stacks.{locals_of, ResultFits}
+use Rattle.theory_machine.specs.Fits.{function_of, ResultHasPlace, StackFits}
+use Rattle.theory_machine.proofs.Standing.{All-slice_get, Standing, next_within}
 
 -- a body is at most as long as all together
-body_within : (functions : List Function) (k : ℕ) (f : Function) → slice_get functions k ≡ Some f → length f.body ≤ sum_by (λ (g : Function). length g.body) functions
+body_within : (functions : List Function) (k : ℕ) (f : Function)
+    → slice_get functions k ≡ Some f
+    → length f.body ≤ sum_by (λ (g : Function). length g.body) functions
 body_within [] k f e = absurd (none_some f e)
   where
     none_some : (f : Function) → None ≡ Some f → ⊥
@@ -26,7 +29,11 @@ body_within (g ∷ functions) (suc k) f e =
     omega (arith, body_within functions k f e, sum_by-cons (λ (h : Function). length h.body) g functions)
 
 -- the next place has a number of 32 bits
-pub next_fits : (code : Code) (stack : Stack) (f : Function) (i : Instr) → IsValid code → Standing code stack f i → (Leaves i → ⊥) → (top stack).next + 1 < 2 ^ 32
+pub next_fits : (code : Code) (stack : Stack) (f : Function) (i : Instr)
+    → IsValid code
+    → Standing code stack f i
+    → (NeverFallsThrough i → ⊥)
+    → (top stack).next + 1 < 2 ^ 32
 next_fits code stack f i valid s stays =
     let behind = next_within code stack f i s stays in
     omega (arith, valid.instrs, body_within code.functions (top stack).function f s.function)
@@ -45,7 +52,11 @@ pub record Callee (code : Code) (f : Function) (g a : ℕ) (k : Function) : Type
   pub params : k.params ≤ k.locals
   pub read : a + k.params ≤ f.locals
 
-pub callee_at : (code : Code) (f : Function) (g a : ℕ) (k : Function) → IsValid code → Takes f (slice_get code.functions g) a → k ≡ get_or code.functions g k → Callee code f g a k
+pub callee_at : (code : Code) (f : Function) (g a : ℕ) (k : Function)
+    → IsValid code
+    → Takes f (slice_get code.functions g) a
+    → k ≡ get_or code.functions g k
+    → Callee code f g a k
 callee_at code f g a k valid takes read =
     let there : slice_get code.functions g ≡ Some k = slice_get_read code.functions (length code.functions) g k refl (named_within code f g a takes) read in
     let vk : IsValidFunction code k = All-slice_get (IsValidFunction code) code.functions g k valid.functions there in
@@ -57,12 +68,14 @@ result_fits code (bottom frame) f fits e = tt
 result_fits code (above frame d below) f fits e = subst (λ (o : Option Function). ResultHasPlace o d (top below)) e fits.1
 
 -- what a call does, where the function is there
-pub called-at : (code : Code) (f k : Function) (g a d : ℕ) (h : Heap) (stack stack' : Stack) (choices : List ℕ) → slice_get code.functions g ≡ Some k →
-    stack' ≡ above (entered g k (words_at (locals_of stack) a k.params)) d (goes_on stack ((top stack).next + 1) (locals_of stack)) → effect code f (Call g a d) h stack choices ≡ going h stack' choices
+pub called-at : (code : Code) (f k : Function) (g a d : ℕ) (h : Heap) (stack stack' : Stack) (choices : List ℕ)
+    → slice_get code.functions g ≡ Some k
+    → stack' ≡ above (entered_frame g k (words_at (locals_of stack) a k.params)) d (goes_on stack ((top stack).next + 1) (locals_of stack))
+    → effect code f (Call g a d) h stack choices ≡ going h stack' choices
 called-at code f k g a d h stack stack' choices there is =
     ap (λ (o : Option Function). called o h stack g choices a d) there ∙ ap (λ (s : Stack). going h s choices) (sym is)
 
 pub replaced-at : (code : Code) (f k : Function) (g a : ℕ) (h : Heap) (stack stack' : Stack) (choices : List ℕ) → slice_get code.functions g ≡ Some k →
-    stack' ≡ with_top stack (entered g k (words_at (locals_of stack) a k.params)) → effect code f (Tail g a) h stack choices ≡ going h stack' choices
+    stack' ≡ with_top stack (entered_frame g k (words_at (locals_of stack) a k.params)) → effect code f (Tail g a) h stack choices ≡ going h stack' choices
 replaced-at code f k g a h stack stack' choices there is =
     ap (λ (o : Option Function). replaced o h stack g choices a) there ∙ ap (λ (s : Stack). going h s choices) (sym is)

@@ -1,18 +1,18 @@
 -- A run with the shipped choices, step by step.
 use Rattle.std.proofs.Common.{ℕ, suc, ◌≡◌, ◌+◌, ◌-◌, ◌<◌, ◌≤◌, List, [], ◌∷◌, Option, Some, None, slice_get, refl, sym, ap, ◌∙◌, subst, arith, add-one, ⊎_elim}
 use Rattle.std.proofs.lemmas.Bool.{cases_lt}
-use Rattle.htt_words.specs.declared.words.Bound.{Bound}
-use Rattle.htt_values.specs.Heaps.{Heap}
-use Rattle.htt_meaning.specs.Choices.{IsGreatest, numbers_from, AreShipped}
-use Rattle.word_loader.specs.declared.code.Code.{Code}
-use Rattle.word_loader.specs.declared.code.Function.{Function}
-use Rattle.word_loader.specs.declared.code.Instr.{Instr}
-use Rattle.word_loader.specs.declared.code.Instr.TheVariants.{Const, Mov, Op, Sel, Alloc, Get, Set, Free, Jump, Jz, Call, Ret, Tail}
-use Rattle.word_loader.specs.Valid.{IsValid, IsEntered}
-use Rattle.word_loader.specs.Machine.{Machine as State, going, halted, faulted, asking, step, started, after_steps, machine_after}
-use Rattle.word_loader.specs.Laws.{Asks}
-use Rattle.machine_laws.specs.Fits.{FitsCode}
-use Rattle.machine_laws.proofs.Supplied.{shipped_choices_suffice_lem}
+use Rattle.htt_syntax_words.specs.declared.words.Bound.{Bound}
+use Rattle.theory_values.specs.Heaps.{Heap}
+use Rattle.theory_meaning.specs.Choices.{IsGreatest, numbers_from, AreShipped}
+use Rattle.word_loader_code.specs.declared.code.Code.{Code}
+use Rattle.word_loader_code.specs.declared.code.Function.{Function}
+use Rattle.word_loader_code.specs.declared.code.Instr.{Instr}
+use Rattle.word_loader_code.specs.declared.code.Instr.TheVariants.{Const, Mov, Op, Sel, Alloc, Get, Set, Free, Jump, Jz, Call, Ret, Tail}
+use Rattle.word_loader_code.specs.Valid.{IsValid, IsEntered}
+use Rattle.word_loader_code.specs.Machine.{Machine as State, going, halted, faulted, asking, step, started, after_steps, machine_after}
+use Rattle.word_loader_code.specs.Laws.{Asks}
+use Rattle.theory_machine.specs.Fits.{FitsCode}
+use Rattle.theory_machine.proofs.Supplied.{shipped_choices_suffice_lem}
 use Rattle.word_machine.specs.declared.stepped.Stepped.TheVariants as stepped
 use Rattle.word_machine.specs.Steps.{with_choices, choices_left, next_fresh, next_of, IsGoing, StepsTo}
 use Rattle.word_machine.specs.Runs.{StopsAt, Unstopped, Reaches, IsStopped, UsesSteps}
@@ -33,14 +33,24 @@ pub record Running (code : Code) (h : Heap) (g steps n : ℕ) (m : State) (fresh
   pub counted : fresh ≤ suc g + n
 
 -- at the start
-started_with : (code : Code) (h : Heap) (choices : List ℕ) → IsValid code → (started (slice_get code.functions 0) h choices ≡ with_choices (started (slice_get code.functions 0) h []) choices) × IsGoing (started (slice_get code.functions 0) h [])
+started_with : (code : Code) (h : Heap) (choices : List ℕ)
+    → IsValid code
+    → (started (slice_get code.functions 0) h choices ≡ with_choices (started (slice_get code.functions 0) h []) choices)
+    × IsGoing (started (slice_get code.functions 0) h [])
 started_with code h choices valid = from code.functions valid.entered
   where
-    from : (functions : List Function) → IsEntered functions → (started (slice_get functions 0) h choices ≡ with_choices (started (slice_get functions 0) h []) choices) × IsGoing (started (slice_get functions 0) h [])
+    from : (functions : List Function)
+        → IsEntered functions
+        → (started (slice_get functions 0) h choices ≡ with_choices (started (slice_get functions 0) h []) choices)
+        × IsGoing (started (slice_get functions 0) h [])
     from [] e = absurd e
     from (main ∷ rest) e = (refl, tt)
 
-pub starts_running : (code : Code) (h : Heap) (g steps : ℕ) (m : State) → IsValid code → m ≡ started (slice_get code.functions 0) h [] → FitsCode code m → Running code h g steps 0 m (g + 1)
+pub starts_running : (code : Code) (h : Heap) (g steps : ℕ) (m : State)
+    → IsValid code
+    → m ≡ started (slice_get code.functions 0) h []
+    → FitsCode code m
+    → Running code h g steps 0 m (g + 1)
 unfolding after_steps
 starts_running code h g steps m valid is fits =
     let all : suc g + steps - (g + 1) ≡ steps = omega arith in
@@ -55,21 +65,29 @@ starts_running code h g steps m valid is fits =
     }
 
 -- a limit sees no choices
-stops_with : (code : Code) (m : State) (choices : List ℕ) (bound : Bound) (total : ℕ) → StopsAt code (with_choices m choices) bound total → StopsAt code m bound total
+stops_with : (code : Code) (m : State) (choices : List ℕ) (bound : Bound) (total : ℕ)
+    → StopsAt code (with_choices m choices) bound total
+    → StopsAt code m bound total
 stops_with code (going h stack old) choices bound total s = s
 stops_with code (halted words h) choices bound total s = s
 stops_with code (faulted kind l) choices bound total s = s
 stops_with code asking choices bound total s = s
 
-pub stops_there : (code : Code) (m : State) (choices : List ℕ) (bound : Bound) (total : ℕ) → StopsAt code m bound total → StopsAt code (with_choices m choices) bound total
+pub stops_there : (code : Code) (m : State) (choices : List ℕ) (bound : Bound) (total : ℕ)
+    → StopsAt code m bound total
+    → StopsAt code (with_choices m choices) bound total
 stops_there code (going h stack old) choices bound total s = s
 stops_there code (halted words h) choices bound total s = s
 stops_there code (faulted kind l) choices bound total s = s
 stops_there code asking choices bound total s = s
 
 -- one step more without a stop
-unstopped_more : (code : Code) (h : Heap) (g steps n : ℕ) (m : State) (fresh : ℕ) → Running code h g steps n m fresh → ((bound : Bound) (total : ℕ) → StopsAt code m bound total → ⊥) → Unstopped code h (shipped g steps) (n + 1)
-unstopped_more code h g steps n m fresh r free k less bound total stops = ⊎_elim (λ (d : k < n). r.unstopped k d bound total stops) (λ (d : n ≤ k). here (omega arith)) (cases_lt k n)
+unstopped_more : (code : Code) (h : Heap) (g steps n : ℕ) (m : State) (fresh : ℕ)
+    → Running code h g steps n m fresh
+    → ((bound : Bound) (total : ℕ) → StopsAt code m bound total → ⊥)
+    → Unstopped code h (shipped g steps) (n + 1)
+unstopped_more code h g steps n m fresh r free k less bound total stops =
+    ⊎_elim (λ (d : k < n). r.unstopped k d bound total stops) (λ (d : n ≤ k). here (omega arith)) (cases_lt k n)
   where
     here : k ≡ n → ⊥
     here e =
@@ -86,7 +104,10 @@ left_first g steps n fresh less counted =
     let one : suc g + steps - fresh ≡ suc (suc g + steps - suc fresh) = omega arith in
     rw one refl
 
-left_next : (g steps n fresh : ℕ) (i : Option Instr) → n < steps → fresh ≤ suc g + n → choices_left i fresh (rest_of g steps fresh) ≡ left_from g steps (next_fresh i fresh)
+left_next : (g steps n fresh : ℕ) (i : Option Instr)
+    → n < steps
+    → fresh ≤ suc g + n
+    → choices_left i fresh (rest_of g steps fresh) ≡ left_from g steps (next_fresh i fresh)
 unfolding rest_of
 left_next g steps n fresh (Some (Alloc d s k)) less counted = rw add-one refl
 left_next g steps n fresh None less counted = sym (left_first g steps n fresh less counted)
@@ -120,14 +141,22 @@ next_counted (Some (Ret s)) fresh = omega arith
 next_counted (Some (Tail f a)) fresh = omega arith
 
 -- the machine after the next step
-next_there : (code : Code) (h : Heap) (g steps n : ℕ) (m : State) (fresh : ℕ) → Running code h g steps n m fresh → n < steps → machine_after code h (shipped g steps) (n + 1) ≡ step code (with_choices m (fresh ∷ rest_of g steps fresh))
+next_there : (code : Code) (h : Heap) (g steps n : ℕ) (m : State) (fresh : ℕ)
+    → Running code h g steps n m fresh
+    → n < steps
+    → machine_after code h (shipped g steps) (n + 1) ≡ step code (with_choices m (fresh ∷ rest_of g steps fresh))
 unfolding after_steps
 next_there code h g steps n m fresh r less =
     rw add-one (ap (step code) (r.there ∙ ap (with_choices m) (left_first g steps n fresh less r.counted)))
 
 -- it goes on
-pub goes_on_running : (code : Code) (h : Heap) (g steps n : ℕ) (m : State) (fresh : ℕ) (m' : State) → Running code h g steps n m fresh → n < steps → ((bound : Bound) (total : ℕ) → StopsAt code m bound total → ⊥) →
-    StepsTo code m fresh (rest_of g steps fresh) stepped.Going m' → FitsCode code m' → Running code h g steps (n + 1) m' (next_fresh (next_of code m) fresh)
+pub goes_on_running : (code : Code) (h : Heap) (g steps n : ℕ) (m : State) (fresh : ℕ) (m' : State)
+    → Running code h g steps n m fresh
+    → n < steps
+    → ((bound : Bound) (total : ℕ) → StopsAt code m bound total → ⊥)
+    → StepsTo code m fresh (rest_of g steps fresh) stepped.Going m'
+    → FitsCode code m'
+    → Running code h g steps (n + 1) m' (next_fresh (next_of code m) fresh)
 goes_on_running code h g steps n m fresh m' r less free s fits =
     record {
       there = next_there code h g steps n m fresh r less ∙ (s.1 ∙ ap (with_choices m') (left_next g steps n fresh (next_of code m) less r.counted));
@@ -138,22 +167,46 @@ goes_on_running code h g steps n m fresh m' r less free s fits =
     }
 
 -- it is over
-pub reaches_next : (code : Code) (h : Heap) (g steps n : ℕ) (m : State) (fresh : ℕ) (m' : State) → Running code h g steps n m fresh → n < steps → ((bound : Bound) (total : ℕ) → StopsAt code m bound total → ⊥) →
-    step code (with_choices m (fresh ∷ rest_of g steps fresh)) ≡ m' → Reaches code h (shipped g steps) steps m'
+pub reaches_next : (code : Code) (h : Heap) (g steps n : ℕ) (m : State) (fresh : ℕ) (m' : State)
+    → Running code h g steps n m fresh
+    → n < steps
+    → ((bound : Bound) (total : ℕ) → StopsAt code m bound total → ⊥)
+    → step code (with_choices m (fresh ∷ rest_of g steps fresh)) ≡ m'
+    → Reaches code h (shipped g steps) steps m'
 reaches_next code h g steps n m fresh m' r less free e =
-    record { count = n + 1; within = omega arith; unstopped = unstopped_more code h g steps n m fresh r free; there = next_there code h g steps n m fresh r less ∙ e }
+    record {
+      count = n + 1;
+      within = omega arith;
+      unstopped = unstopped_more code h g steps n m fresh r free;
+      there = next_there code h g steps n m fresh r less ∙ e;
+    }
 
 -- it never asks
-pub never_asks : (code : Code) (h : Heap) (g steps n : ℕ) (m : State) (fresh : ℕ) → IsValid code → IsGreatest h g → Running code h g steps n m fresh → n < steps → step code (with_choices m (fresh ∷ rest_of g steps fresh)) ≡ asking → ⊥
+pub never_asks : (code : Code) (h : Heap) (g steps n : ℕ) (m : State) (fresh : ℕ)
+    → IsValid code
+    → IsGreatest h g
+    → Running code h g steps n m fresh
+    → n < steps
+    → step code (with_choices m (fresh ∷ rest_of g steps fresh)) ≡ asking
+    → ⊥
 never_asks code h g steps n m fresh valid greatest r less e =
     let asks = next_there code h g steps n m fresh r less ∙ e in
     let choices : AreShipped h steps (shipped g steps) = record { greatest = g; is_greatest = greatest; in_order = refl } in
     shipped_choices_suffice_lem code h steps (shipped g steps) (n + 1) valid choices (omega arith) (subst Asks (sym asks) tt)
 
 -- a limit stops it
-pub stopped_running : (code : Code) (h : Heap) (g steps n : ℕ) (m : State) (fresh : ℕ) (bound : Bound) (total : ℕ) → Running code h g steps n m fresh → n < steps → StopsAt code m bound total → IsStopped code h (shipped g steps) steps bound total
+pub stopped_running : (code : Code) (h : Heap) (g steps n : ℕ) (m : State) (fresh : ℕ) (bound : Bound) (total : ℕ)
+    → Running code h g steps n m fresh
+    → n < steps
+    → StopsAt code m bound total
+    → IsStopped code h (shipped g steps) steps bound total
 stopped_running code h g steps n m fresh bound total r less s =
-    record { count = n; within = less; unstopped = r.unstopped; stops = subst (λ (x : State). StopsAt code x bound total) (sym r.there) (stops_there code m (left_from g steps fresh) bound total s) }
+    record {
+      count = n;
+      within = less;
+      unstopped = r.unstopped;
+      stops = subst (λ (x : State). StopsAt code x bound total) (sym r.there) (stops_there code m (left_from g steps fresh) bound total s);
+    }
 
 -- it has used its steps
 going_with : (m : State) (choices : List ℕ) → IsGoing m → IsGoing (with_choices m choices)
@@ -166,7 +219,10 @@ uses_all : (code : Code) (h : Heap) (g steps : ℕ) (m : State) (fresh : ℕ) �
 uses_all code h g steps m fresh r =
     record { unstopped = r.unstopped; going = subst IsGoing (sym r.there) (going_with m (left_from g steps fresh) r.going) }
 
-pub uses_steps : (code : Code) (h : Heap) (g steps n : ℕ) (m : State) (fresh : ℕ) → Running code h g steps n m fresh → n ≡ steps → UsesSteps code h (shipped g steps) steps
+pub uses_steps : (code : Code) (h : Heap) (g steps n : ℕ) (m : State) (fresh : ℕ)
+    → Running code h g steps n m fresh
+    → n ≡ steps
+    → UsesSteps code h (shipped g steps) steps
 uses_steps code h g steps n m fresh r e = uses_all code h g steps m fresh (subst (λ (k : ℕ). Running code h g steps k m fresh) e r)
 
 pub shipped_are : (h : Heap) (g steps : ℕ) → IsGreatest h g → AreShipped h steps (shipped g steps)

@@ -1,9 +1,9 @@
 -- The answer to whether an instruction passes a limit.
 use Rattle.std.specs.Prelude.{ℕ, ◌<◌, length, Option, Some, None}
-use Rattle.htt_words.specs.declared.words.Bound.{Bound}
-use Rattle.word_loader.specs.declared.code.Code.{Code}
-use Rattle.word_loader.specs.declared.code.Instr.{Instr}
-use Rattle.word_loader.specs.declared.code.Instr.TheVariants.{Call, Tail}
+use Rattle.htt_syntax_words.specs.declared.words.Bound.{Bound}
+use Rattle.word_loader_code.specs.declared.code.Code.{Code}
+use Rattle.word_loader_code.specs.declared.code.Instr.{Instr}
+use Rattle.word_loader_code.specs.declared.code.Instr.TheVariants.{Call, Tail}
 
 -- a function that the instruction names is there
 abbrev pub NamesFunction : Code → Instr → Type 0

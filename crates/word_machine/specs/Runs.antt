@@ -1,18 +1,18 @@
 -- The limits of a run, and how it ends.
 use Rattle.std.specs.Prelude.{ℕ, ◌≡◌, ◌+◌, ◌<◌, ◌≤◌, List, Option, Some, None, slice_get}
-use Rattle.htt_words.specs.declared.words.Bound.{Bound}
-use Rattle.htt_words.specs.declared.words.Bound.TheVariants as bounds
-use Rattle.htt_values.specs.Heaps.{Heap}
-use Rattle.htt_meaning.specs.Choices.{AreShipped}
-use Rattle.flat_heap.specs.Listing.{IsSize}
-use Rattle.flat_heap.specs.Blocks.{blocks_of}
-use Rattle.flat_frames.specs.Stacks.{frame_total, total_below}
-use Rattle.word_loader.specs.declared.code.Code.{Code}
-use Rattle.word_loader.specs.declared.code.Function.{Function}
-use Rattle.word_loader.specs.declared.code.Instr.{Instr}
-use Rattle.word_loader.specs.declared.code.Instr.TheVariants.{Alloc, Call, Tail}
-use Rattle.word_loader.specs.Machine.{Machine as State, Stack, going, halted, faulted, machine_after}
-use Rattle.machine_laws.specs.Fits.{next_instr}
+use Rattle.htt_syntax_words.specs.declared.words.Bound.{Bound}
+use Rattle.htt_syntax_words.specs.declared.words.Bound.TheVariants as bounds
+use Rattle.theory_values.specs.Heaps.{Heap}
+use Rattle.theory_meaning.specs.Choices.{AreShipped}
+use Rattle.heap_model_flat.specs.Listing.{IsSize}
+use Rattle.heap_model_flat.specs.Blocks.{blocks_of}
+use Rattle.word_machine_frames.specs.Stacks.{frame_total, total_below}
+use Rattle.word_loader_code.specs.declared.code.Code.{Code}
+use Rattle.word_loader_code.specs.declared.code.Function.{Function}
+use Rattle.word_loader_code.specs.declared.code.Instr.{Instr}
+use Rattle.word_loader_code.specs.declared.code.Instr.TheVariants.{Alloc, Call, Tail}
+use Rattle.word_loader_code.specs.Machine.{Machine as State, Stack, going, halted, faulted, machine_after}
+use Rattle.theory_machine.specs.Fits.{next_instr}
 use Rattle.word_machine.specs.Steps.{IsGoing}
 use Rattle.word_machine.specs.declared.runs.End.{End}
 use Rattle.word_machine.specs.declared.runs.End.TheVariants.{Halted, Fault, Stopped}
@@ -35,19 +35,22 @@ PassesHeap h n total = (size : ℕ) × IsSize h size × (total ≡ size + (n + 1
 
 -- the instruction would pass this limit, with the total that it would reach; a tail call first takes
 -- off the frame that it replaces
-abbrev pub Passes : Code → Heap → Stack → Option Instr → Bound → ℕ → Type 0
-Passes code h stack (Some (Call g a d)) bounds.Frame total = PassesFrames (slice_get code.functions g) (frame_total stack) total
-Passes code h stack (Some (Tail g a)) bounds.Frame total = PassesFrames (slice_get code.functions g) (total_below stack) total
-Passes code h stack (Some (Alloc d s n)) bounds.Heap total = PassesHeap h n total
-Passes code h stack instr bound total = ⊥
+abbrev pub PassesLimit : Code → Heap → Stack → Option Instr → Bound → ℕ → Type 0
+PassesLimit code h stack (Some (Call g a d)) bounds.Frame total =
+    PassesFrames (slice_get code.functions g) (frame_total stack) total
+PassesLimit code h stack (Some (Tail g a)) bounds.Frame total =
+    PassesFrames (slice_get code.functions g) (total_below stack) total
+PassesLimit code h stack (Some (Alloc d s n)) bounds.Heap total = PassesHeap h n total
+PassesLimit code h stack instr bound total = ⊥
 
 abbrev pub StopsAt : Code → State → Bound → ℕ → Type 0
-StopsAt code (going h stack choices) bound total = Passes code h stack (next_instr code stack) bound total
+StopsAt code (going h stack choices) bound total = PassesLimit code h stack (next_instr code stack) bound total
 StopsAt code over bound total = ⊥
 
 -- no limit stops any of the first n steps
 abbrev pub Unstopped : Code → Heap → List ℕ → ℕ → Type 0
-Unstopped code h choices n = (k : ℕ) → k < n → (bound : Bound) (total : ℕ) → StopsAt code (machine_after code h choices k) bound total → ⊥
+Unstopped code h choices n =
+    (k : ℕ) → k < n → (bound : Bound) (total : ℕ) → StopsAt code (machine_after code h choices k) bound total → ⊥
 
 -- the run comes to this state within its steps, and no limit came first
 pub record Reaches (code : Code) (h : Heap) (choices : List ℕ) (steps : ℕ) (state : State) : Type 0 where

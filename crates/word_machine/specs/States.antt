@@ -1,9 +1,9 @@
 -- The state of the written machine that a machine is in.
 use Rattle.std.specs.Prelude.{[], Option, Some, None}
-use Rattle.htt_values.specs.Heaps.{Heap}
-use Rattle.flat_heap.specs.Blocks.{blocks_of}
-use Rattle.flat_frames.specs.Stacks.{locals_of}
-use Rattle.word_loader.specs.Machine.{Machine as State, Stack, going, halted, faulted}
+use Rattle.theory_values.specs.Heaps.{Heap}
+use Rattle.heap_model_flat.specs.Blocks.{blocks_of}
+use Rattle.word_machine_frames.specs.Stacks.{locals_of}
+use Rattle.word_loader_code.specs.Machine.{Machine as State, Stack, going, halted, faulted}
 use Rattle.word_machine.specs.declared.stepped.Stepped.{Stepped}
 use Rattle.word_machine.specs.declared.stepped.Stepped.TheVariants as stepped
 use Rattle.word_machine.specs.declared.machine.Machine.{Machine}
@@ -26,6 +26,6 @@ over_after (stepped.Fault kind l) = Some (Fault kind l)
 over_after _ = None
 
 -- what a machine that is over answers
-abbrev pub answer_of : Over → Stepped
-answer_of Halted = stepped.Halted
-answer_of (Fault kind l) = stepped.Fault kind l
+abbrev pub over_answer : Over → Stepped
+over_answer Halted = stepped.Halted
+over_answer (Fault kind l) = stepped.Fault kind l

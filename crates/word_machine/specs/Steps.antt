@@ -1,12 +1,12 @@
 -- What a step answers, and what it leaves.
 use Rattle.std.specs.Prelude.{ℕ, ◌≡◌, ◌+◌, List, ◌∷◌, length, nat_eq, if◌then◌else◌, Option, Some, None}
-use Rattle.htt_values.specs.Heaps.{Heap, Block}
-use Rattle.flat_frames.specs.Stacks.{locals_of}
-use Rattle.word_loader.specs.declared.code.Code.{Code}
-use Rattle.word_loader.specs.declared.code.Instr.{Instr}
-use Rattle.word_loader.specs.declared.code.Instr.TheVariants.{Alloc}
-use Rattle.word_loader.specs.Machine.{Machine as State, Stack, going, halted, faulted, asking, step}
-use Rattle.machine_laws.specs.Fits.{next_instr}
+use Rattle.theory_values.specs.Heaps.{Heap, Block}
+use Rattle.word_machine_frames.specs.Stacks.{locals_of}
+use Rattle.word_loader_code.specs.declared.code.Code.{Code}
+use Rattle.word_loader_code.specs.declared.code.Instr.{Instr}
+use Rattle.word_loader_code.specs.declared.code.Instr.TheVariants.{Alloc}
+use Rattle.word_loader_code.specs.Machine.{Machine as State, Stack, going, halted, faulted, asking, step}
+use Rattle.theory_machine.specs.Fits.{next_instr}
 use Rattle.word_machine.specs.declared.stepped.Stepped.{Stepped}
 use Rattle.word_machine.specs.declared.stepped.Stepped.TheVariants.{Going, Halted, Fault, Asks}
 
@@ -49,7 +49,8 @@ Comes before written left Asks after = (after ≡ before) × (written ≡ asking
 -- a step of the written machine with a first choice and these behind it
 abbrev pub StepsTo : Code → State → ℕ → List ℕ → Stepped → State → Type 0
 StepsTo code before fresh rest stepped after =
-    Comes before (step code (with_choices before (fresh ∷ rest))) (choices_left (next_of code before) fresh rest) stepped after
+    Comes before (step code (with_choices before (fresh ∷ rest))) (choices_left (next_of code before) fresh rest)
+    stepped after
 
 -- the same over a heap and the frames, for a machine that goes on
 abbrev pub Performs : Stepped → Heap → Stack → Heap → Stack → List ℕ → State → Type 0

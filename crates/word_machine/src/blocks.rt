@@ -2,18 +2,18 @@
 //! word at it is a location.
 
 ghost use Rattle.std.specs.Prelude.{ℕ, ◌≡◌, ◌+◌, ◌<◌, ◌≤◌, ◌^◌, List, [], ◌∷◌, length, option_copied, IfOk, OnErr};
-ghost use Rattle.htt_words.specs.declared.words.Kind.TheVariants as kinds;
-ghost use Rattle.htt_values.specs.Heaps.{with_block, without_block};
-ghost use Rattle.word_loader.specs.Machine.{top, going, word_at, words_at, goes_on, with_choice, at_block, is_fresh};
-ghost use Rattle.flat_heap.specs.Blocks.{blocks_of};
-ghost use Rattle.flat_frames.specs.Stacks.{locals_of, written};
+ghost use Rattle.htt_syntax_words.specs.declared.words.Kind.TheVariants as kinds;
+ghost use Rattle.theory_values.specs.Heaps.{with_block, without_block};
+ghost use Rattle.word_loader_code.specs.Machine.{top, going, local_at, words_at, goes_on, with_choice, at_block, is_fresh};
+ghost use Rattle.heap_model_flat.specs.Blocks.{blocks_of};
+ghost use Rattle.word_machine_frames.specs.Stacks.{locals_of, written};
 ghost use Rattle.word_machine.specs.Steps.{Performs, fitting};
 
 use crate::stepped::Stepped;
-use flat_frames::Frames;
-use flat_heap::Heap;
-use htt_words::Kind;
+use heap_model_flat::Heap;
+use htt_syntax_words::Kind;
 use std::alloc::{AllocError, Global};
+use word_machine_frames::Frames;
 
 /// d, s, n: a new block of n words from s at the fresh location, which d becomes.
 pub(crate) fn put_block(
@@ -52,7 +52,7 @@ pub(crate) fn get_block(heap: &Heap, frames: &mut Frames, d: u16, p: u16, n: u16
     requires next { (top frames.old).next + 1 < 2 ^ 32 }
     requires location { p < length (locals_of frames.old) }
     requires written { d + n ≤ length (locals_of frames.old) }
-    ensures { (left : List ℕ) → Performs result (blocks_of heap.now) frames.old (blocks_of heap.now) frames.new left (at_block kinds.Get (word_at (locals_of frames.old) p) (blocks_of heap.now (word_at (locals_of frames.old) p)) n (λ block. going (blocks_of heap.now) (written frames.old d block) left)) }
+    ensures { (left : List ℕ) → Performs result (blocks_of heap.now) frames.old (blocks_of heap.now) frames.new left (at_block kinds.Get (local_at (locals_of frames.old) p) (blocks_of heap.now (local_at (locals_of frames.old) p)) n (λ block. going (blocks_of heap.now) (written frames.old d block) left)) }
 {
     let at = frames.word(p);
     let Some(block) = fitting_block(heap, at, n) else {
@@ -67,7 +67,7 @@ pub(crate) fn set_block(heap: &mut Heap, frames: &mut Frames, p: u16, s: u16, n:
     requires next { (top frames.old).next + 1 < 2 ^ 32 }
     requires location { p < length (locals_of frames.old) }
     requires read { s + n ≤ length (locals_of frames.old) }
-    ensures { (left : List ℕ) → Performs result (blocks_of heap.old) frames.old (blocks_of heap.new) frames.new left (at_block kinds.Set (word_at (locals_of frames.old) p) (blocks_of heap.old (word_at (locals_of frames.old) p)) n (λ block. going (with_block (blocks_of heap.old) (word_at (locals_of frames.old) p) (words_at (locals_of frames.old) s n)) (goes_on frames.old ((top frames.old).next + 1) (locals_of frames.old)) left)) }
+    ensures { (left : List ℕ) → Performs result (blocks_of heap.old) frames.old (blocks_of heap.new) frames.new left (at_block kinds.Set (local_at (locals_of frames.old) p) (blocks_of heap.old (local_at (locals_of frames.old) p)) n (λ block. going (with_block (blocks_of heap.old) (local_at (locals_of frames.old) p) (words_at (locals_of frames.old) s n)) (goes_on frames.old ((top frames.old).next + 1) (locals_of frames.old)) left)) }
 {
     let at = frames.word(p);
     if !heap.write(at, frames.words(s, n)) {
@@ -81,7 +81,7 @@ pub(crate) fn set_block(heap: &mut Heap, frames: &mut Frames, p: u16, s: u16, n:
 pub(crate) fn free_block(heap: &mut Heap, frames: &mut Frames, p: u16, n: u16) -> Stepped
     requires next { (top frames.old).next + 1 < 2 ^ 32 }
     requires location { p < length (locals_of frames.old) }
-    ensures { (left : List ℕ) → Performs result (blocks_of heap.old) frames.old (blocks_of heap.new) frames.new left (at_block kinds.Free (word_at (locals_of frames.old) p) (blocks_of heap.old (word_at (locals_of frames.old) p)) n (λ block. going (without_block (blocks_of heap.old) (word_at (locals_of frames.old) p)) (goes_on frames.old ((top frames.old).next + 1) (locals_of frames.old)) left)) }
+    ensures { (left : List ℕ) → Performs result (blocks_of heap.old) frames.old (blocks_of heap.new) frames.new left (at_block kinds.Free (local_at (locals_of frames.old) p) (blocks_of heap.old (local_at (locals_of frames.old) p)) n (λ block. going (without_block (blocks_of heap.old) (local_at (locals_of frames.old) p)) (goes_on frames.old ((top frames.old).next + 1) (locals_of frames.old)) left)) }
 {
     let at = frames.word(p);
     if fitting_block(heap, at, n).is_none() {

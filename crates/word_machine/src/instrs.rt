@@ -2,21 +2,21 @@
 //! words before it writes any.
 
 ghost use Rattle.std.specs.Prelude.{ℕ, ◌≡◌, ◌+◌, ◌<◌, ◌≤◌, ◌^◌, List, ◌∷◌, length, nat_eq, if◌then◌else◌, IfOk, OnErr, slice_get};
-ghost use Rattle.word_loader.specs.Valid.{IsValid};
-ghost use Rattle.word_loader.specs.Machine.{top, goes_on, effect, returned, word_at, words_at};
-ghost use Rattle.machine_laws.specs.Fits.{function_of, StackFits};
-ghost use Rattle.htt_values.specs.Heaps.{Heap as Blocks};
-ghost use Rattle.flat_heap.specs.Blocks.{blocks_of};
-ghost use Rattle.flat_frames.specs.Stacks.{locals_of, ResultFits};
+ghost use Rattle.word_loader_code.specs.Valid.{IsValid};
+ghost use Rattle.word_loader_code.specs.Machine.{top, goes_on, effect, returned, local_at, words_at};
+ghost use Rattle.theory_machine.specs.Fits.{function_of, StackFits};
+ghost use Rattle.theory_values.specs.Heaps.{Heap as Blocks};
+ghost use Rattle.heap_model_flat.specs.Blocks.{blocks_of};
+ghost use Rattle.word_machine_frames.specs.Stacks.{locals_of, ResultFits};
 ghost use Rattle.word_machine.specs.Steps.{choices_left, Performs};
 
 use crate::blocks::{free_block, get_block, put_block, set_block};
 use crate::machine::Machine;
 use crate::operations::operation;
 use crate::stepped::Stepped;
-use flat_frames::Frames;
 use std::alloc::AllocError;
-use word_loader::{Code, Function, Instr};
+use word_loader_code::{Code, Function, Instr};
+use word_machine_frames::Frames;
 
 impl Machine {
     /// Does this instruction of the top frame's function. After an error nothing has changed.
@@ -94,7 +94,7 @@ impl Machine {
 fn jump_on_zero(frames: &mut Frames, place: u16, target: u32)
     requires next { (top frames.old).next + 1 < 2 ^ 32 }
     requires within { place < length (locals_of frames.old) }
-    ensures { frames.new ≡ (if nat_eq (word_at (locals_of frames.old) place) 0 then goes_on frames.old target (locals_of frames.old) else goes_on frames.old ((top frames.old).next + 1) (locals_of frames.old)) }
+    ensures { frames.new ≡ (if nat_eq (local_at (locals_of frames.old) place) 0 then goes_on frames.old target (locals_of frames.old) else goes_on frames.old ((top frames.old).next + 1) (locals_of frames.old)) }
 {
     if frames.word(place) == 0 {
         frames.jump(target);

@@ -11,7 +11,7 @@ mod operations;
 mod runs;
 mod stepped;
 
-pub use htt_words::{Bound, Kind};
+pub use htt_syntax_words::{Bound, Kind};
 pub use machine::{Machine, StartStop, start};
 pub use runs::{End, run};
 pub use stepped::Stepped;

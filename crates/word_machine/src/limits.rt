@@ -1,14 +1,14 @@
 //! The limits of a run on its frames and its heap.
 
 ghost use Rattle.std.specs.Prelude.{◌≡◌, ◌+◌, None, if◌then◌else◌, nat_lt, IfOk};
-ghost use Rattle.flat_heap.specs.Blocks.{blocks_of};
+ghost use Rattle.heap_model_flat.specs.Blocks.{blocks_of};
 ghost use Rattle.word_machine.specs.Limits.{NamesFunction, IsPassed};
-ghost use Rattle.word_machine.specs.Runs.{Passes};
+ghost use Rattle.word_machine.specs.Runs.{PassesLimit};
 
 use crate::machine::Machine;
-use htt_words::Bound;
+use htt_syntax_words::Bound;
 use std::alloc::AllocError;
-use word_loader::{Code, Instr};
+use word_loader_code::{Code, Instr};
 
 /// The most locals plus 1, over all frames.
 const FRAME_LIMIT: u64 = 16_000_000;
@@ -25,7 +25,7 @@ impl Machine {
         instr: Instr,
     ) -> Result<Option<(Bound, u64)>, AllocError>
         requires { NamesFunction code.now instr }
-        ensures { IfOk result (λ passed. IsPassed (Passes code.now (blocks_of self.now.heap) self.now.frames (Some instr)) passed) }
+        ensures { IfOk result (λ passed. IsPassed (PassesLimit code.now (blocks_of self.now.heap) self.now.frames (Some instr)) passed) }
     {
         match instr {
             Instr::Call(g, _, _) => {

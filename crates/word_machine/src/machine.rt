@@ -2,22 +2,22 @@
 //! frames; after a halt the only frame has the returned words as its locals.
 
 ghost use Rattle.std.specs.Prelude.{ℕ, ◌≡◌, List, [], IfOk, OnErr, IfErr, slice_get};
-ghost use Rattle.word_loader.specs.Valid.{IsValid};
-ghost use Rattle.word_loader.specs.Machine.{started};
-ghost use Rattle.machine_laws.specs.Fits.{FitsCode};
-ghost use Rattle.flat_heap.specs.Blocks.{blocks_of};
-ghost use Rattle.word_machine.specs.States.{state_of, over_after, answer_of};
+ghost use Rattle.word_loader_code.specs.Valid.{IsValid};
+ghost use Rattle.word_loader_code.specs.Machine.{started};
+ghost use Rattle.theory_machine.specs.Fits.{FitsCode};
+ghost use Rattle.heap_model_flat.specs.Blocks.{blocks_of};
+ghost use Rattle.word_machine.specs.States.{state_of, over_after, over_answer};
 ghost use Rattle.word_machine.specs.Steps.{StepsTo, next_of, IsGoing, IsHalted};
 ghost use Rattle.word_machine.specs.Ends.{HaltsAs};
 
 use crate::runs::End;
 use crate::stepped::Stepped;
-use flat_frames::Frames;
-use flat_heap::Heap;
-use htt_seq::Seq;
-use htt_words::Kind;
+use heap_model_flat::Heap;
+use htt_syntax_seq::Seq;
+use htt_syntax_words::Kind;
 use std::alloc::{AllocError, Global};
-use word_loader::{Code, Instr};
+use word_loader_code::{Code, Instr};
+use word_machine_frames::Frames;
 
 /// How a machine ended.
 #[derive(Clone, Copy, Debug, PartialEq, Eq)]
@@ -121,7 +121,7 @@ fn over_after(stepped: Stepped) -> Option<Over>
 
 /// What a machine that is over answers.
 fn answer_of(over: Over) -> Stepped
-    ensures { result ≡ answer_of over }
+    ensures { result ≡ over_answer over }
 {
     match over {
         Over::Halted => Stepped::Halted,

@@ -1,7 +1,7 @@
 //! The operations on words, by their numbers.
 
 ghost use Rattle.std.specs.Prelude.{◌≡◌};
-ghost use Rattle.word_loader.specs.Machine.{operation_result};
+ghost use Rattle.word_loader_code.specs.Machine.{operation_result};
 
 /// What the operation with this number gives for two words; 0 where there is no such operation.
 pub(crate) fn operation(number: u8, x: u64, y: u64) -> u64

@@ -3,19 +3,19 @@
 //! on the heap.
 
 ghost use Rattle.std.specs.Prelude.{ℕ, ◌≡◌, ◌-◌, ◌<◌, ◌≤◌, ◌^◌, IfOk};
-ghost use Rattle.htt_values.specs.Heaps.{InUse};
-ghost use Rattle.word_loader.specs.Valid.{IsValid};
-ghost use Rattle.flat_heap.specs.Blocks.{blocks_of};
+ghost use Rattle.theory_values.specs.Heaps.{InUse};
+ghost use Rattle.word_loader_code.specs.Valid.{IsValid};
+ghost use Rattle.heap_model_flat.specs.Blocks.{blocks_of};
 ghost use Rattle.word_machine.specs.Steps.{next_fresh};
 ghost use Rattle.word_machine.specs.Runs.{EndsShipped};
 
 use crate::machine::start;
 use crate::stepped::Stepped;
-use flat_heap::Heap;
-use htt_seq::Seq;
-use htt_words::{Bound, Kind};
+use heap_model_flat::Heap;
+use htt_syntax_seq::Seq;
+use htt_syntax_words::{Bound, Kind};
 use std::alloc::{AllocError, Global};
-use word_loader::{Code, Instr};
+use word_loader_code::{Code, Instr};
 
 /// How a run ended.
 #[derive(Drop)]

@@ -1,6 +1,6 @@
 //! What a step of the machine answers.
 
-use htt_words::Kind;
+use htt_syntax_words::Kind;
 
 /// The answer of a step.
 #[derive(Clone, Copy, Debug, PartialEq, Eq)]

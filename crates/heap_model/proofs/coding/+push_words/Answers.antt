@@ -1,6 +1,6 @@
 use Rattle.std.proofs.Common.{◌++◌, sym, ap, ◌∙◌}
 use Rattle.std.proofs.lemmas.List.{append_assoc, append-nil}
-use Rattle.htt_values.specs.Values.{encoding}
+use Rattle.theory_values.specs.Values.{encoding}
 use Rattle.heap_model.specs.Levels.{value_unit, value_pair}
 use Rattle.heap_model.specs.Views.{value_tree}
 use Rattle.heap_model.proofs.coding.+push_words.Goals as goal

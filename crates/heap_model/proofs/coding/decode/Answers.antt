@@ -17,4 +17,8 @@ returns-then-front-words c =
 pub returns : goal.returns
 returns c =
     let f = rw c.in-Some.is at c.in_ok-front.ensures.front in
-    record { value = sym (some_of_front (mono_tree c.args.t.now) c.args.words.now (value_tree c.in-Some.front.value) f.0 (omega (arith, f.1, f.2, c.if-front-words.false))) }
+    record {
+      value =
+          sym (some_of_front (mono_tree c.args.t.now) c.args.words.now (value_tree c.in-Some.front.value) f.0
+          (omega (arith, f.1, f.2, c.if-front-words.false)));
+    }

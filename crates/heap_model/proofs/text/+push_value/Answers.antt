@@ -12,9 +12,12 @@ returns-in_ok-push_str-in-Pair-3 t c =
     let first = value_text (value_tree c.in-Pair.first) in
     let second = value_text (value_tree c.in-Pair.second) in
     c.in_ok-push_str-in-Pair-3.ensures.bytes
-    ∙ ap (λ s. s ++ codes ")") (c.in_ok-push_value-in-Pair-2.ensures ∙ ap (λ v. string_bytes c.push_str-in-Pair-2.new.self ++ value_text (value_tree v)) c.get-in-Pair.ensures)
+    ∙ ap (λ s. s ++ codes ")")
+    (c.in_ok-push_value-in-Pair-2.ensures
+    ∙ ap (λ v. string_bytes c.push_str-in-Pair-2.new.self ++ value_text (value_tree v)) c.get-in-Pair.ensures)
     ∙ ap (λ s. s ++ second ++ codes ")") c.in_ok-push_str-in-Pair-2.ensures.bytes
-    ∙ ap (λ s. s ++ codes ", " ++ second ++ codes ")") (c.in_ok-push_value-in-Pair.ensures ∙ ap (λ v. string_bytes c.push_str-in-Pair.new.self ++ value_text (value_tree v)) c.get.ensures)
+    ∙ ap (λ s. s ++ codes ", " ++ second ++ codes ")")
+    (c.in_ok-push_value-in-Pair.ensures ∙ ap (λ v. string_bytes c.push_str-in-Pair.new.self ++ value_text (value_tree v)) c.get.ensures)
     ∙ ap (λ s. s ++ first ++ codes ", " ++ second ++ codes ")") c.in_ok-push_str-in-Pair.ensures.bytes
     ∙ pieces_join old (codes "(") first (codes ", ") second (codes ")")
     ∙ ap (λ v. old ++ value_text v) (sym (ap value_tree c.in-Pair.is ∙ value_pair c.in-Pair.first c.in-Pair.second))

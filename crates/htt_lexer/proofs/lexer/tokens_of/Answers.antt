@@ -23,18 +23,23 @@ overflow_add-at c =
 pub loop-tokens-preserved-in-Gap : goal.loop-tokens-preserved-in-Gap
 loop-tokens-preserved-in-Gap c =
     let cutting = c.loop-tokens.invariant in
-    cutting_gap _ _ _ _ cutting (cut_at _ _ _ (Gap c.in-Gap.length) cutting (ap piece_of (sym c.range_from.ensures.value) ∙ sym c.piece_of.ensures ∙ c.in-Gap.is))
+    cutting_gap _ _ _ _ cutting
+    (cut_at _ _ _ (Gap c.in-Gap.length) cutting (ap piece_of (sym c.range_from.ensures.value) ∙ sym c.piece_of.ensures ∙ c.in-Gap.is))
 
 pub overflow_add-end : goal.overflow_add-end
 overflow_add-end c =
     let cutting = c.loop-tokens.invariant in
-    let cut = cut_at _ _ _ (Token c.in-Token.kind c.in-Token.length) cutting (ap piece_of (sym c.range_from.ensures.value) ∙ sym c.piece_of.ensures ∙ c.in-Token.is) in
+    let cut =
+    cut_at _ _ _ (Token c.in-Token.kind c.in-Token.length) cutting
+    (ap piece_of (sym c.range_from.ensures.value) ∙ sym c.piece_of.ensures ∙ c.in-Token.is) in
     omega (arith, cut_within (λ piece rest. IsToken piece rest c.in-Token.kind) _ _ _ cutting.within cut)
 
 pub loop-tokens-smaller : goal.loop-tokens-smaller
 loop-tokens-smaller c =
     let cutting = c.loop-tokens.invariant in
-    let cut = cut_at _ _ _ (Token c.in-Token.kind c.in-Token.length) cutting (ap piece_of (sym c.range_from.ensures.value) ∙ sym c.piece_of.ensures ∙ c.in-Token.is) in
+    let cut =
+    cut_at _ _ _ (Token c.in-Token.kind c.in-Token.length) cutting
+    (ap piece_of (sym c.range_from.ensures.value) ∙ sym c.piece_of.ensures ∙ c.in-Token.is) in
     omega (arith, cut_within (λ piece rest. IsToken piece rest c.in-Token.kind) _ _ _ cutting.within cut)
 
 pub loop-tokens-preserved : goal.loop-tokens-preserved
@@ -42,7 +47,9 @@ loop-tokens-preserved c =
     let cutting = c.loop-tokens.invariant in
     let pushed = chosen _ _ _ _ c.push.ensures.items (ap is_ok c.in_ok-push-in-Token.was) in
     subst (λ out. Cutting c.args.text.now (c.loop-tokens.at + c.in-Token.length) out) (sym pushed)
-    (cutting_token _ _ _ _ _ cutting (cut_at _ _ _ (Token c.in-Token.kind c.in-Token.length) cutting (ap piece_of (sym c.range_from.ensures.value) ∙ sym c.piece_of.ensures ∙ c.in-Token.is)))
+    (cutting_token _ _ _ _ _ cutting
+    (cut_at _ _ _ (Token c.in-Token.kind c.in-Token.length) cutting
+    (ap piece_of (sym c.range_from.ensures.value) ∙ sym c.piece_of.ensures ∙ c.in-Token.is)))
 
 pub returns-in-NoToken-clause-refused : goal.returns-in-NoToken-clause-refused
 returns-in-NoToken-clause-refused c =

@@ -8,7 +8,8 @@ use Rattle.htt_lexer.proofs.pieces.number_of.Goals as goal
 pub returns-in_err-number : goal.returns-in_err-number
 returns-in_err-number c =
     c.from_residual.ensures
-    ∙ sym (number_of-too_large c.args.digits.now c.loop-digit.digit-index c.loop-digit.number (omega arith) c.loop-digit.invariant.value (sym c.with_digit.ensures ∙ c.in_err-number.was))
+    ∙ sym (number_of-too_large c.args.digits.now c.loop-digit.digit-index c.loop-digit.number (omega arith) c.loop-digit.invariant.value
+    (sym c.with_digit.ensures ∙ c.in_err-number.was))
 
 pub loop-digit-preserved : goal.loop-digit-preserved
 loop-digit-preserved c =

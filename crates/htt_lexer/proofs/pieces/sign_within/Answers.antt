@@ -1,7 +1,7 @@
 use Rattle.std.proofs.Common.{◌≡◌, ap, sym, ◌∙◌, take, length}
 use Rattle.std.proofs.lemmas.List.{take_min}
 use Rattle.std.specs.Option.{option_map}
-use Rattle.htt_tokens.specs.declared.tokens.Kind.TheVariants.{Sign}
+use Rattle.htt_lexer_tokens.specs.declared.tokens.Kind.TheVariants.{Sign}
 use Rattle.htt_lexer.specs.declared.pieces.Piece.TheVariants.{Token}
 use Rattle.htt_lexer.specs.Tables.{lookup, sign_table}
 use Rattle.htt_lexer.proofs.pieces.sign_within.Goals as goal

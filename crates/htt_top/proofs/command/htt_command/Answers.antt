@@ -1,4 +1,4 @@
-use Rattle.command_answers.specs.Printing.{printed}
+use Rattle.htt_top_answers.specs.Printing.{printed}
 use Rattle.htt_top.proofs.PrintedLemmas.{answers_exactly, answers_of}
 use Rattle.htt_top.proofs.command.htt_command.Goals as goal
 

@@ -1,6 +1,6 @@
 use Rattle.std.proofs.Common.{[], None, refl}
 use Rattle.word_machine.specs.States.{state_of}
-use Rattle.machine_laws.proofs.Fitting.{started_fits}
+use Rattle.theory_machine.proofs.Fitting.{started_fits}
 use Rattle.word_machine.proofs.Stepping.{main_read}
 use Rattle.word_machine.proofs.machine.start.Goals as goal
 

@@ -1,4 +1,4 @@
-use Rattle.flat_heap.specs.Blocks.{blocks_of}
+use Rattle.heap_model_flat.specs.Blocks.{blocks_of}
 use Rattle.word_machine.specs.States.{state_of}
 use Rattle.word_machine.proofs.Ending.{Runs}
 use Rattle.word_machine.proofs.runs.run.Given as goal

@@ -1,11 +1,11 @@
 use Rattle.std.specs.Prelude.{slice_get}
 use Rattle.std.proofs.Common.{◌≡◌, Some, get_or}
 use Rattle.std.proofs.lemmas.Option.{slice_get-get_or}
-use Rattle.word_loader.specs.declared.code.Function.{Function}
-use Rattle.word_loader.specs.declared.code.Instr.{Instr}
-use Rattle.word_loader.specs.declared.code.Instr.TheVariants.{Const}
-use Rattle.word_loader.specs.Machine.{top}
-use Rattle.flat_heap.specs.Blocks.{blocks_of}
+use Rattle.word_loader_code.specs.declared.code.Function.{Function}
+use Rattle.word_loader_code.specs.declared.code.Instr.{Instr}
+use Rattle.word_loader_code.specs.declared.code.Instr.TheVariants.{Const}
+use Rattle.word_loader_code.specs.Machine.{top}
+use Rattle.heap_model_flat.specs.Blocks.{blocks_of}
 use Rattle.word_machine.specs.States.{state_of}
 use Rattle.word_machine.proofs.Stepping.{going_fits, going_is, function_within, function_read, next_read, next_of-read}
 use Rattle.word_machine.proofs.machine.Machine.next_instr.Goals as goal
@@ -40,5 +40,6 @@ returns c =
     let there = function_read code m.frames f fits read in
     let within = next_read code m.frames f fits there in
     let i : Instr = get_or c.as_slice-2.result.now c.next.result (Const 0 0) in
-    let i_is : slice_get f.body (top m.frames).next ≡ Some i = rw (c.next.ensures, c.as_slice-2.ensures.same_items) (slice_get-get_or f.body (top m.frames).next (Const 0 0) within) in
+    let i_is : slice_get f.body (top m.frames).next ≡ Some i =
+    rw (c.next.ensures, c.as_slice-2.ensures.same_items) (slice_get-get_or f.body (top m.frames).next (Const 0 0) within) in
     next_of-read code m.over (blocks_of m.heap) m.frames f i none there i_is

@@ -1,9 +1,0 @@
-pub mod Values
-pub mod WordAxioms
-pub mod JoinAxioms
-pub mod CellAxioms
-pub mod BlockAxioms
-pub mod Widths
-pub mod ValueAxioms
-pub mod True
-pub mod WithoutConditions

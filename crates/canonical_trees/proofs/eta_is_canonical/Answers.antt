@@ -1,5 +1,0 @@
-use Rattle.canonical_trees.proofs.Expanded.{expanded_canonical}
-use Rattle.canonical_trees.proofs.eta_is_canonical.Goals as goal
-
-pub returns : goal.returns
-returns c = record { law = λ heads g ty term d e. expanded_canonical term d (record { at = λ n found s. s }) e }

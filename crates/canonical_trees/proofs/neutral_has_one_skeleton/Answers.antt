@@ -1,5 +1,0 @@
-use Rattle.canonical_trees.proofs.OneSkeleton.{neutral_once}
-use Rattle.canonical_trees.proofs.neutral_has_one_skeleton.Goals as goal
-
-pub returns : goal.returns
-returns c = record { law = λ heads g term s t d e. neutral_once d e }

@@ -1,5 +1,0 @@
-use Rattle.std.proofs.Common.{length}
-use Rattle.code_bytes.proofs.parts.+width_all.Given as goal
-
-abbrev pub decreases-width_all : goal.decreases-width_all
-decreases-width_all l = length l.operands.now

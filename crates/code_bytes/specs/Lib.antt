@@ -1,4 +1,0 @@
-pub mod Parts
-pub mod Answers
-pub mod Loads
-pub mod Validity

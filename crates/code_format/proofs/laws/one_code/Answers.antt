@@ -1,5 +1,0 @@
-use Rattle.code_format.proofs.LawProofs.{one_code_lem}
-use Rattle.code_format.proofs.laws.one_code.Goals as goal
-
-pub returns : goal.returns
-returns c = one_code_lem

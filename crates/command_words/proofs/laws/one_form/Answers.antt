@@ -1,5 +1,0 @@
-use Rattle.command_words.proofs.FormLemmas.{one_form_lem}
-use Rattle.command_words.proofs.laws.one_form.Goals as goal
-
-pub returns : goal.returns
-returns c = one_form_lem

@@ -1,5 +1,0 @@
-use Rattle.definition_examples.proofs.Heaps.{values, heaps, choices}
-use Rattle.definition_examples.proofs.worked_heaps.Goals as goal
-
-pub returns : goal.returns
-returns c = record { values = values; heaps = heaps; choices = choices }

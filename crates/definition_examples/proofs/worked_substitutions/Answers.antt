@@ -1,5 +1,0 @@
-use Rattle.definition_examples.proofs.Substitutions.{substitutions}
-use Rattle.definition_examples.proofs.worked_substitutions.Goals as goal
-
-pub returns : goal.returns
-returns c = record { substitutions = substitutions }

@@ -1,5 +1,0 @@
-pub mod Agreeing
-pub mod Cells
-pub mod Blocks
-pub mod Runs
-pub mod Sound

@@ -1,5 +1,0 @@
-use Rattle.denotation_moves.proofs.Sound.{sound}
-use Rattle.denotation_moves.proofs.moves_are_sound.Goals as goal
-
-pub returns : goal.returns
-returns c = record { law = sound }

@@ -1,5 +1,0 @@
-use Rattle.denotation_relations.proofs.Choices.{handed_on}
-use Rattle.denotation_relations.proofs.choices_are_handed_on.Goals as goal
-
-pub returns : goal.returns
-returns c = record { law = handed_on }

@@ -1,5 +1,0 @@
-use Rattle.denotation_relations.proofs.Fuel.{more_fuel}
-use Rattle.denotation_relations.proofs.more_fuel_keeps.Goals as goal
-
-pub returns : goal.returns
-returns c = record { law = more_fuel }

@@ -1,5 +1,0 @@
-use Rattle.denotation_renaming.proofs.Expanded.{kept}
-use Rattle.denotation_renaming.proofs.expansion_keeps_heads.Goals as goal
-
-pub returns : goal.returns
-returns c = record { law = kept }

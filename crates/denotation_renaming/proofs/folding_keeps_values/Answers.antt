@@ -1,5 +1,0 @@
-use Rattle.denotation_renaming.proofs.Folded.{folded}
-use Rattle.denotation_renaming.proofs.folding_keeps_values.Goals as goal
-
-pub returns : goal.returns
-returns c = record { law = folded }

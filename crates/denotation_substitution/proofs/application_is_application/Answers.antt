@@ -1,5 +1,0 @@
-use Rattle.denotation_substitution.proofs.Formulas.{application}
-use Rattle.denotation_substitution.proofs.application_is_application.Goals as goal
-
-pub returns : goal.returns
-returns c = record { law = application }

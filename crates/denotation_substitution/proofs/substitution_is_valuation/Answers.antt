@@ -1,5 +1,0 @@
-use Rattle.denotation_substitution.proofs.Formulas.{valuation}
-use Rattle.denotation_substitution.proofs.substitution_is_valuation.Goals as goal
-
-pub returns : goal.returns
-returns c = record { law = valuation }

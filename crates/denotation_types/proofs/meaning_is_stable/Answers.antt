@@ -1,5 +1,0 @@
-use Rattle.denotation_types.proofs.Stable.{stable}
-use Rattle.denotation_types.proofs.meaning_is_stable.Goals as goal
-
-pub returns : goal.returns
-returns c = record { law = stable }

@@ -1,5 +1,0 @@
-use Rattle.denotation_types.proofs.Reindexed.{reindex}
-use Rattle.denotation_types.proofs.types_reindex.Goals as goal
-
-pub returns : goal.returns
-returns c = record { law = reindex }

@@ -1,5 +1,0 @@
-use Rattle.htt_items.proofs.Environments.{formed_canonical}
-use Rattle.htt_items.proofs.formed_is_canonical.Goals as goal
-
-pub returns : goal.returns
-returns c = formed_canonical

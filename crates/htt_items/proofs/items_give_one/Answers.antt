@@ -1,5 +1,0 @@
-use Rattle.htt_items.proofs.Derived.{items_give_one}
-use Rattle.htt_items.proofs.items_give_one.Goals as goal
-
-pub returns : goal.returns
-returns c = items_give_one

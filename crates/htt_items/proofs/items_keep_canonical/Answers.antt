@@ -1,5 +1,0 @@
-use Rattle.htt_items.proofs.Derived.{items_keep_canonical}
-use Rattle.htt_items.proofs.items_keep_canonical.Goals as goal
-
-pub returns : goal.returns
-returns c = items_keep_canonical

@@ -1,5 +1,0 @@
-use Rattle.htt_items.proofs.Worked.{worked}
-use Rattle.htt_items.proofs.worked_examples.Goals as goal
-
-pub returns : goal.returns
-returns c = worked

@@ -1,5 +1,0 @@
-use Rattle.htt_meaning.proofs.Handed.{handed_on}
-use Rattle.htt_meaning.proofs.choices_are_handed_on.Goals as goal
-
-pub returns : goal.returns
-returns c = record { law = handed_on }

@@ -1,5 +1,0 @@
-use Rattle.htt_meaning.proofs.RunFuel.{more_fuel_keeps}
-use Rattle.htt_meaning.proofs.more_fuel_keeps.Goals as goal
-
-pub returns : goal.returns
-returns c = record { law = more_fuel_keeps }

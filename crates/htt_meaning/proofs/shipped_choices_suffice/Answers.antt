@@ -1,5 +1,0 @@
-use Rattle.htt_meaning.proofs.Shipped.{suffices}
-use Rattle.htt_meaning.proofs.shipped_choices_suffice.Goals as goal
-
-pub returns : goal.returns
-returns c = record { law = suffices }

@@ -1,0 +1,28 @@
+use Rattle.std.proofs.Common.{◌-◌, refl}
+use Rattle.htt_parser_trees.specs.TreeLevels.{raw_fatom_at_heap}
+use Rattle.htt_parser_words.proofs.Steps.{stopped, after_err, reading}
+use Rattle.htt_parser_formulas.proofs.readers.Formulas.at_heap.Goals as goal
+
+pub returns-in_err-heap : goal.returns-in_err-heap
+unfolding reading
+returns-in_err-heap g c = stopped _ _ _ _ _ c.from_residual.ensures.1 (after_err _ _ _ _ c.in_err-heap.ensures)
+
+pub returns-in_err-at : goal.returns-in_err-at
+unfolding reading
+returns-in_err-at g c = stopped _ _ _ _ _ c.from_residual-in_err-at.ensures.1 (rw c.in_ok-heap.ensures (after_err _ _ _ _ c.in_err-at.ensures))
+
+pub returns-in_err-formula : goal.returns-in_err-formula
+unfolding reading
+returns-in_err-formula g c =
+    stopped _ _ _ _ _ c.from_residual-in_err-formula.ensures.1
+    (rw (c.in_ok-heap.ensures, c.in_ok-at.ensures) (after_err _ _ _ _ c.in_err-formula.ensures))
+
+pub returns-in_err-at-2 : goal.returns-in_err-at-2
+unfolding reading
+returns-in_err-at-2 g c =
+    stopped _ _ _ _ _ c.from_residual-in_err-at-2.ensures.1
+    (rw (c.in_ok-heap.ensures, c.in_ok-at.ensures, c.in_ok-formula.ensures) (after_err _ _ _ _ c.in_err-at-2.ensures))
+
+pub returns : goal.returns
+unfolding reading
+returns g c = rw (c.in_ok-heap.ensures, c.in_ok-at.ensures, c.in_ok-formula.ensures, c.in_ok-at-2.ensures, raw_fatom_at_heap) refl

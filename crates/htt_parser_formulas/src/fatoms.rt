@@ -1,0 +1,576 @@
+//! Formulas that are no chains.
+
+ghost use Rattle.std.specs.Prelude.{[], drop};
+ghost use Rattle.theory_grammar.specs.Phrases.{argument_case, at_heap_on, block_on, cell_on, emp_of_on, equal_on, fatom_reader, in_brackets_on, join_on, points_on, relation_case, relation_on, same_on, use_at_heap_on, use_at_on, use_case, use_monos_on, use_on, use_plain_on, use_terms_on};
+ghost use Rattle.theory_grammar.specs.Readers.{either, give, stop};
+ghost use Rattle.theory_grammar.specs.Reading.{deeper};
+ghost use Rattle.htt_parser_levels.specs.Levels.{IsLevel};
+ghost use Rattle.htt_parser_words.specs.Results.{Gives};
+ghost use Rattle.htt_parser_trees.specs.TreeViews.{raw_fatom_tree, raw_rel_tree, raw_term_tree};
+ghost use Rattle.htt_parser_trees.specs.Trees.{g_use, more_terms, no_terms};
+
+use crate::readers::Formulas;
+use htt_lexer_tokens::{Keyword, Kind, Sign};
+use htt_parser_levels::{Found, Wanted};
+use htt_parser_trees::{RawFatom, RawRel, RawTerm, Span};
+use htt_parser_words::{Halted, Reason};
+use htt_syntax_seq::Seq;
+use sqlite_items::Boxed;
+
+impl<F: Fn(Wanted, usize) -> Result<(Found, usize), Halted>> Formulas<'_, F> {
+    /// A formula that is no chain.
+    #[tactic(auto, using(htt_parser_trees::specs::TreeLevels::fatom_tt, htt_parser_trees::specs::TreeLevels::fatom_ff, htt_parser_trees::specs::TreeLevels::fatom_emp), unfolding(htt_parser_words::proofs::Steps::choosing, theory_grammar::specs::Phrases::fatom_reader))]
+    pub fn fatom(&self, at: usize) -> Result<(RawFatom, usize), Halted>
+        requires { IsLevel F.Fn self.now.terms.operands.level }
+        ensures { Gives self.now.terms.operands.level.cursor.tokens.now raw_fatom_tree result (fatom_reader (deeper 63 self.now.terms.operands.level.left) (drop at self.now.terms.operands.level.cursor.tokens.now)) }
+    {
+        let Some(token) = self.terms.operands.level.cursor.token(at) else {
+            return self.relation(at);
+        };
+        match token.kind {
+            Kind::Keyword(Keyword::TtWord) => Ok((RawFatom::Tt { at: token.from }, at + 1)),
+            Kind::Keyword(Keyword::FfWord) => Ok((RawFatom::Ff { at: token.from }, at + 1)),
+            Kind::Keyword(Keyword::EmpWord) => Ok((RawFatom::Emp { at: token.from }, at + 1)),
+            Kind::Keyword(Keyword::CapitalEmpWord) => self.emp_of(token.from, at + 1),
+            Kind::Keyword(Keyword::SameWord) => self.same_heaps(token.from, at + 1),
+            Kind::Keyword(Keyword::JoinWord) => self.join(token.from, at + 1),
+            Kind::Keyword(Keyword::CellWord) => self.cell(token.from, at + 1),
+            Kind::Keyword(Keyword::BlockWord) => self.block(token.from, at + 1),
+            Kind::Sign(Sign::OpenBracketSign) => self.in_brackets(token.from, at + 1),
+            Kind::Sign(Sign::AtSign) => self.at_heap(token.from, at + 1),
+            Kind::Sign(Sign::BangSign) => self.predicate(token.from, at + 1),
+            _ => self.relation(at),
+        }
+    }
+
+    /// What follows `Emp` at this byte.
+    #[tactic(auto, using(htt_parser_words::proofs::Steps::steps, htt_parser_trees::specs::TreeLevels::fatom_emp_of), unfolding(htt_parser_words::proofs::Steps::reading))]
+    fn emp_of(&self, from: u64, at: usize) -> Result<(RawFatom, usize), Halted>
+        ensures { Gives self.now.terms.operands.level.cursor.tokens.now raw_fatom_tree result (emp_of_on from (drop at self.now.terms.operands.level.cursor.tokens.now)) }
+    {
+        let at = self
+            .terms
+            .operands
+            .level
+            .cursor
+            .sign(at, Sign::OpenParenSign)?;
+        let (heap, at) = self.terms.operands.level.cursor.heap(at)?;
+        let at = self
+            .terms
+            .operands
+            .level
+            .cursor
+            .sign(at, Sign::CloseParenSign)?;
+        Ok((RawFatom::EmpOf { at: from, heap }, at))
+    }
+
+    /// What follows `Same` at this byte.
+    #[tactic(auto, using(htt_parser_words::proofs::Steps::steps, htt_parser_trees::specs::TreeLevels::fatom_same), unfolding(htt_parser_words::proofs::Steps::reading))]
+    fn same_heaps(&self, from: u64, at: usize) -> Result<(RawFatom, usize), Halted>
+        ensures { Gives self.now.terms.operands.level.cursor.tokens.now raw_fatom_tree result (same_on from (drop at self.now.terms.operands.level.cursor.tokens.now)) }
+    {
+        let at = self
+            .terms
+            .operands
+            .level
+            .cursor
+            .sign(at, Sign::OpenParenSign)?;
+        let (one, at) = self.terms.operands.level.cursor.heap(at)?;
+        let at = self.terms.operands.level.cursor.sign(at, Sign::CommaSign)?;
+        let (other, at) = self.terms.operands.level.cursor.heap(at)?;
+        let at = self
+            .terms
+            .operands
+            .level
+            .cursor
+            .sign(at, Sign::CloseParenSign)?;
+        Ok((
+            RawFatom::Same {
+                at: from,
+                left: one,
+                right: other,
+            },
+            at,
+        ))
+    }
+
+    /// What follows `Join` at this byte.
+    #[tactic(auto, using(htt_parser_words::proofs::Steps::steps, htt_parser_trees::specs::TreeLevels::fatom_join), unfolding(htt_parser_words::proofs::Steps::reading))]
+    fn join(&self, from: u64, at: usize) -> Result<(RawFatom, usize), Halted>
+        ensures { Gives self.now.terms.operands.level.cursor.tokens.now raw_fatom_tree result (join_on from (drop at self.now.terms.operands.level.cursor.tokens.now)) }
+    {
+        let at = self
+            .terms
+            .operands
+            .level
+            .cursor
+            .sign(at, Sign::OpenParenSign)?;
+        let (whole, at) = self.terms.operands.level.cursor.heap(at)?;
+        let at = self.terms.operands.level.cursor.sign(at, Sign::CommaSign)?;
+        let (one, at) = self.terms.operands.level.cursor.heap(at)?;
+        let at = self.terms.operands.level.cursor.sign(at, Sign::CommaSign)?;
+        let (other, at) = self.terms.operands.level.cursor.heap(at)?;
+        let at = self
+            .terms
+            .operands
+            .level
+            .cursor
+            .sign(at, Sign::CloseParenSign)?;
+        Ok((
+            RawFatom::Join {
+                at: from,
+                whole,
+                left: one,
+                right: other,
+            },
+            at,
+        ))
+    }
+
+    /// What follows `Cell` at this byte.
+    #[tactic(auto, using(htt_parser_words::proofs::Steps::steps, htt_parser_trees::specs::TreeLevels::fatom_cell), unfolding(htt_parser_words::proofs::Steps::reading))]
+    fn cell(&self, from: u64, at: usize) -> Result<(RawFatom, usize), Halted>
+        requires { IsLevel F.Fn self.now.terms.operands.level }
+        ensures { Gives self.now.terms.operands.level.cursor.tokens.now raw_fatom_tree result (cell_on (deeper 63 self.now.terms.operands.level.left) from (drop at self.now.terms.operands.level.cursor.tokens.now)) }
+    {
+        let (mono, at) = self
+            .terms
+            .operands
+            .level
+            .cursor
+            .bracketed(self.terms.operands.level.left, at)?;
+        let at = self
+            .terms
+            .operands
+            .level
+            .cursor
+            .sign(at, Sign::OpenParenSign)?;
+        let (heap, at) = self.terms.operands.level.cursor.heap(at)?;
+        let at = self.terms.operands.level.cursor.sign(at, Sign::CommaSign)?;
+        let (place, at) = self.terms.operands.level.boxed_term(at)?;
+        let at = self.terms.operands.level.cursor.sign(at, Sign::CommaSign)?;
+        let (value, at) = self.terms.operands.level.boxed_term(at)?;
+        let at = self
+            .terms
+            .operands
+            .level
+            .cursor
+            .sign(at, Sign::CloseParenSign)?;
+        Ok((
+            RawFatom::Cell {
+                at: from,
+                mono,
+                heap,
+                place,
+                value,
+            },
+            at,
+        ))
+    }
+
+    /// What follows `Block` at this byte.
+    #[tactic(auto, using(htt_parser_words::proofs::Steps::steps, htt_parser_trees::specs::TreeLevels::fatom_block), unfolding(htt_parser_words::proofs::Steps::reading))]
+    fn block(&self, from: u64, at: usize) -> Result<(RawFatom, usize), Halted>
+        requires { IsLevel F.Fn self.now.terms.operands.level }
+        ensures { Gives self.now.terms.operands.level.cursor.tokens.now raw_fatom_tree result (block_on (deeper 63 self.now.terms.operands.level.left) from (drop at self.now.terms.operands.level.cursor.tokens.now)) }
+    {
+        let (mono, at) = self
+            .terms
+            .operands
+            .level
+            .cursor
+            .bracketed(self.terms.operands.level.left, at)?;
+        let at = self
+            .terms
+            .operands
+            .level
+            .cursor
+            .sign(at, Sign::OpenParenSign)?;
+        let (heap, at) = self.terms.operands.level.cursor.heap(at)?;
+        let at = self.terms.operands.level.cursor.sign(at, Sign::CommaSign)?;
+        let (place, at) = self.terms.operands.level.boxed_term(at)?;
+        let at = self
+            .terms
+            .operands
+            .level
+            .cursor
+            .sign(at, Sign::CloseParenSign)?;
+        Ok((
+            RawFatom::Block {
+                at: from,
+                mono,
+                heap,
+                place,
+            },
+            at,
+        ))
+    }
+
+    /// What follows `[` at this byte.
+    #[tactic(auto, using(htt_parser_words::proofs::Steps::steps, htt_parser_trees::specs::TreeLevels::fatom_brackets), unfolding(htt_parser_words::proofs::Steps::reading))]
+    fn in_brackets(&self, from: u64, at: usize) -> Result<(RawFatom, usize), Halted>
+        requires { IsLevel F.Fn self.now.terms.operands.level }
+        ensures { Gives self.now.terms.operands.level.cursor.tokens.now raw_fatom_tree result (in_brackets_on (deeper 63 self.now.terms.operands.level.left) from (drop at self.now.terms.operands.level.cursor.tokens.now)) }
+    {
+        let (formula, at) = self.terms.operands.level.boxed_formula(at)?;
+        let at = self
+            .terms
+            .operands
+            .level
+            .cursor
+            .sign(at, Sign::CloseBracketSign)?;
+        Ok((RawFatom::Brackets { at: from, formula }, at))
+    }
+
+    /// What follows `@` at this byte.
+    #[tactic(auto, using(htt_parser_words::proofs::Steps::steps, htt_parser_trees::specs::TreeLevels::fatom_at_heap), unfolding(htt_parser_words::proofs::Steps::reading))]
+    fn at_heap(&self, from: u64, at: usize) -> Result<(RawFatom, usize), Halted>
+        requires { IsLevel F.Fn self.now.terms.operands.level }
+        ensures { Gives self.now.terms.operands.level.cursor.tokens.now raw_fatom_tree result (at_heap_on (deeper 63 self.now.terms.operands.level.left) from (drop at self.now.terms.operands.level.cursor.tokens.now)) }
+    {
+        let (heap, at) = self.terms.operands.level.cursor.heap(at)?;
+        let at = self
+            .terms
+            .operands
+            .level
+            .cursor
+            .sign(at, Sign::OpenBracketSign)?;
+        let (formula, at) = self.terms.operands.level.boxed_formula(at)?;
+        let at = self
+            .terms
+            .operands
+            .level
+            .cursor
+            .sign(at, Sign::CloseBracketSign)?;
+        Ok((
+            RawFatom::AtHeap {
+                at: from,
+                heap,
+                formula,
+            },
+            at,
+        ))
+    }
+
+    /// What follows `!` at this byte.
+    #[tactic(auto, using(htt_parser_words::proofs::Steps::steps), unfolding(htt_parser_words::proofs::Steps::reading))]
+    fn predicate(&self, from: u64, at: usize) -> Result<(RawFatom, usize), Halted>
+        requires { IsLevel F.Fn self.now.terms.operands.level }
+        ensures { Gives self.now.terms.operands.level.cursor.tokens.now raw_fatom_tree result (use_on (deeper 63 self.now.terms.operands.level.left) from (drop at self.now.terms.operands.level.cursor.tokens.now)) }
+    {
+        let (name, at) = self.terms.operands.level.cursor.name(at)?;
+        self.used(from, name, at)
+    }
+
+    /// What follows the name of a predicate.
+    #[tactic(auto, unfolding(htt_parser_words::proofs::Steps::choosing))]
+    fn used(&self, from: u64, name: Span, at: usize) -> Result<(RawFatom, usize), Halted>
+        requires { IsLevel F.Fn self.now.terms.operands.level }
+        ensures { Gives self.now.terms.operands.level.cursor.tokens.now raw_fatom_tree result (either (use_case (deeper 63 self.now.terms.operands.level.left) from name) stop (drop at self.now.terms.operands.level.cursor.tokens.now)) }
+    {
+        match self.terms.operands.level.cursor.token(at) {
+            Some(token) => match token.kind {
+                Kind::Sign(Sign::OpenBracketSign) => self.used_at_monos(from, name, at + 1),
+                Kind::Sign(Sign::AtSign) => self.used_at_heap(from, name, at + 1),
+                Kind::Sign(Sign::OpenParenSign) => self.used_plainly(from, name, at + 1),
+                _ => Err(Halted::At(Reason::Expected, at)),
+            },
+            None => Err(Halted::At(Reason::Expected, at)),
+        }
+    }
+
+    /// What follows the bracket before a predicate's monotypes.
+    fn used_at_monos(&self, from: u64, name: Span, at: usize) -> Result<(RawFatom, usize), Halted>
+        requires { IsLevel F.Fn self.now.terms.operands.level }
+        ensures { Gives self.now.terms.operands.level.cursor.tokens.now raw_fatom_tree result (use_monos_on (deeper 63 self.now.terms.operands.level.left) from name (drop at self.now.terms.operands.level.cursor.tokens.now)) }
+    {
+        let (monos, at) = self
+            .terms
+            .operands
+            .level
+            .cursor
+            .monos(self.terms.operands.level.left, at)?;
+        let at = self
+            .terms
+            .operands
+            .level
+            .cursor
+            .sign(at, Sign::CloseBracketSign)?;
+        let at = self
+            .terms
+            .operands
+            .level
+            .cursor
+            .sign(at, Sign::OpenParenSign)?;
+        let (terms, at) = self.terms.arguments(at)?;
+        let at = self
+            .terms
+            .operands
+            .level
+            .cursor
+            .sign(at, Sign::CloseParenSign)?;
+        let monos = Seq::of(monos);
+        let terms = Seq::of(terms);
+        Ok((
+            RawFatom::Use {
+                at: from,
+                name,
+                monos,
+                arguments: terms,
+            },
+            at,
+        ))
+    }
+
+    /// What follows `@` behind a predicate's name.
+    #[tactic(auto, using(htt_parser_words::proofs::Steps::steps, htt_parser_trees::specs::TreeLevels::fatom_use_at_heap), unfolding(htt_parser_words::proofs::Steps::reading))]
+    fn used_at_heap(&self, from: u64, name: Span, at: usize) -> Result<(RawFatom, usize), Halted>
+        requires { IsLevel F.Fn self.now.terms.operands.level }
+        ensures { Gives self.now.terms.operands.level.cursor.tokens.now raw_fatom_tree result (use_at_heap_on (deeper 63 self.now.terms.operands.level.left) from name (drop at self.now.terms.operands.level.cursor.tokens.now)) }
+    {
+        let (heap, at) = self.terms.operands.level.cursor.heap(at)?;
+        let at = self
+            .terms
+            .operands
+            .level
+            .cursor
+            .sign(at, Sign::OpenParenSign)?;
+        let (index, at) = self.terms.operands.level.boxed_term(at)?;
+        let at = self
+            .terms
+            .operands
+            .level
+            .cursor
+            .sign(at, Sign::SemicolonSign)?;
+        let (terms, at) = self.terms.arguments(at)?;
+        let at = self
+            .terms
+            .operands
+            .level
+            .cursor
+            .sign(at, Sign::CloseParenSign)?;
+        Ok((
+            RawFatom::UseAtHeap {
+                at: from,
+                name,
+                heap,
+                index,
+                arguments: Seq::of(terms),
+            },
+            at,
+        ))
+    }
+
+    /// What follows `(` behind a predicate's name.
+    #[tactic(auto, using(htt_parser_words::proofs::Steps::steps, htt_parser_trees::specs::TreeLevels::fatom_use), unfolding(htt_parser_words::proofs::Steps::reading))]
+    fn used_plainly(&self, from: u64, name: Span, at: usize) -> Result<(RawFatom, usize), Halted>
+        requires { IsLevel F.Fn self.now.terms.operands.level }
+        ensures { Gives self.now.terms.operands.level.cursor.tokens.now raw_fatom_tree result (use_plain_on (deeper 63 self.now.terms.operands.level.left) from name (drop at self.now.terms.operands.level.cursor.tokens.now)) }
+    {
+        if self
+            .terms
+            .operands
+            .level
+            .cursor
+            .is_sign(at, Sign::CloseParenSign)
+        {
+            let use_alone = RawFatom::Use {
+                at: from,
+                name,
+                monos: Seq::of(Vec::new(self.terms.operands.level.cursor.alloc)),
+                arguments: Seq::of(Vec::new(self.terms.operands.level.cursor.alloc)),
+            };
+            return Ok((use_alone, at + 1));
+        }
+        let (first, at) = self.terms.operands.level.deeper_term(at)?;
+        self.after_argument(from, name, first, at)
+    }
+
+    /// What follows a predicate's first argument.
+    #[tactic(auto, unfolding(htt_parser_words::proofs::Steps::choosing))]
+    fn after_argument(
+        &self,
+        from: u64,
+        name: Span,
+        first: RawTerm,
+        at: usize,
+    ) -> Result<(RawFatom, usize), Halted>
+        requires { IsLevel F.Fn self.now.terms.operands.level }
+        ensures { Gives self.now.terms.operands.level.cursor.tokens.now raw_fatom_tree result (either (argument_case (deeper 63 self.now.terms.operands.level.left) from name (raw_term_tree first)) stop (drop at self.now.terms.operands.level.cursor.tokens.now)) }
+    {
+        match self.terms.operands.level.cursor.token(at) {
+            Some(token) => match token.kind {
+                Kind::Sign(Sign::SemicolonSign) => { self.used_at_index(from, name, first, at + 1) }
+                Kind::Sign(Sign::CommaSign) => self.used_at_terms(from, name, first, at + 1),
+                Kind::Sign(Sign::CloseParenSign) => self.used_at_term(from, name, first, at + 1),
+                _ => Err(Halted::At(Reason::Expected, at)),
+            },
+            None => Err(Halted::At(Reason::Expected, at)),
+        }
+    }
+
+    /// What follows the semicolon behind a predicate's index.
+    #[tactic(auto, using(htt_parser_words::proofs::Steps::steps, htt_parser_trees::specs::TreeLevels::fatom_use_at), unfolding(htt_parser_words::proofs::Steps::reading))]
+    fn used_at_index(
+        &self,
+        from: u64,
+        name: Span,
+        index: RawTerm,
+        at: usize,
+    ) -> Result<(RawFatom, usize), Halted>
+        requires { IsLevel F.Fn self.now.terms.operands.level }
+        ensures { Gives self.now.terms.operands.level.cursor.tokens.now raw_fatom_tree result (use_at_on (deeper 63 self.now.terms.operands.level.left) from name (raw_term_tree index) (drop at self.now.terms.operands.level.cursor.tokens.now)) }
+    {
+        let index = Boxed::new(self.terms.operands.level.cursor.alloc, index)?;
+        let (terms, at) = self.terms.arguments(at)?;
+        let at = self
+            .terms
+            .operands
+            .level
+            .cursor
+            .sign(at, Sign::CloseParenSign)?;
+        Ok((
+            RawFatom::UseAt {
+                at: from,
+                name,
+                index,
+                arguments: Seq::of(terms),
+            },
+            at,
+        ))
+    }
+
+    /// What follows the first comma between a predicate's arguments.
+    fn used_at_terms(
+        &self,
+        from: u64,
+        name: Span,
+        first: RawTerm,
+        at: usize,
+    ) -> Result<(RawFatom, usize), Halted>
+        requires { IsLevel F.Fn self.now.terms.operands.level }
+        ensures { Gives self.now.terms.operands.level.cursor.tokens.now raw_fatom_tree result (use_terms_on (deeper 63 self.now.terms.operands.level.left) from name (raw_term_tree first) (drop at self.now.terms.operands.level.cursor.tokens.now)) }
+    {
+        let (second, at) = self.terms.operands.level.deeper_term(at)?;
+        let mut terms = Vec::new(self.terms.operands.level.cursor.alloc);
+        terms.push(first)?;
+        terms.push(second)?;
+        let (terms, at) = self.terms.more_terms(terms, at)?;
+        let at = self
+            .terms
+            .operands
+            .level
+            .cursor
+            .sign(at, Sign::CloseParenSign)?;
+        let none = Vec::new(self.terms.operands.level.cursor.alloc);
+        let monos = Seq::of(none);
+        let terms = Seq::of(terms);
+        Ok((
+            RawFatom::Use {
+                at: from,
+                name,
+                monos,
+                arguments: terms,
+            },
+            at,
+        ))
+    }
+
+    /// A predicate with one argument, behind its closing bracket.
+    #[tactic(auto, using(htt_parser_trees::specs::TreeLevels::fatom_use), unfolding(htt_parser_words::proofs::Steps::reading))]
+    fn used_at_term(
+        &self,
+        from: u64,
+        name: Span,
+        first: RawTerm,
+        at: usize,
+    ) -> Result<(RawFatom, usize), Halted>
+        ensures { Gives self.now.terms.operands.level.cursor.tokens.now raw_fatom_tree result (give (g_use from name [] (more_terms (raw_term_tree first) no_terms)) (drop at self.now.terms.operands.level.cursor.tokens.now)) }
+    {
+        let mut terms = Vec::new(self.terms.operands.level.cursor.alloc);
+        terms.push(first)?;
+        Ok((
+            RawFatom::Use {
+                at: from,
+                name,
+                monos: Seq::of(Vec::new(self.terms.operands.level.cursor.alloc)),
+                arguments: Seq::of(terms),
+            },
+            at,
+        ))
+    }
+
+    /// An equation, or what a place holds.
+    #[tactic(auto, using(htt_parser_words::proofs::Steps::steps), unfolding(htt_parser_words::proofs::Steps::reading))]
+    fn relation(&self, at: usize) -> Result<(RawFatom, usize), Halted>
+        requires { IsLevel F.Fn self.now.terms.operands.level }
+        ensures { Gives self.now.terms.operands.level.cursor.tokens.now raw_fatom_tree result (relation_on (deeper 63 self.now.terms.operands.level.left) (drop at self.now.terms.operands.level.cursor.tokens.now)) }
+    {
+        let (rel, at) = self.terms.operands.boxed_rel(at)?;
+        self.related(rel, at)
+    }
+
+    /// What follows the left side of a relation.
+    #[tactic(auto, unfolding(htt_parser_words::proofs::Steps::choosing))]
+    fn related(&self, rel: Boxed<RawRel>, at: usize) -> Result<(RawFatom, usize), Halted>
+        requires { IsLevel F.Fn self.now.terms.operands.level }
+        ensures { Gives self.now.terms.operands.level.cursor.tokens.now raw_fatom_tree result (either (relation_case (deeper 63 self.now.terms.operands.level.left) (raw_rel_tree rel)) stop (drop at self.now.terms.operands.level.cursor.tokens.now)) }
+    {
+        match self.terms.operands.level.cursor.token(at) {
+            Some(token) => match token.kind {
+                Kind::Sign(Sign::EqualSign) => self.equation(rel, at + 1),
+                Kind::Sign(Sign::PointsToSign) => self.points_to(rel, at + 1),
+                _ => Err(Halted::At(Reason::Expected, at)),
+            },
+            None => Err(Halted::At(Reason::Expected, at)),
+        }
+    }
+
+    /// What follows `=`.
+    #[tactic(auto, using(htt_parser_words::proofs::Steps::steps, htt_parser_trees::specs::TreeLevels::fatom_eq), unfolding(htt_parser_words::proofs::Steps::reading))]
+    fn equation(&self, one: Boxed<RawRel>, at: usize) -> Result<(RawFatom, usize), Halted>
+        requires { IsLevel F.Fn self.now.terms.operands.level }
+        ensures { Gives self.now.terms.operands.level.cursor.tokens.now raw_fatom_tree result (equal_on (deeper 63 self.now.terms.operands.level.left) (raw_rel_tree one) (drop at self.now.terms.operands.level.cursor.tokens.now)) }
+    {
+        let (mono, at) = self
+            .terms
+            .operands
+            .level
+            .cursor
+            .bracketed(self.terms.operands.level.left, at)?;
+        let (other, at) = self.terms.operands.boxed_rel(at)?;
+        Ok((
+            RawFatom::Eq {
+                left: one,
+                mono,
+                right: other,
+            },
+            at,
+        ))
+    }
+
+    /// What follows `|->`.
+    #[tactic(auto, using(htt_parser_words::proofs::Steps::steps, htt_parser_trees::specs::TreeLevels::fatom_points_to, htt_parser_trees::specs::TreeLevels::fatom_points_to_any), unfolding(htt_parser_words::proofs::Steps::reading))]
+    fn points_to(&self, place: Boxed<RawRel>, at: usize) -> Result<(RawFatom, usize), Halted>
+        requires { IsLevel F.Fn self.now.terms.operands.level }
+        ensures { Gives self.now.terms.operands.level.cursor.tokens.now raw_fatom_tree result (points_on (deeper 63 self.now.terms.operands.level.left) (raw_rel_tree place) (drop at self.now.terms.operands.level.cursor.tokens.now)) }
+    {
+        let (mono, at) = self
+            .terms
+            .operands
+            .level
+            .cursor
+            .bracketed(self.terms.operands.level.left, at)?;
+        if self
+            .terms
+            .operands
+            .level
+            .cursor
+            .is_sign(at, Sign::UnderscoreSign)
+        {
+            return Ok((RawFatom::PointsToAny { place, mono }, at + 1));
+        }
+        let (value, at) = self.terms.operands.boxed_rel(at)?;
+        Ok((RawFatom::PointsTo { place, mono, value }, at))
+    }
+}

@@ -1,0 +1,16 @@
+use Rattle.std.proofs.Common.{◌-◌, refl}
+use Rattle.htt_parser_trees.specs.TreeLevels.{raw_atom_annotated}
+use Rattle.htt_parser_words.proofs.Steps.{stopped, after_err, reading}
+use Rattle.htt_parser_operands.proofs.operands.Operands.annotated.Goals as goal
+
+pub returns-in_err-ty : goal.returns-in_err-ty
+unfolding reading
+returns-in_err-ty g c = stopped _ _ _ _ _ c.from_residual.ensures.1 (after_err _ _ _ _ c.in_err-ty.ensures)
+
+pub returns-in_err-at : goal.returns-in_err-at
+unfolding reading
+returns-in_err-at g c = stopped _ _ _ _ _ c.from_residual-in_err-at.ensures.1 (rw c.in_ok-ty.ensures (after_err _ _ _ _ c.in_err-at.ensures))
+
+pub returns : goal.returns
+unfolding reading
+returns g c = rw (c.in_ok-ty.ensures, c.in_ok-at.ensures, raw_atom_annotated) refl

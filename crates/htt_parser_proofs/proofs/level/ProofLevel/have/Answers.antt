@@ -1,0 +1,35 @@
+use Rattle.std.proofs.Common.{◌-◌}
+use Rattle.theory_grammar.specs.Readers.{give, ◌>>=◌}
+use Rattle.htt_parser_words.proofs.Steps.{stopped, after_err}
+use Rattle.htt_parser_proofs.proofs.level.ProofLevel.have.Goals as goal
+
+pub returns-in_err-hypothesis : goal.returns-in_err-hypothesis
+unfolding ◌>>=◌ give
+returns-in_err-hypothesis g c = stopped _ _ _ _ _ c.from_residual.ensures.1 (after_err _ _ _ _ c.in_err-hypothesis.ensures)
+
+pub returns-in_err-at : goal.returns-in_err-at
+unfolding ◌>>=◌ give
+returns-in_err-at g c = stopped _ _ _ _ _ c.from_residual-in_err-at.ensures.1 (rw (c.in_ok-hypothesis.ensures) (after_err _ _ _ _ c.in_err-at.ensures))
+
+pub returns-in_err-at-2 : goal.returns-in_err-at-2
+unfolding ◌>>=◌ give
+returns-in_err-at-2 g c =
+    stopped _ _ _ _ _ c.from_residual-in_err-at-2.ensures.1
+    (rw (c.in_ok-hypothesis.ensures, c.in_ok-at.ensures) (after_err _ _ _ _ c.in_err-at-2.ensures))
+
+pub returns-in_err-formula : goal.returns-in_err-formula
+unfolding ◌>>=◌ give
+returns-in_err-formula g c =
+    stopped _ _ _ _ _ c.from_residual-in_err-formula.ensures.1
+    (rw (c.in_ok-hypothesis.ensures, c.in_ok-at.ensures, c.in_ok-at-2.ensures) (after_err _ _ _ _ c.in_err-formula.ensures))
+
+pub returns-in_err-at-3 : goal.returns-in_err-at-3
+unfolding ◌>>=◌ give
+returns-in_err-at-3 g c =
+    stopped _ _ _ _ _ c.from_residual-in_err-at-3.ensures.1
+    (rw (c.in_ok-hypothesis.ensures, c.in_ok-at.ensures, c.in_ok-at-2.ensures, c.in_ok-formula.ensures)
+    (after_err _ _ _ _ c.in_err-at-3.ensures))
+
+pub returns : goal.returns
+unfolding ◌>>=◌ give
+returns g c = rw (c.in_ok-hypothesis.ensures, c.in_ok-at.ensures, c.in_ok-at-2.ensures, c.in_ok-formula.ensures, c.in_ok-at-3.ensures) c.had.ensures

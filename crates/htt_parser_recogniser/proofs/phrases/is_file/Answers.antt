@@ -1,0 +1,6 @@
+use Rattle.theory_grammar_table.proofs.OfTable.{file_of_table}
+use Rattle.htt_parser_recogniser.proofs.Retelling.{retold}
+use Rattle.htt_parser_recogniser.proofs.phrases.is_file.Goals as goal
+
+pub returns : goal.returns
+returns c = retold c.derives.result _ _ (file_of_table c.args.tokens.now) c.derives.ensures

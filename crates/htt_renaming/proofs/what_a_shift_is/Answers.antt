@@ -1,5 +1,0 @@
-use Rattle.htt_renaming.proofs.Shifts.{what_a_shift_is}
-use Rattle.htt_renaming.proofs.what_a_shift_is.Goals as goal
-
-pub returns : goal.returns
-returns c = what_a_shift_is

@@ -1,5 +1,0 @@
-use Rattle.htt_states.proofs.Ends.{finish_scoped}
-use Rattle.htt_states.proofs.ends_keep_scope.Goals as goal
-
-pub returns : goal.returns
-returns c = finish_scoped

@@ -1,0 +1,4 @@
+pub mod Chains
+pub mod Keeping
+pub mod Blocks
+pub mod KeepingProofs

@@ -1,4 +1,0 @@
-pub mod Walk
-pub mod WalkLevels
-pub mod Rising
-pub mod Kept

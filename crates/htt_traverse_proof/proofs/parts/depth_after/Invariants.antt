@@ -1,7 +1,0 @@
-use Rattle.std.proofs.Common.{◌≡◌, take, map}
-use Rattle.htt_syntax.specs.ProofViews.{stmt_tree}
-use Rattle.htt_traverse_proof.specs.Descent.{depth_after}
-use Rattle.htt_traverse_proof.proofs.parts.depth_after.Given as goal
-
-abbrev pub invariant-loop-stmt : goal.invariant-loop-stmt
-invariant-loop-stmt l = l.inner ≡ depth_after l.depth (map stmt_tree (take l.stmt-index l.stmts))

@@ -1,3 +1,0 @@
-pub mod WalkProof
-pub mod WalkProofLevels
-pub mod Descent

@@ -1,5 +1,0 @@
-use Rattle.htt_truth.proofs.Unfolding.{unfolds}
-use Rattle.htt_truth.proofs.predicates_unfold.Goals as goal
-
-pub returns : goal.returns
-returns c = record { law = unfolds }

@@ -1,5 +1,0 @@
-use Rattle.htt_truth.proofs.Stars.{stars}
-use Rattle.htt_truth.proofs.star_is_split.Goals as goal
-
-pub returns : goal.returns
-returns c = record { law = stars }

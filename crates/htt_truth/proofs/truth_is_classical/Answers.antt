@@ -1,5 +1,0 @@
-use Rattle.htt_truth.proofs.Stable.{classical}
-use Rattle.htt_truth.proofs.truth_is_classical.Goals as goal
-
-pub returns : goal.returns
-returns c = record { law = classical }

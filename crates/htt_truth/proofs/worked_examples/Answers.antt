@@ -1,5 +1,0 @@
-use Rattle.htt_truth.proofs.Examples.{worked}
-use Rattle.htt_truth.proofs.worked_examples.Goals as goal
-
-pub returns : goal.returns
-returns c = record { examples = worked }

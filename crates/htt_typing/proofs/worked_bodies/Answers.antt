@@ -1,5 +1,0 @@
-use Rattle.htt_typing.proofs.Bodies.{items, bodies}
-use Rattle.htt_typing.proofs.worked_bodies.Goals as goal
-
-pub returns : goal.returns
-returns c = record { items = items; bodies = bodies }

@@ -1,9 +1,0 @@
-//! What the formulas of a level are read from.
-
-use parser_terms::Terms;
-
-/// The readers of formulas at a level.
-#[derive(Clone, Copy)]
-pub struct Formulas<'a, F> {
-    pub terms: Terms<'a, F>,
-}

@@ -1,9 +1,0 @@
-//! What the terms, computations and types of a level are read from.
-
-use parser_operands::Operands;
-
-/// The readers of terms, computations and types at a level.
-#[derive(Clone, Copy)]
-pub struct Terms<'a, F> {
-    pub operands: Operands<'a, F>,
-}

@@ -1,5 +1,0 @@
-use Rattle.proof_rules.proofs.Once.{one_put, one_fit}
-use Rattle.proof_rules.proofs.arguments_give_one.Goals as goal
-
-pub returns : goal.returns
-returns c = record { fitted = one_fit; put = one_put }

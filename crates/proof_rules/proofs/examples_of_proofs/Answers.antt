@@ -1,7 +1,0 @@
-use Rattle.proof_rules.proofs.Forms.{inferences, goals}
-use Rattle.proof_rules.proofs.Variables.{variables}
-use Rattle.proof_rules.proofs.Examples.{statements, forms, unfoldings}
-use Rattle.proof_rules.proofs.examples_of_proofs.Goals as goal
-
-pub returns : goal.returns
-returns c = record { statements = statements; forms = forms; unfoldings = unfoldings; inferences = inferences; goals = goals; variables = variables }

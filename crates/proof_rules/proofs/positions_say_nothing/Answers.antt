@@ -1,5 +1,0 @@
-use Rattle.proof_rules.proofs.Positions.{positions_infer, positions_prove, positions_state}
-use Rattle.proof_rules.proofs.positions_say_nothing.Goals as goal
-
-pub returns : goal.returns
-returns c = record { inferred = positions_infer; proved = positions_prove; stated = positions_state }

@@ -1,5 +1,0 @@
-use Rattle.proof_rules.proofs.Once.{one_inferred}
-use Rattle.proof_rules.proofs.proof_infers_one.Goals as goal
-
-pub returns : goal.returns
-returns c = record { law = one_inferred }

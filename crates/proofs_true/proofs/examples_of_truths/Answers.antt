@@ -1,5 +1,0 @@
-use Rattle.proofs_true.proofs.Examples.{worked}
-use Rattle.proofs_true.proofs.examples_of_truths.Goals as goal
-
-pub returns : goal.returns
-returns c = record { examples = worked }

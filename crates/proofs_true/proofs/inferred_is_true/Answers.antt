@@ -1,5 +1,0 @@
-use Rattle.proofs_true.proofs.True.{inferred}
-use Rattle.proofs_true.proofs.inferred_is_true.Goals as goal
-
-pub returns : goal.returns
-returns c = record { law = inferred }

@@ -1,5 +1,0 @@
-use Rattle.proofs_true.proofs.Arguments.{instances}
-use Rattle.proofs_true.proofs.instances_are_true.Goals as goal
-
-pub returns : goal.returns
-returns c = record { law = instances }

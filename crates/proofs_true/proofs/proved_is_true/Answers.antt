@@ -1,5 +1,0 @@
-use Rattle.proofs_true.proofs.True.{proved}
-use Rattle.proofs_true.proofs.proved_is_true.Goals as goal
-
-pub returns : goal.returns
-returns c = record { law = proved }

@@ -1,5 +1,0 @@
-use Rattle.proofs_true.proofs.Examples.{needed}
-use Rattle.proofs_true.proofs.sorts_are_needed.Goals as goal
-
-pub returns : goal.returns
-returns c = record { law = needed }

@@ -1,5 +1,0 @@
-use Rattle.proofs_true.proofs.Unfoldings.{unfoldings}
-use Rattle.proofs_true.proofs.unfoldings_are_true.Goals as goal
-
-pub returns : goal.returns
-returns c = record { law = unfoldings }

@@ -1,2 +1,0 @@
-pub mod Variants
-pub mod Laws

@@ -1,5 +1,0 @@
-use Rattle.substitution.proofs.Once.{app_once}
-use Rattle.substitution.proofs.application_gives_one.Goals as goal
-
-pub returns : goal.returns
-returns c = record { law = λ f a r q s d e. app_once d e }

@@ -1,5 +1,0 @@
-use Rattle.substitution.proofs.Once.{bind_once}
-use Rattle.substitution.proofs.binding_gives_one.Goals as goal
-
-pub returns : goal.returns
-returns c = record { law = λ e f r q d h. bind_once d h }

@@ -1,0 +1,5 @@
+pub mod Renamings
+pub mod Heaps
+pub mod Contexts
+pub mod Substitutions
+pub mod Variants

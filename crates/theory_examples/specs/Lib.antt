@@ -1,0 +1,6 @@
+pub mod Renamings
+pub mod Heaps
+pub mod Contexts
+pub mod Substitutions
+pub mod Variants
+pub mod VariantLaws

@@ -1,0 +1,5 @@
+use Rattle.theory_formed.proofs.Bare.{formed_is_canonical}
+use Rattle.theory_formed.proofs.formed_is_canonical.Goals as goal
+
+pub returns : goal.returns
+returns c = formed_is_canonical

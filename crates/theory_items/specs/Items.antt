@@ -1,0 +1,70 @@
+-- The declarations of a file but for its proofs, each in the environment of those before it: what it
+-- adds to the environment, and what it owes. Premises have the written order.
+use Rattle.std.specs.Prelude.{◌≡◌, ℕ, zero, suc, ◌+◌, List, [], ◌∷◌, ◌++◌, length, All}
+use Rattle.htt_syntax.specs.Trees.{MonoTree, TyTree, TermTree, FormulaTree, y_mono, t_var}
+use Rattle.theory_truth.specs.Predicates.{RecTree}
+use Rattle.theory_truth.specs.Atoms.{AtomsMeet}
+use Rattle.theory_typing.specs.Contexts.{en_mono, en_heap, en_term, Context, Environment, FormsMono, Obligation}
+use Rattle.theory_typing.specs.Contexts.{EndsInHoare}
+use Rattle.theory_typing.specs.Typing.{in_program, FormsTy, FormsFormula, Fits}
+use Rattle.theory_formed.specs.Environments.{zero_context, next_context}
+
+-- An abbreviation of a monotype; a predicate with so many monotypes, its parameters, each under the
+-- monotypes and the parameters before it, and its body under all and the heap; a definition; a value; a
+-- recursive predicate.
+pub data ItemTree : Type 0 where
+  i_abbreviation : MonoTree → ItemTree
+  i_pred : ℕ → List MonoTree → FormulaTree → ItemTree
+  i_def : TyTree → TermTree → ItemTree
+  i_val : TyTree → TermTree → ItemTree
+  i_rec : RecTree → ItemTree
+
+-- a context with so many monotypes more
+abbrev pub with_monos : ℕ → Context → Context
+with_monos zero g = g
+with_monos (suc n) g = en_mono ∷ with_monos n g
+
+-- parameters are formed, each under those before it, with the context under all
+pub data FormsParams : Context → List MonoTree → Context → Type 0 where
+  params_none : {g : Context} → FormsParams g [] g
+  params_more : {g h : Context} {t : MonoTree} {ts : List MonoTree}
+      → FormsMono g t
+      → FormsParams (en_term (y_mono t) ∷ g) ts h
+      → FormsParams g (t ∷ ts) h
+
+abbrev pub with_def : Environment → TyTree → TermTree → Environment
+with_def env ty term = record { vals = env.vals; defs = env.defs ++ (ty, term) ∷ []; recs = env.recs }
+
+abbrev pub with_val : Environment → TyTree → Environment
+with_val env ty = record { vals = env.vals ++ ty ∷ []; defs = env.defs; recs = env.recs }
+
+abbrev pub with_rec : Environment → RecTree → Environment
+with_rec env r = record { vals = env.vals; defs = env.defs; recs = env.recs ++ r ∷ [] }
+
+-- an atom of the predicate p itself stands at the index less one, which is the outermost variable
+abbrev pub OwnAtIndex : ℕ → ℕ → ℕ → ℕ → TermTree → Type 0
+OwnAtIndex p params d number place = number ≡ p → place ≡ t_var (suc (d + params))
+
+-- An item derives in an environment, with the environment after it and what it owes.
+pub data Derives (env : Environment) : ItemTree → Environment → List Obligation → Type 0 where
+  derives_abbreviation : {t : MonoTree} → FormsMono [] t → Derives env (i_abbreviation t) env []
+  derives_pred : {n : ℕ} {params : List MonoTree} {body body' : FormulaTree} {g : Context}
+      → FormsParams (with_monos n []) params g
+      → FormsFormula env (en_heap ∷ g) body body'
+      → Derives env (i_pred n params body) env []
+  derives_def : {ty ty' : TyTree} {term term' : TermTree} {o : List Obligation}
+      → FormsTy env [] ty ty'
+      → Fits env in_program [] term ty' term' o
+      → Derives env (i_def ty term) (with_def env ty' term') o
+  derives_val : {ty ty' : TyTree} {term term' : TermTree} {o : List Obligation}
+      → FormsTy env [] ty ty'
+      → EndsInHoare ty'
+      → Fits env in_program [] term ty' term' o
+      → Derives env (i_val ty term) (with_val env ty') o
+  -- the second body may speak of the predicate itself
+  derives_rec : {r : RecTree} {at_zero at_next : FormulaTree}
+      → All (FormsMono []) r.params
+      → FormsFormula env (zero_context r.params) r.at_zero at_zero
+      → FormsFormula (with_rec env r) (next_context r.params) r.at_next at_next
+      → AtomsMeet (OwnAtIndex (length env.recs) (length r.params)) zero at_next
+      → Derives env (i_rec r) (with_rec env (record { params = r.params; at_zero = at_zero; at_next = at_next })) []

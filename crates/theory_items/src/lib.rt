@@ -1,0 +1,26 @@
+//! Formed environments, and the declarations of a file but for its proofs: what each adds to its
+//! environment and owes. A function without a body states laws by its contract.
+#![tactic(auto)]
+
+ghost use Rattle.theory_items.specs.Examples.{WorkedExamples};
+ghost use Rattle.theory_items.specs.Laws.{FormedGivesCanonical, ItemsGiveOne, ItemsKeepCanonical};
+
+/// A formed environment and its context are canonical.
+pub fn formed_is_canonical()
+    ensures { FormedGivesCanonical }
+{}
+
+/// An item gives one environment and one list of obligations.
+pub fn items_give_one()
+    ensures { ItemsGiveOne }
+{}
+
+/// An item keeps its environment canonical, and the goals that it owes are canonical.
+pub fn items_keep_canonical()
+    ensures { ItemsKeepCanonical }
+{}
+
+/// Environments and items, worked out by hand.
+pub fn worked_examples()
+    ensures { WorkedExamples }
+{}

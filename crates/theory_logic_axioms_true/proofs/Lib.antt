@@ -1,0 +1,15 @@
+pub mod Sums
+pub mod Order
+pub mod Bits
+pub mod Induction
+pub mod Folded
+pub mod Plain
+pub mod Values
+pub mod WordAxioms
+pub mod JoinAxioms
+pub mod CellAxioms
+pub mod BlockAxioms
+pub mod Widths
+pub mod ValueAxioms
+pub mod True
+pub mod WithoutConditions

@@ -1,0 +1,4 @@
+pub mod WordLaws
+pub mod TermLaws
+pub mod Laws
+pub mod WithoutConditions

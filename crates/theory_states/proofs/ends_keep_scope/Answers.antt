@@ -1,0 +1,5 @@
+use Rattle.theory_states.proofs.Ends.{finish_scoped}
+use Rattle.theory_states.proofs.ends_keep_scope.Goals as goal
+
+pub returns : goal.returns
+returns c = finish_scoped

@@ -1,0 +1,23 @@
+//! The typing rules on the logic side: formation of types and formulas, terms that give or fit a
+//! type, and computations against triples. A function without a body states a law by its contract.
+#![tactic(auto)]
+
+ghost use Rattle.theory_typing.specs.Examples.{TheBodies, TheItems};
+ghost use Rattle.theory_typing.specs.Laws.{TypingGivesOne, WorkedTyping};
+
+/// A phrase has at most one type, one canonical form and one list of obligations.
+pub fn typing_gives_one()
+    ensures { TypingGivesOne }
+{}
+
+/// Small derivations, and phrases that have none, worked out by hand.
+pub fn worked_typing()
+    ensures { WorkedTyping }
+{}
+
+/// What the values, definitions and predicates of a file give, and bodies against triples with what
+/// they owe, worked out by hand.
+pub fn worked_bodies()
+    ensures items { TheItems }
+    ensures bodies { TheBodies }
+{}

@@ -1,5 +1,0 @@
-use Rattle.tree_counts.proofs.Worked.{worked}
-use Rattle.tree_counts.proofs.worked_counts.Goals as goal
-
-pub returns : goal.returns
-returns c = worked

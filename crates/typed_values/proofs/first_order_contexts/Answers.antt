@@ -1,5 +1,0 @@
-use Rattle.typed_values.proofs.FirstOrder.{contexts}
-use Rattle.typed_values.proofs.first_order_contexts.Goals as goal
-
-pub returns : goal.returns
-returns c = record { law = contexts }

@@ -1,5 +1,0 @@
-use Rattle.typed_values.proofs.Sorted.{sorted_forms}
-use Rattle.typed_values.proofs.formed_formulas_are_sorted.Goals as goal
-
-pub returns : goal.returns
-returns c = record { law = sorted_forms }

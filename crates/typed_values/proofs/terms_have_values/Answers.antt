@@ -1,5 +1,0 @@
-use Rattle.typed_values.proofs.Sorted.{values}
-use Rattle.typed_values.proofs.terms_have_values.Goals as goal
-
-pub returns : goal.returns
-returns c = record { law = values }

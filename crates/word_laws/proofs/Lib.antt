@@ -1,4 +1,0 @@
-pub mod Sums
-pub mod Order
-pub mod Bits
-pub mod Induction

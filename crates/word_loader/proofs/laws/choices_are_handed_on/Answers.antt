@@ -1,5 +1,0 @@
-use Rattle.word_loader.proofs.Steps.{choices_are_handed_on_lem}
-use Rattle.word_loader.proofs.laws.choices_are_handed_on.Goals as goal
-
-pub returns : goal.returns
-returns c = choices_are_handed_on_lem

@@ -1,5 +1,0 @@
-use Rattle.word_loader.proofs.Steps.{over_is_final_lem}
-use Rattle.word_loader.proofs.laws.over_is_final.Goals as goal
-
-pub returns : goal.returns
-returns c = over_is_final_lem

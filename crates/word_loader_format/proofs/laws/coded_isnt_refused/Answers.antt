@@ -1,0 +1,5 @@
+use Rattle.word_loader_format.proofs.LawProofs.{coded_isnt_refused_lem}
+use Rattle.word_loader_format.proofs.laws.coded_isnt_refused.Goals as goal
+
+pub returns : goal.returns
+returns c = coded_isnt_refused_lem

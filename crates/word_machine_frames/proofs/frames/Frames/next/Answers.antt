@@ -1,0 +1,7 @@
+use Rattle.std.proofs.Common.{sym, ap}
+use Rattle.word_loader_code.specs.Machine.{Frame}
+use Rattle.word_machine_frames.proofs.Stacks.{top-view}
+use Rattle.word_machine_frames.proofs.frames.Frames.next.Goals as goal
+
+pub returns : goal.returns
+returns c = sym (ap (λ (frame : Frame). frame.next) (top-view _ _ _ _ c.self.view_is))
