@@ -19,7 +19,7 @@ use Rattle.htt_parser_words.specs.declared.cursor.Halted.TheVariants as halts
 use Rattle.htt_parser_words.specs.Results.{StopsAs, Gives}
 use Rattle.htt_parser_words.specs.Brackets.{opened}
 
--- ---- one then_read the other
+-- ---- one after the other
 
 pub bind_ok : {A B : Type 0} (r : Reader A) (k : A → Reader B) (us rest : List Token) (x : A) → r us ≡ Ok (x, rest) → (r >>= k) us ≡ k x rest
 unfolding ◌>>=◌

@@ -71,7 +71,7 @@ refuse_stops A ts why test reason at e same is =
     (ap (λ w. Err (record { why = w; rest = drop at ts }))
     (ap (λ w. refused w test (drop at ts)) (sym same) ∙ refused_is reason test (drop at ts)))
 
--- opens what one reads then_read the other
+-- opens what one reads after the other
 unfoldable pub reading : Type 0
 unfolding ◌>>=◌ give
 reading = ℕ

@@ -31,7 +31,7 @@ pub or_right : (a b : Bool) → (a || b) ≡ false → b ≡ false
 or_right true b h = absurd (let no : true ≡ false = h in cc)
 or_right false b h = h
 
--- ---- giving, and one then_read the other
+-- ---- giving, and one after the other
 
 pub giving : {A : Type 0} {lim : Limits} {c : Kind → Bool} {n : ℕ} {x : A} → Gets lim c n (give x) [] x
 unfolding give
@@ -338,7 +338,7 @@ pub nothing_after : {A : Type 0} {lim : Limits} {c : Kind → Bool} {n : ℕ} {r
 unfolding ◌⨟◌
 nothing_after {lim = lim} {c = c} {n = n} {r = r} {x = x} ms gets = subst (λ ns. Gets lim c n r ns x) (append-nil ms) gets
 
--- a part with nothing then_read it
+-- a part with nothing after it
 pub empty_gone : {A : Type 0} {lim : Limits} {c : Kind → Bool} {n : ℕ} {r : Reader A} {x : A} (a ns : List Mark)
     → Gets lim c n r (a ⨟ ns) x
     → Gets lim c n r ((a ⨟ []) ⨟ ns) x

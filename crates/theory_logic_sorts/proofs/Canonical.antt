@@ -10,7 +10,7 @@ use Rattle.theory_canonical.specs.Canonical.{n_or, n_imp, n_all_t, n_ex_t, n_all
 use Rattle.theory_logic_sorts.specs.Sorts.{Sort, Sorts, for_mono, for_value, for_heap, HasSort, SortedMono, SortedTerm, SortedTerms, SortedFormula}
 use Rattle.theory_logic_sorts.specs.Laws.{CanonicalTreesAreSorted, standing_of_sort, standings_of_sorts}
 
--- A list of standings_of_sorts is that of sorts.
+-- A list of standings is that of sorts.
 data AreStandings : Sorts → List Standing → Type 0 where
   no_standings : AreStandings [] []
   more_standings : {g : Sorts} {c : List Standing} (s : Sort) → AreStandings g c → AreStandings (s ∷ g) (standing_of_sort s ∷ c)

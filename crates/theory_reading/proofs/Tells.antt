@@ -35,7 +35,7 @@ alone told = record { tells = λ ts x rest e. told.told ts ts x rest (λ ns end 
 pub at_front : {A : Type 0} {lim : Limits} {r : Reader A} {marks : A → List Mark} → Tells lim r marks → Told lim (λ ns. ns) r marks
 at_front {marks = marks} tells = record { told = λ before ts x rest round e. round (marks x) rest (tells.tells ts x rest e) }
 
--- ---- one then_read the other
+-- ---- one after the other
 
 pub record Bound {A B : Type 0} (o : Result (A × List Token) Halt) (k : A → Reader B) (y : B) (rest : List Token) : Type 0 where
   pub value : A
@@ -215,6 +215,6 @@ renumber lim k [] ts rest within s = s
 renumber lim k (m ∷ ms) ts rest within s =
     (s.0, s.1, s.2, record { kind = s.3.kind; at = s.3.at; span = s.3.span }, record { level = s.4.level; operand = within }, s.5)
 
--- a list, the bracket then_read it and what follows, however they are put together
+-- a list, the bracket after it and what follows, however they are put together
 pub list_in_brackets : (first more close ns : List Mark) → first ++ (more ++ (close ++ ns)) ≡ ((first ++ more) ++ close) ++ ns
 list_in_brackets first more close ns = sym (append_assoc (first ++ more) close ns ∙ append_assoc first more (close ++ ns))

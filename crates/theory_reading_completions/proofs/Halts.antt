@@ -66,7 +66,7 @@ past_more lim too_nested (u ∷ rest) (t ∷ ts) us (m ∷ ms) ns h = h
 past_more lim too_long (u ∷ rest) (t ∷ ts) us (m ∷ ms) ns h = h
 past_more lim _ _ _ us _ ns h = absurd h
 
--- ---- one then_read the other
+-- ---- one after the other
 
 pub halts_then : {A B : Type 0} {lim : Limits} {round : List Mark → List Mark} {r : Reader A} {ms : A → List Mark} {marks : B → List Mark}
     (k : A → Reader B)

@@ -102,7 +102,7 @@ pub forms_give : {A : Type 0} {round : List Mark → List Mark} {marks : A → L
 unfolding give
 forms_give y same = record { forms = λ ts. record { others = []; same = same } }
 
--- ---- one then_read the other
+-- ---- one after the other
 
 pub bars_then : {A B : Type 0} {lim : Limits} {round : List Mark → List Mark} {r q : Reader A} {ms : A → List Mark} {marks : B → List Mark}
     {k j : A → Reader B}

@@ -94,7 +94,7 @@ follow_refuse why begins = record {
   };
 }
 
--- ---- one then_read the other
+-- ---- one after the other
 
 extended : {A B : Type 0} {b : Greater} {m : ℕ} {q : Reader A} (j : A → Reader B) {us : List Token} {x : A} {mid : List Token}
     (o : Result (B × List Token) Halt)

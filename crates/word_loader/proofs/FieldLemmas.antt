@@ -58,7 +58,7 @@ number_at-cut file at width k m e f =
     ap (λ i. number_written (take i (take (length file - k) (drop k file)))) f
     ∙ ap number_written (take_min width (take (length file - k) (drop k file))) ∙ ap (λ t. number_written (take width t)) rest
 
--- one more byte of a number_written that is put
+-- one more byte of a number that is put
 pub put_next : (out new : List ℕ) (width counter rest : ℕ)
     → counter < width
     → new ≡ out ++ rest % 256 ∷ []
