@@ -4,5 +4,5 @@ ghost use Rattle.htt_top.specs.Laws.{HeapFilesFit};
 
 /// A run never starts beyond its limit on the heap: a heap file within its size has no larger heap.
 pub fn heap_files_fit()
-    ensures { HeapFilesFit }
+    ensures law { HeapFilesFit }
 {}

@@ -5,10 +5,10 @@ ghost use Rattle.htt_top_one_form.specs.Form.{OneFormOfDeclarations};
 
 /// Declarations say one thing at most.
 pub fn one_meaning()
-    ensures { OneFormOfDeclarations }
+    ensures law { OneFormOfDeclarations }
 {}
 
 /// The declarations of a short text, told by the definitions alone.
 pub fn example_form()
-    ensures { ExampleForm }
+    ensures examples { ExampleForm }
 {}

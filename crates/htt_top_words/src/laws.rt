@@ -4,5 +4,5 @@ ghost use Rattle.htt_top_words.specs.Laws.{OneFormOfWords};
 
 /// Words have one form at most.
 pub fn one_form()
-    ensures { OneFormOfWords }
+    ensures law { OneFormOfWords }
 {}

@@ -7,10 +7,10 @@ ghost use Rattle.theory_formed.specs.Laws.{FormedIsCanonical};
 
 /// A formed term, computation, type or formula is canonical.
 pub fn formed_is_canonical()
-    ensures { FormedIsCanonical }
+    ensures law { FormedIsCanonical }
 {}
 
 /// Formed trees, and trees that aren't, worked out by hand.
 pub fn worked_examples()
-    ensures { WorkedExamples }
+    ensures examples { WorkedExamples }
 {}

@@ -7,20 +7,20 @@ ghost use Rattle.theory_items.specs.Laws.{FormedGivesCanonical, ItemsGiveOne, It
 
 /// A formed environment and its context are canonical.
 pub fn formed_is_canonical()
-    ensures { FormedGivesCanonical }
+    ensures law { FormedGivesCanonical }
 {}
 
 /// An item gives one environment and one list of obligations.
 pub fn items_give_one()
-    ensures { ItemsGiveOne }
+    ensures law { ItemsGiveOne }
 {}
 
 /// An item keeps its environment canonical, and the goals that it owes are canonical.
 pub fn items_keep_canonical()
-    ensures { ItemsKeepCanonical }
+    ensures law { ItemsKeepCanonical }
 {}
 
 /// Environments and items, worked out by hand.
 pub fn worked_examples()
-    ensures { WorkedExamples }
+    ensures examples { WorkedExamples }
 {}

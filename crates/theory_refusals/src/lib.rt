@@ -48,5 +48,5 @@ pub fn refusals_have_one_place()
 
 /// Stops that were worked out by hand.
 pub fn worked_refusals()
-    ensures { WorkedRefusals }
+    ensures examples { WorkedRefusals }
 {}

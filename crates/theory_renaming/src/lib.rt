@@ -22,5 +22,5 @@ pub fn renaming_keeps_scope()
 /// A shift lets the variables below its place stay, and lets the others go past so many more; two shifts
 /// at one place add up.
 pub fn what_a_shift_is()
-    ensures { WhatAShiftIs }
+    ensures law { WhatAShiftIs }
 {}

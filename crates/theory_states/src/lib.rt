@@ -7,12 +7,12 @@ ghost use Rattle.theory_states.specs.Laws.{StatesKeepScope, EndsKeepScope, PastI
 /// In a context with so many variables, a step's obligation is in the scope of its state, and the
 /// next state in the scope of one variable more.
 pub fn states_keep_scope()
-    ensures { StatesKeepScope }
+    ensures law { StatesKeepScope }
 {}
 
 /// The formula in which a body or a branch ends is in the scope of its context with the result.
 pub fn ends_keep_scope()
-    ensures { EndsKeepScope }
+    ensures law { EndsKeepScope }
 {}
 
 /// Going past so many variables is the shift by their count, from 0 on.
@@ -22,5 +22,5 @@ pub fn past_is_a_shift()
 
 /// The states and obligations of small programs, worked out by hand.
 pub fn worked_states()
-    ensures { WorkedStates }
+    ensures examples { WorkedStates }
 {}

@@ -7,12 +7,12 @@ ghost use Rattle.theory_typing.specs.Laws.{TypingGivesOne, WorkedTyping};
 
 /// A phrase has at most one type, one canonical form and one list of obligations.
 pub fn typing_gives_one()
-    ensures { TypingGivesOne }
+    ensures law { TypingGivesOne }
 {}
 
 /// Small derivations, and phrases that have none, worked out by hand.
 pub fn worked_typing()
-    ensures { WorkedTyping }
+    ensures examples { WorkedTyping }
 {}
 
 /// What the values, definitions and predicates of a file give, and bodies against triples with what

@@ -8,11 +8,11 @@ ghost use Rattle.theory_typing_canonical.specs.Laws.{StatesKeepCanonical, Typing
 /// A start, what a step owes, the state after it, a branch and an end are canonical where their parts
 /// are.
 pub fn states_keep_canonical()
-    ensures { StatesKeepCanonical }
+    ensures law { StatesKeepCanonical }
 {}
 
 /// In a canonical environment and context each phrase that is formed or typed has a canonical type and
 /// a canonical form, and owes canonical goals.
 pub fn typing_gives_canonical()
-    ensures { TypingGivesCanonical }
+    ensures law { TypingGivesCanonical }
 {}

@@ -2,4 +2,4 @@ use Rattle.theory_counts.proofs.Worked.{worked}
 use Rattle.theory_counts.proofs.worked_counts.Goals as goal
 
 pub returns : goal.returns
-returns c = worked
+returns c = record { examples = worked }

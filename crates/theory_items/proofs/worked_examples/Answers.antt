@@ -2,4 +2,4 @@ use Rattle.theory_items.proofs.Worked.{worked}
 use Rattle.theory_items.proofs.worked_examples.Goals as goal
 
 pub returns : goal.returns
-returns c = worked
+returns c = record { examples = worked }

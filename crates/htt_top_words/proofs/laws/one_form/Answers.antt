@@ -2,4 +2,4 @@ use Rattle.htt_top_words.proofs.FormLemmas.{one_form_lem}
 use Rattle.htt_top_words.proofs.laws.one_form.Goals as goal
 
 pub returns : goal.returns
-returns c = one_form_lem
+returns c = record { law = one_form_lem }

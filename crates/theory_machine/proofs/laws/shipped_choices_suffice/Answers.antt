@@ -2,4 +2,4 @@ use Rattle.theory_machine.proofs.Supplied.{shipped_choices_suffice_lem}
 use Rattle.theory_machine.proofs.laws.shipped_choices_suffice.Goals as goal
 
 pub returns : goal.returns
-returns c = shipped_choices_suffice_lem
+returns c = record { law = shipped_choices_suffice_lem }

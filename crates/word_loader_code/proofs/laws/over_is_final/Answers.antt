@@ -2,4 +2,4 @@ use Rattle.word_loader_code.proofs.Steps.{over_is_final_lem}
 use Rattle.word_loader_code.proofs.laws.over_is_final.Goals as goal
 
 pub returns : goal.returns
-returns c = over_is_final_lem
+returns c = record { law = over_is_final_lem }

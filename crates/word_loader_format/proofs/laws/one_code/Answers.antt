@@ -2,4 +2,4 @@ use Rattle.word_loader_format.proofs.LawProofs.{one_code_lem}
 use Rattle.word_loader_format.proofs.laws.one_code.Goals as goal
 
 pub returns : goal.returns
-returns c = one_code_lem
+returns c = record { law = one_code_lem }

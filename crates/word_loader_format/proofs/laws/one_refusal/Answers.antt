@@ -2,4 +2,4 @@ use Rattle.word_loader_format.proofs.LawProofs.{one_refusal_lem}
 use Rattle.word_loader_format.proofs.laws.one_refusal.Goals as goal
 
 pub returns : goal.returns
-returns c = one_refusal_lem
+returns c = record { law = one_refusal_lem }

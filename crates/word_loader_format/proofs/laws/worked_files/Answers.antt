@@ -8,17 +8,19 @@ pub returns : goal.returns
 unfolding little_endian number_written number_in_file headers_at headers_tests numbers_at operands_tests instr_tests after_instr after_body
     body_tests bodies_tests after_bodies file_tests
 returns c = record {
-  five_layout = refl;
-  seven_layout = refl;
-  old_tail = refl;
-  cut_magic = refl;
-  other_magic = refl;
-  cut_target = refl;
-  far_target = refl;
-  byte_after = refl;
-  last_stays = refl;
-  early_place = refl;
-  waiting_place = refl;
-  whole_place = refl;
-  unlike_places = refl;
+  examples = record {
+    five_layout = refl;
+    seven_layout = refl;
+    old_tail = refl;
+    cut_magic = refl;
+    other_magic = refl;
+    cut_target = refl;
+    far_target = refl;
+    byte_after = refl;
+    last_stays = refl;
+    early_place = refl;
+    waiting_place = refl;
+    whole_place = refl;
+    unlike_places = refl;
+  };
 }
