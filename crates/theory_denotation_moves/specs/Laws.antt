@@ -1,6 +1,5 @@
--- The states of a computation are its strongest postconditions: where a run stands in a state and what
--- is owed is true there, the step never goes wrong, and where it ends the run stands in the next state
--- beside the same frame.
+-- The states of a computation are sound: where a run stands in a state and what is owed is true there,
+-- the step never goes wrong, and where it ends the run stands in the next state beside the same frame.
 use Rattle.std.specs.Prelude.{◌≡◌, ℕ, List, ◌∷◌, Bool}
 use Rattle.htt_syntax.specs.Trees.{MonoTree, TripleTree, TermTree, FormulaTree, m_loc, m_unit, s_alloc, s_get, s_set}
 use Rattle.htt_syntax.specs.Trees.{s_free}

@@ -6,7 +6,7 @@ use Rattle.htt_syntax.specs.Trees.{s_alloc, s_get, s_set, s_free, s_if, s_claim,
 use Rattle.theory_values.specs.Values.{v_pair, value_of_op, value_of_not, value_of_eq, value_of_sel, value_of_fst, value_of_snd}
 use Rattle.theory_truth.specs.TermValue.{value_or_unit}
 use Rattle.theory_canonical.specs.Skeletons.{Skeleton, sk_o, sk_c, sk_arrow, sk_all, skeleton}
-use Rattle.theory_typing.specs.Places.{plain_ty, plain_term, plain_fix, plain_comp, plain_step, plain_terms}
+use Rattle.theory_typing.specs.Positions.{plain_ty, plain_term, plain_fix, plain_comp, plain_step, plain_terms}
 use Rattle.theory_denotation.specs.Outcomes.{ended, then_outcome, alloc_outcome, get_outcome, set_outcome, free_outcome, branch_outcome}
 use Rattle.theory_denotation.specs.Valuations.{ValuationEntry, den_mono, den_term, Valuation, entry_at, value_of_entry, running_of_entry, applied_entry}
 use Rattle.theory_denotation.specs.Valuations.{instance_entry, at_skeleton, mono_in, HeadEntries}

@@ -9,7 +9,7 @@ use Rattle.theory_truth.specs.Truth.{NotNot, Recs}
 use Rattle.theory_truth.specs.Predicates.{recs_of}
 use Rattle.theory_truth.proofs.Renamed.{both_ways}
 use Rattle.theory_canonical.specs.Skeletons.{Skeleton, sk_o, sk_c, sk_arrow, sk_all}
-use Rattle.theory_typing.specs.Places.{plain_ty, plain_triple, plain_formula}
+use Rattle.theory_typing.specs.Positions.{plain_ty, plain_triple, plain_formula}
 use Rattle.theory_denotation.specs.Valuations.{Domain, den_mono, den_heap, den_term, Valuation, mono_in, heap_in, HeadEntries}
 use Rattle.theory_denotation.specs.Satisfaction.{Satisfies, PreAt, PostAt, answer_mono}
 use Rattle.theory_denotation_types.specs.Meeting.{Meets}

@@ -3,7 +3,7 @@ use Rattle.std.specs.Prelude.{◌≡◌, ◌↔◌, List}
 use Rattle.htt_syntax.specs.Trees.{TyTree, TermTree, CompTree, FormulaTree}
 use Rattle.theory_truth.specs.Predicates.{RecTree, recs_of}
 use Rattle.theory_canonical.specs.Skeletons.{Skeleton}
-use Rattle.theory_typing.specs.Places.{plain_ty, plain_term, plain_comp, plain_formula}
+use Rattle.theory_typing.specs.Positions.{plain_ty, plain_term, plain_comp, plain_formula}
 use Rattle.theory_denotation.specs.Valuations.{Domain, Valuation, HeadEntries}
 use Rattle.theory_denotation.specs.Denotation.{term_den, comp_den}
 use Rattle.theory_denotation.specs.Satisfaction.{Satisfies}

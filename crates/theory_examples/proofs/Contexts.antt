@@ -7,7 +7,7 @@ use Rattle.theory_values.specs.Heaps.{IsHeap as IsWholeHeap, empty_heap}
 use Rattle.theory_truth.specs.Worlds.{o_mono, o_value, o_heap, IsWorld, th_mono, th_value, th_heap, world_none, world_mono, world_value, world_heap}
 use Rattle.theory_typing.specs.Contexts.{en_mono, en_heap, en_term, IsHeapEntry, HasEntryType, FormsMono, heap_here, heap_there, type_here, type_there}
 use Rattle.theory_typing.specs.Contexts.{mono_here, mono_there, forms_unit, forms_pair, forms_var}
-use Rattle.theory_typing.specs.Places.{plain_ty}
+use Rattle.theory_typing.specs.Positions.{plain_ty}
 use Rattle.theory_logic_axioms.specs.Table.{argument_sorts, count_of_words, uses_of}
 use Rattle.theory_examples.specs.Contexts.{TheWorlds, TheContexts, TheAxiomSorts}
 

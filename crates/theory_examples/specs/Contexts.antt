@@ -8,7 +8,7 @@ use Rattle.theory_values.specs.Values.{v_word, v_bool}
 use Rattle.theory_values.specs.Heaps.{empty_heap}
 use Rattle.theory_truth.specs.Worlds.{o_mono, o_value, o_heap, IsWorld, th_mono, th_value, th_heap, mono_under}
 use Rattle.theory_typing.specs.Contexts.{en_mono, en_heap, en_term, IsHeapEntry, HasEntryType, FormsMono, EndsInHoare}
-use Rattle.theory_typing.specs.Places.{plain_ty, plain_term, plain_formula}
+use Rattle.theory_typing.specs.Positions.{plain_ty, plain_term, plain_formula}
 use Rattle.theory_logic_axioms.specs.Names.{join_assoc, cell_val, block_width, pair_eta}
 use Rattle.theory_logic_axioms.specs.Table.{heap_sort, term_sort, place_sort, heaps, argument_sorts, fits_sorts}
 use Rattle.theory_logic_axioms.specs.Table.{count_of_words, uses_of}

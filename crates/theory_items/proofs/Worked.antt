@@ -7,7 +7,7 @@ use Rattle.theory_renaming.specs.Renaming.{rename_mono, rename_ty}
 use Rattle.theory_truth.specs.Atoms.{AtomsMeet, IsFounded, IsFoundedTable}
 use Rattle.theory_canonical.specs.Folding.{contractum}
 use Rattle.theory_canonical.specs.Eta.{expansion}
-use Rattle.theory_typing.specs.Places.{plain_ty}
+use Rattle.theory_typing.specs.Positions.{plain_ty}
 use Rattle.theory_typing.specs.Contexts.{Environment, Obligation, count_of, en_term, mono_here, mono_there, heap_here, type_here, type_there, FormsMono}
 use Rattle.theory_typing.specs.Contexts.{forms_word, forms_var, EndsInHoare}
 use Rattle.theory_typing.specs.Typing.{FormsFormula, forms_mono, forms_fun, forms_hoare, forms_triple, forms_tt, forms_eq, forms_rec, fits_none, fits_more}

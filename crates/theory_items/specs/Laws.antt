@@ -14,7 +14,7 @@ pub record FormedGivesCanonical : Type 0 where
       → IsFormedContext (file_shapes env) g
       → IsCanonicalContext (heads_of env) g
 
--- an item gives one environment and one list of obligations
+-- an item gives at most one environment and at most one list of obligations
 abbrev pub ItemsGiveOne : Type 0
 ItemsGiveOne =
     (env : Environment) (item : ItemTree) (next other : Environment) (o p : List Obligation)

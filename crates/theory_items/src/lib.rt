@@ -10,7 +10,7 @@ pub fn formed_is_canonical()
     ensures law { FormedGivesCanonical }
 {}
 
-/// An item gives one environment and one list of obligations.
+/// An item gives at most one environment and at most one list of obligations.
 pub fn items_give_one()
     ensures law { ItemsGiveOne }
 {}

@@ -11,7 +11,7 @@ use Rattle.theory_truth.specs.TermValue.{value_or_unit, term_value, term_values,
 use Rattle.theory_truth.specs.Truth.{NotNot, Recs, Holds}
 use Rattle.theory_truth.specs.Predicates.{recs_of}
 use Rattle.theory_truth.proofs.Renamed.{both_ways}
-use Rattle.theory_typing.specs.Places.{plain_term, plain_formula, plain_terms}
+use Rattle.theory_typing.specs.Positions.{plain_term, plain_formula, plain_terms}
 use Rattle.theory_logic_axioms_true.specs.TermLaws.{PositionsKeepTruth}
 
 pub plain_value : (w : World) (M : TermTree) → term_value w (plain_term M) ≡ term_value w M

@@ -6,7 +6,7 @@ use Rattle.theory_truth.specs.Worlds.{World}
 use Rattle.theory_truth.specs.TermValue.{term_value}
 use Rattle.theory_truth.specs.Truth.{Holds}
 use Rattle.theory_truth.specs.Predicates.{RecTree, recs_of}
-use Rattle.theory_typing.specs.Places.{plain_term, plain_formula}
+use Rattle.theory_typing.specs.Positions.{plain_term, plain_formula}
 use Rattle.theory_logic_rules.specs.Sequents.{SameTerm, SameFormula}
 
 abbrev pub FoldingKeepsValues : Type 0

@@ -34,7 +34,7 @@ pub record UnsignedOrder : Type 0 where
   pub not_below_zero : (x : ℕ) → op_value Lt x 0 ≡ v_bool false
   pub transitive : (x y z : ℕ) → IsBelow x y → IsBelow y z → IsBelow x z
   pub total : (x y : ℕ) → IsBelow x y ⊎ (x ≡ y) ⊎ IsBelow y x
-  -- a word below another is below its next word, above which the other isn't
+  -- a word below another is below its next word, which isn't above the other
   pub below_next : (x y : ℕ) → IsWord y → IsBelow x y → IsBelow x (word_op Add x 1)
   pub nothing_between : (x y : ℕ) → IsWord y → IsBelow x y → op_value Lt y (word_op Add x 1) ≡ v_bool false
   pub before_is_below : (x : ℕ) → IsWord x → (x ≡ 0 → ⊥) → IsBelow (word_op Sub x 1) x

@@ -8,7 +8,7 @@ use Rattle.theory_canonical.specs.Skeletons.{sk_o}
 use Rattle.theory_canonical.specs.Eta.{expansion}
 use Rattle.theory_substitution.specs.Closing.{closing}
 use Rattle.theory_substitution.specs.Substitution.{SubTerm, u_f_eq, u_f_rec, u_no_terms, u_more_terms, u_word, u_bin, u_kept, u_reduced, k_var, r_var}
-use Rattle.theory_typing.specs.Places.{plain_formula}
+use Rattle.theory_typing.specs.Positions.{plain_formula}
 use Rattle.theory_typing.specs.Contexts.{Context, forms_word, heap_here, type_here, type_there}
 use Rattle.theory_typing.specs.Typing.{forms_eq, fits_given, gives_var, gives_word}
 use Rattle.theory_logic_axioms.specs.Names.{AxiomName, emp_some, lt_zero, text_of}

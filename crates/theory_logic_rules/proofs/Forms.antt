@@ -8,7 +8,7 @@ use Rattle.theory_canonical.specs.Folding.{contractum}
 use Rattle.theory_canonical.specs.Eta.{expansion}
 use Rattle.theory_substitution.specs.Closing.{closing}
 use Rattle.theory_substitution.specs.Substitution.{u_f_tt, u_f_eq, u_f_or, u_word, u_bool}
-use Rattle.theory_typing.specs.Places.{plain_formula, plain_term}
+use Rattle.theory_typing.specs.Positions.{plain_formula, plain_term}
 use Rattle.theory_typing.specs.Contexts.{Context, forms_word, forms_bool, heap_here, heap_there, type_here}
 use Rattle.theory_typing.specs.Typing.{FormsFormula, Fits, in_formula, forms_tt, forms_eq, forms_or, forms_emp, fits_given, gives_var, gives_word, gives_bool}
 use Rattle.theory_typing.specs.Typing.{gives_bin}

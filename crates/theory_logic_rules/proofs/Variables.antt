@@ -7,7 +7,7 @@ use Rattle.theory_canonical.specs.Eta.{expansion}
 use Rattle.theory_substitution.specs.Closing.{closing}
 use Rattle.theory_substitution.specs.Substitution.{u_f_eq, u_f_and, u_f_ex_t, u_f_ex_h, u_f_join, u_f_cell, u_f_rec, u_no_terms, u_more_terms, u_word, u_bin}
 use Rattle.theory_substitution.specs.Substitution.{u_snd}
-use Rattle.theory_typing.specs.Places.{plain_formula}
+use Rattle.theory_typing.specs.Positions.{plain_formula}
 use Rattle.theory_typing.specs.Contexts.{forms_word, heap_here, heap_there, type_here, type_there}
 use Rattle.theory_typing.specs.Typing.{forms_eq, fits_given, gives_var, gives_word, gives_bin}
 use Rattle.theory_logic_rules.specs.Sequents.{putting, raised_term, terms_of, put_none, put_term_first, put_heap_first, fits_no_args, fits_heap_arg}

@@ -8,7 +8,7 @@ use Rattle.theory_renaming.specs.Renaming.{Map, lifts, rename_term, rename_formu
 use Rattle.theory_canonical.specs.Skeletons.{sk_o}
 use Rattle.theory_canonical.specs.Folding.{folding}
 use Rattle.theory_substitution.specs.Substitution.{SubFormula}
-use Rattle.theory_typing.specs.Places.{plain_term, plain_formula}
+use Rattle.theory_typing.specs.Positions.{plain_term, plain_formula}
 use Rattle.theory_typing.specs.Contexts.{Context, Environment, IsHeapEntry, FormsMono}
 use Rattle.theory_typing.specs.Typing.{in_formula, Fits}
 use Rattle.theory_logic_axioms.specs.Table.{ArgSort, heap_sort, term_sort}

@@ -16,7 +16,7 @@ use Rattle.theory_canonical.specs.Folding.{contractum}
 use Rattle.theory_canonical.specs.Eta.{expansion}
 use Rattle.theory_substitution.specs.Closing.{closing}
 use Rattle.theory_substitution.specs.Substitution.{u_y_mono, u_bin, u_reduced, u_word, r_var, u_f_emp}
-use Rattle.theory_typing.specs.Places.{plain_ty}
+use Rattle.theory_typing.specs.Positions.{plain_ty}
 use Rattle.theory_typing.specs.Contexts.{EndsInHoare, type_here, forms_word}
 use Rattle.theory_typing.specs.Typing.{forms_eq, gives_var, gives_word, gives_def, gives_app, gives_bin, fits_lam, fits_given}
 use Rattle.theory_logic_rules.specs.Rules.{infers_hyp, infers_inst_term}

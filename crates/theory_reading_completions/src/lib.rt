@@ -1,5 +1,6 @@
-//! Where a reader stops, what it read begins some tree; and where it stops at a limit, so does what it
-//! read with the refused token. A function without a body states laws by its contract.
+//! With which tokens phrases begin; and in `proofs/`, on which the crate of refusals stands: where a
+//! reader stops, what it read begins some tree, and at a limit so does what it read with the refused
+//! token. A function without a body states laws by its contract.
 #![tactic(auto)]
 
 ghost use Rattle.theory_reading_completions.specs.Laws.{CompStarts, DeclStarts, FormulaStarts, MonoStarts, ProofStarts, TermStarts, TypeStarts};

@@ -75,7 +75,9 @@ after (move_alloc t N) R =
 after (move_get t M) R =
     f_and (rename_formula (at_heaps 0 1 3) R)
     (f_ex_h (f_ex_h (f_and (f_cell (rename_mono (past 5) t) 1 (rename_term (past 5) M) (t_var 4)) (f_join 2 1 0))))
--- ex b, g, n, k : heap . R[b] /\ Block[t](g, M) /\ Join(b, g, k) /\ Cell[t](n, M, N) /\ Join(mem, n, k)
+-- ex b : heap . ex g : heap . ex n : heap . ex k : heap .
+--   R[b] /\ Block[t](g, M) /\ Join(b, g, k) /\ Cell[t](n, M, N) /\ Join(mem, n, k)
+-- as indices: k is 0, n 1, g 2, b 3, mem 4, init 5, x 6, and the others come from 7 on
 after (move_set t M N) R =
     f_ex_h (f_ex_h (f_ex_h (f_ex_h
     (f_and (rename_formula (at_heaps 3 5 7) R)
@@ -86,8 +88,8 @@ after (move_set t M N) R =
 after (move_free t M) R =
     f_ex_h (f_ex_h (f_and (rename_formula (at_heaps 1 3 5) R)
     (f_and (f_block (rename_mono (past 5) t) 0 (rename_term (past 5) M)) (f_join 1 0 2))))
--- ex b : heap . R[b] /\ [all g : heap . all k : heap . [Join(b, g, k) /\ P[g]] => ex n : heap . Join(mem, n, k) /\ Q[g,
--- n, x]]
+-- ex b : heap . R[b] /\ [all g : heap . all k : heap . [Join(b, g, k) /\ P[g]]
+--   => ex n : heap . Join(mem, n, k) /\ Q[g, n, x]]
 after (move_run (triple P t Q)) R =
     f_ex_h (f_and (rename_formula (at_heaps 0 2 4) R)
     (f_all_h (f_all_h (f_imp (f_and (f_join 2 1 0) (rename_formula (at_heap 1 6) P))

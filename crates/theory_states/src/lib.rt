@@ -1,5 +1,5 @@
-//! The states of a computation on the logic side: the strongest postcondition of each step, and
-//! what each step owes. A function without a body states a law by its contract.
+//! The states of a computation on the logic side: the postcondition of each step, written to be the
+//! strongest, and what each step owes. A function without a body states a law by its contract.
 #![tactic(auto)]
 
 ghost use Rattle.theory_states.specs.Laws.{StatesKeepScope, EndsKeepScope, PastIsAShift, WorkedStates};

@@ -349,7 +349,7 @@ module _ (items : Items) (env : Environment) (e : HeadEntries) (known : IsCanoni
         alike_with (mono_in w mono) (value_of j v term) (IsValue (mono_in w mono) (term_den e w term' sk_o)) (λ u. done u h cs)
         (ended (term_den e w term' sk_o) h cs) (value_do p c a j) (λ u hu. (hu.0, hu.1, refl, refl))
     runs_do {g = g} {k = k} {v = v} {w = w}
-        (runs_step {step = step} {left_mono = left} {part = part} {mono = mono} {others = others} {others' = others'} p q s) mc sc c a j n
+        (runs_step {step = step} {step_mono = left} {part = part} {mono = mono} {others = others} {others' = others'} p q s) mc sc c a j n
         below le h cs =
         let x = moved env known c sc p in
         let inner = term_entry c (n_mono x.mono) in

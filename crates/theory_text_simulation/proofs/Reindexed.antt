@@ -10,7 +10,7 @@ use Rattle.theory_canonical.specs.Contexts.{Standing, as_mono, as_term, Heads}
 use Rattle.theory_canonical.specs.Canonical.{IsCanonicalTy, n_mono, n_fun, n_all, n_hoare}
 use Rattle.theory_substitution.specs.Monotypes.{Filling, fill_ty}
 use Rattle.theory_substitution.specs.Substitution.{SubTy, u_y_mono, u_y_fun, u_y_all, u_y_hoare}
-use Rattle.theory_typing.specs.Places.{plain_ty}
+use Rattle.theory_typing.specs.Positions.{plain_ty}
 use Rattle.theory_denotation.specs.Valuations.{Domain, den_mono, den_term, Valuation, HeadEntries}
 use Rattle.theory_denotation.specs.Valued.{ContextValued, HeadsValued}
 use Rattle.theory_denotation.proofs.HeadsDenote.{valued_term, valued_other}

@@ -10,7 +10,7 @@ use Rattle.theory_canonical.specs.Skeletons.{Skeleton, skeleton}
 use Rattle.theory_canonical.specs.Contexts.{Heads}
 use Rattle.theory_canonical.specs.Canonical.{IsCanonicalTy}
 use Rattle.theory_typing.specs.Contexts.{Environment}
-use Rattle.theory_typing.specs.Places.{plain_ty}
+use Rattle.theory_typing.specs.Positions.{plain_ty}
 use Rattle.theory_typing_canonical.specs.Environments.{heads_of}
 use Rattle.theory_denotation.specs.Outcomes.{Running}
 use Rattle.theory_denotation.specs.Valuations.{Domain, Valuation, HeadEntries}

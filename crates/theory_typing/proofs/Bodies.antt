@@ -12,7 +12,7 @@ use Rattle.theory_canonical.specs.Eta.{expansion}
 use Rattle.theory_substitution.specs.Closing.{closing}
 use Rattle.theory_substitution.specs.Monotypes.{fill_term, fill_mono, next_filling, put_mono}
 use Rattle.theory_substitution.specs.Substitution.{u_y_mono, u_bin, u_reduced, u_word, u_ret, r_var, b_ret, b_step}
-use Rattle.theory_typing.specs.Places.{plain_ty}
+use Rattle.theory_typing.specs.Positions.{plain_ty}
 use Rattle.theory_typing.specs.Contexts.{count_of, Obligation, en_term, en_heap, type_here, type_there, heap_here, forms_word}
 use Rattle.theory_typing.specs.Typing.{in_formula, FormsFormula, Gives, FitsBody, FitsAll, forms_mono, forms_tt, forms_emp, forms_eq, forms_rec, forms_triple}
 use Rattle.theory_typing.specs.Typing.{fits_none, fits_more, gives_var, gives_val, gives_def, gives_word, gives_bool, gives_app, gives_inst, gives_bin}

@@ -8,7 +8,7 @@ use Rattle.theory_canonical.specs.Folding.{contractum}
 use Rattle.theory_canonical.specs.Eta.{expansion}
 use Rattle.theory_substitution.specs.Closing.{closing}
 use Rattle.theory_substitution.specs.Substitution.{u_y_mono, u_bin, u_reduced, u_word, r_var}
-use Rattle.theory_typing.specs.Places.{plain_ty}
+use Rattle.theory_typing.specs.Positions.{plain_ty}
 use Rattle.theory_typing.specs.Contexts.{Obligation, type_here, forms_word, IsComparable}
 use Rattle.theory_typing.specs.Typing.{in_program, in_formula, Gives, Fits, forms_mono, forms_fun, forms_formula_at, forms_ex_t, forms_eq, gives_var}
 use Rattle.theory_typing.specs.Typing.{gives_word, gives_bool, gives_app, gives_ann, gives_bin, gives_eq, fits_lam, fits_given, fits_at, fits_body, runs_ret}

@@ -1,4 +1,4 @@
-pub mod Places
+pub mod Positions
 pub mod Contexts
 pub mod Typing
 pub mod Laws

@@ -4,6 +4,8 @@
 -- A term gives a type, or fits a type that is expected. A term that is written in a formula has no
 -- computation and no recursive function in it. A computation is checked against a triple by the
 -- states of `theory_states`: each step goes on from a state, and owes what its move owes there.
+--
+-- x' is the canonical form of x; o, p and q are what is owed.
 use Rattle.std.specs.Prelude.{◌≡◌, ℕ, zero, suc, Bool, true, false, List, [], ◌∷◌, ◌++◌, length, Option, Some, None}
 use Rattle.std.specs.Prelude.{slice_get}
 use Rattle.htt_syntax.specs.declared.mono.Op.{Op}
@@ -24,7 +26,7 @@ use Rattle.theory_canonical.specs.Folding.{folding}
 use Rattle.theory_canonical.specs.Eta.{eta}
 use Rattle.theory_substitution.specs.Monotypes.{put_mono_term, put_mono_ty}
 use Rattle.theory_substitution.specs.Substitution.{SubTerm, SubTy, SubComp, Bind}
-use Rattle.theory_typing.specs.Places.{plain_ty}
+use Rattle.theory_typing.specs.Positions.{plain_ty}
 use Rattle.theory_typing.specs.Contexts.{en_mono, en_heap, en_term, Context, Environment, IsHeapEntry, HasEntryType}
 use Rattle.theory_typing.specs.Contexts.{FormsMono, Obligation, IsComparable, count_of}
 
@@ -48,6 +50,11 @@ with_heaps g = en_heap ∷ en_heap ∷ g
 abbrev pub owes : Context → Option FormulaTree → List Obligation
 owes g None = []
 owes g (Some goal) = record { context = with_heaps g; goal = goal } ∷ []
+
+-- what a body owes at its end, under its result
+abbrev pub owes_at_end : Context → FormulaTree → List MonoTree → MonoTree → TermTree → FormulaTree → List Obligation
+owes_at_end g end zs mono value post =
+    record { context = with_heaps (en_term (y_mono mono) ∷ g); goal = last (finish end zs mono value) post } ∷ []
 
 -- what a step becomes in a canonical computation: a step, the computation that it runs, or nothing,
 -- and then its variable is ()
@@ -299,10 +306,7 @@ mutual
     fits_body : {g : Context} {mono : MonoTree} {pre : FormulaTree} {comp : CompTree} {end : FormulaTree}
         {zs : List MonoTree} {last_value : TermTree} {comp' : CompTree} {o : List Obligation} {post : FormulaTree}
         → Runs env g mono (start pre) comp end zs last_value comp' o
-        → FitsBody env g comp (triple pre mono post) comp'
-        (o ++
-        record { context = with_heaps (en_term (y_mono mono) ∷ g); goal = last (finish end zs mono last_value) post } ∷
-        [])
+        → FitsBody env g comp (triple pre mono post) comp' (o ++ owes_at_end g end zs mono last_value post)
 
   -- a computation runs from a state, for a result of this monotype, to an end: its state, the
   -- monotypes of its steps' variables, and its result
@@ -312,13 +316,13 @@ mutual
         {state : FormulaTree}
         → Fits env in_program g term (y_mono mono) term' o
         → Runs env g mono state (c_ret term) state [] term' (c_ret term') o
-    runs_step : {g : Context} {state : FormulaTree} {step : StepTree} {left_mono : MonoTree} {next : FormulaTree}
+    runs_step : {g : Context} {state : FormulaTree} {step : StepTree} {step_mono : MonoTree} {next : FormulaTree}
         {part : Part} {o : List Obligation} {mono : MonoTree} {others : CompTree} {end : FormulaTree}
         {zs : List MonoTree} {last_value : TermTree} {others' : CompTree} {p : List Obligation} {result : CompTree}
-        → Moves env g state step left_mono next part o
-        → Runs env (en_term (y_mono left_mono) ∷ g) (rename_mono suc mono) next others end zs last_value others' p
+        → Moves env g state step step_mono next part o
+        → Runs env (en_term (y_mono step_mono) ∷ g) (rename_mono suc mono) next others end zs last_value others' p
         → Joined part others' result
-        → Runs env g mono state (c_step step others) end (left_mono ∷ zs) last_value result (o ++ p)
+        → Runs env g mono state (c_step step others) end (step_mono ∷ zs) last_value result (o ++ p)
 
   -- a step goes on from a state: the monotype of its variable, the next state, what it becomes, and
   -- what it owes, its terms first
@@ -346,6 +350,7 @@ mutual
         → Fits env in_program g place (y_mono m_loc) place' o
         → Moves env g state (s_free mono place) m_unit (after (move_free mono place') state)
         (part_step (s_free mono place')) (o ++ owes g (owed (move_free mono place') state))
+    -- the monotype that a run is written with isn't looked at
     moves_run : {g : Context} {term : TermTree} {pre : FormulaTree} {mono : MonoTree} {post : FormulaTree}
         {comp : CompTree} {o : List Obligation} {state : FormulaTree} {given : Option MonoTree}
         → Gives env in_program g term (y_hoare (triple pre mono post)) (t_do comp) o

@@ -19,7 +19,7 @@ use Rattle.theory_canonical.proofs.Renamed.{keeps_suc, skeleton_stays, mono_rena
 use Rattle.theory_substitution_total.specs.Insertion.{ins_here}
 use Rattle.theory_substitution_total.specs.Laws.{MayBePut}
 use Rattle.theory_substitution_total.proofs.Results.{comp_result, bind_result}
-use Rattle.theory_typing.specs.Places.{plain_ty}
+use Rattle.theory_typing.specs.Positions.{plain_ty}
 use Rattle.theory_typing.specs.Contexts.{en_term, Context, IsMonoEntry, mono_here, mono_there, IsHeapEntry, heap_here, heap_there, HasEntryType, type_here}
 use Rattle.theory_typing.specs.Contexts.{type_there, FormsMono, forms_word, forms_bool, forms_loc, forms_unit, forms_pair, forms_var, Obligation}
 use Rattle.theory_typing.specs.Typing.{Part, part_step, part_comp, part_unit, Joined, joined_step, joined_comp, joined_unit, with_heaps, owes}

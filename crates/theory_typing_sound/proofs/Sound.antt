@@ -47,7 +47,7 @@ use Rattle.theory_denotation_types.proofs.Recursions.{recursion_means}
 use Rattle.theory_denotation_types.proofs.Given.{given as entries_given, context_valued}
 use Rattle.theory_denotation_positions.proofs.Plain.{plain_skeleton}
 use Rattle.theory_denotation_positions.proofs.PlainTruth.{means_plain}
-use Rattle.theory_typing.specs.Places.{plain_ty}
+use Rattle.theory_typing.specs.Positions.{plain_ty}
 use Rattle.theory_denotation_moves.specs.States.{NextState, InState}
 use Rattle.theory_denotation_moves.proofs.Agreeing.{into, out_of}
 use Rattle.theory_denotation_moves.proofs.Sound.{sound as moves_sound}
@@ -279,7 +279,7 @@ module _ (table : List RecTree) (env : Environment) (e : HeadEntries) (known : I
     runs_means (runs_ret a) mc sc c k t n init mem frame whole cs s i =
         (record { own = mem; parts = s.parts; is_heap = s.is_heap; typed = value_means a c k t; holds = (s.state, refl) }, s.words)
     runs_means {g = g} {w = w}
-        (runs_step {left_mono = left} {next = next} {part = part} {o = o} {mono = mono} {end = end} {zs = zs} {last_value = value}
+        (runs_step {step_mono = left} {next = next} {part = part} {o = o} {mono = mono} {end = end} {zs = zs} {last_value = value}
         {others' = others'} {p = p} a b j) mc sc c k t n init mem frame whole cs s i =
         let x = moved env known c sc a in
         let inner = term_entry c (n_mono x.mono) in

@@ -6,7 +6,7 @@ use Rattle.theory_canonical.specs.Skeletons.{Skeleton}
 use Rattle.theory_substitution.specs.Closing.{closing}
 use Rattle.theory_substitution.specs.Monotypes.{Filling, next_filling, fill_mono, fill_ty}
 use Rattle.theory_substitution.specs.Substitution.{SubTy, u_y_mono, u_y_fun, u_y_all, u_y_hoare}
-use Rattle.theory_typing.specs.Places.{plain_ty}
+use Rattle.theory_typing.specs.Positions.{plain_ty}
 use Rattle.theory_typing.specs.Contexts.{EntryTree, en_mono, en_heap, en_term, Context, HasEntryType, type_here, type_there, EndsInHoare}
 use Rattle.theory_logic_sorts.specs.Sorts.{Sorts, for_mono, for_value, HasSort, SortedMono}
 use Rattle.theory_typing_shapes.specs.Shapes.{Shape, sh_mono, sh_fun, sh_all, fill_shape, renaming_of, up_shape, dropping, shape_of, EndsInComp}

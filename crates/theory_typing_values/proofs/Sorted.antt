@@ -4,7 +4,7 @@ use Rattle.htt_syntax.specs.Trees.{MonoTree, TyTree, TermTree, TermTrees, Formul
 use Rattle.theory_values.specs.Values.{HasType}
 use Rattle.theory_truth.specs.Worlds.{World, FirstOrder, IsWorld, mono_under}
 use Rattle.theory_truth.specs.TermValue.{term_value}
-use Rattle.theory_typing.specs.Places.{plain_ty}
+use Rattle.theory_typing.specs.Positions.{plain_ty}
 use Rattle.theory_typing.specs.Contexts.{EntryTree, en_mono, en_heap, en_term, Context, Environment, IsHeapEntry, heap_here, heap_there, Obligation}
 use Rattle.theory_typing.specs.Contexts.{IsComparable, compares_word, compares_bool, compares_loc}
 use Rattle.theory_typing.specs.Typing.{Mode, Gives, Fits, FitsAll, fits_none, fits_more, FormsFormula, fits_lam, fits_lam_t, fits_pair, fits_do, fits_given}

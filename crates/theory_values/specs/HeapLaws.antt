@@ -28,7 +28,7 @@ pub record HeapLaws : Type 0 where
   -- a part of a heap is a heap, and two disjoint heaps have a heap as their union
   pub part_is_heap : {h a b : Heap} → IsJoin h a b → IsHeap h → IsHeap a × IsHeap b
   pub join_is_heap : {h a b : Heap} → IsJoin h a b → IsHeap a → IsHeap b → IsHeap h
-  -- one block
+  -- one block; a heap, where its place and its words are words
   pub single_is_only : (l : ℕ) (b : Block) → IsOnly (single_block l b) l b
   pub only_is_heap : {h : Heap} {l : ℕ} {b : Block} → IsOnly h l b → 0 < l → IsWord l → All IsWord b → IsHeap h
   -- two parts of one block at one place are the same, and so is what is left

@@ -12,7 +12,8 @@ pub record ValueLaws : Type 0 where
   -- the encoding is words, as many as the monotype is wide
   pub encoding_is_as_wide : {v : Value} {t : MonoTree} → HasType v t → length (encoding v) ≡ width t
   pub encoding_is_words : {v : Value} {t : MonoTree} → HasType v t → All IsWord (encoding v)
-  -- encodings in a row split in one way only, and an encoding tells its value
+  -- encodings in a row split in one way only, and an encoding tells its value of one
+  -- monotype
   pub encodings_split : {v u : Value} {t : MonoTree}
       → HasType v t
       → HasType u t

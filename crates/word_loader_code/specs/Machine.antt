@@ -123,8 +123,8 @@ effect code f i h stack choices = row i
     becomes : ℕ → List ℕ → Machine
     becomes d words = going h (goes_on stack next (with_words locals d words)) choices
 
-    leaves : Heap → Machine
-    leaves heap = going heap (goes_on stack next locals) choices
+    goes_on_with : Heap → Machine
+    goes_on_with heap = going heap (goes_on stack next locals) choices
 
     jumps : ℕ → Machine
     jumps target = going h (goes_on stack target locals) choices
@@ -140,12 +140,12 @@ effect code f i h stack choices = row i
     row (Get d p n) = at_block kind.Get (local_at locals p) (h (local_at locals p)) n (λ block. becomes d block)
     row (Set p s n) =
         at_block kind.Set (local_at locals p) (h (local_at locals p)) n
-        (λ block. leaves (with_block h (local_at locals p) (words_at locals s n)))
+        (λ block. goes_on_with (with_block h (local_at locals p) (words_at locals s n)))
     row (Free p n) =
         at_block kind.Free (local_at locals p) (h (local_at locals p)) n
-        (λ block. leaves (without_block h (local_at locals p)))
+        (λ block. goes_on_with (without_block h (local_at locals p)))
     row (Jump target) = jumps target
-    row (Jz c target) = if nat_eq (local_at locals c) 0 then jumps target else leaves h
+    row (Jz c target) = if nat_eq (local_at locals c) 0 then jumps target else goes_on_with h
     row (Call g a d) = called (slice_get code.functions g) h stack g choices a d
     row (Ret s) = returned h stack (words_at locals s f.result) choices
     row (Tail g a) = replaced (slice_get code.functions g) h stack g choices a
