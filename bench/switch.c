@@ -1,5 +1,5 @@
 /* A plain switch interpreter of valid code files, to compare speeds with. It trusts its input: it tests
-   the step limit, but neither the format nor the limits of frames and heap, and it knows no heap. */
+   the step limit, but neither the format nor the limits of frames and heap. Its heap is a table by location. */
 #include <inttypes.h>
 #include <stdio.h>
 #include <stdlib.h>
@@ -7,6 +7,7 @@
 
 struct instr { uint8_t op, o; uint16_t d, a, b, n; uint32_t t; uint64_t v; };
 struct function { uint32_t params, locals, result, count; struct instr *body; };
+struct block { uint64_t *words; uint32_t size; }; /* the words plus 1, or 0 where there is no block */
 struct frame { struct function *f; uint32_t next, base, into; };
 
 static uint64_t number(const uint8_t **at, int bytes) {
@@ -21,12 +22,15 @@ static struct instr instr_of(const uint8_t **at) {
     case 0x0: i.d = number(at, 2); i.v = number(at, 8); break;
     case 0x1: i.d = number(at, 2); i.a = number(at, 2); i.n = number(at, 2); break;
     case 0x2: i.d = number(at, 2); i.o = number(at, 1); i.a = number(at, 2); i.b = number(at, 2); break;
+    case 0x4: case 0x5: i.d = number(at, 2); i.a = number(at, 2); i.n = number(at, 2); break;
+    case 0x6: i.a = number(at, 2); i.b = number(at, 2); i.n = number(at, 2); break;
+    case 0x7: i.a = number(at, 2); i.n = number(at, 2); break;
     case 0x8: i.t = number(at, 4); break;
     case 0x9: i.a = number(at, 2); i.t = number(at, 4); break;
     case 0xa: i.t = number(at, 4); i.a = number(at, 2); i.d = number(at, 2); break;
     case 0xb: i.a = number(at, 2); break;
     case 0xc: i.t = number(at, 4); i.a = number(at, 2); break;
-    default: fprintf(stderr, "no such instruction here: %d\n", i.op); exit(2);
+    default: fprintf(stderr, "no such instruction here: %d\n", i.op); exit(2); /* sel */
     }
     return i;
 }
@@ -66,6 +70,27 @@ static struct function *load(const char *path) {
     return functions;
 }
 
+static struct block *blocks;
+static uint64_t fresh, room;
+
+static uint64_t put(const uint64_t *words, uint16_t n) {
+    if (++fresh >= room) {
+        uint64_t more = room ? 2 * room : 1024;
+        blocks = realloc(blocks, more * sizeof *blocks);
+        memset(blocks + room, 0, (more - room) * sizeof *blocks);
+        room = more;
+    }
+    blocks[fresh] = (struct block){ malloc(n * 8), n + 1 };
+    memcpy(blocks[fresh].words, words, n * 8);
+    return fresh;
+}
+
+static struct block *at(const char *kind, uint64_t l, uint16_t n) {
+    if (l <= fresh && l < room && blocks[l].size == n + 1u) return &blocks[l];
+    printf("fault %s %" PRIu64 "\n", kind, l);
+    exit(9);
+}
+
 int main(int argc, char **argv) {
     if (argc != 3) { fprintf(stderr, "usage: switch CODE STEPS\n"); return 2; }
     struct function *functions = load(argv[1]);
@@ -80,6 +105,16 @@ int main(int argc, char **argv) {
         case 0x0: locals[i->d] = i->v; top->next++; break;
         case 0x1: memmove(locals + i->d, locals + i->a, i->n * 8); top->next++; break;
         case 0x2: locals[i->d] = op_value(i->o, locals[i->a], locals[i->b]); top->next++; break;
+        case 0x4: locals[i->d] = put(locals + i->a, i->n); top->next++; break;
+        case 0x5: memcpy(locals + i->d, at("get", locals[i->a], i->n)->words, i->n * 8); top->next++; break;
+        case 0x6: memcpy(at("set", locals[i->a], i->n)->words, locals + i->b, i->n * 8); top->next++; break;
+        case 0x7: {
+            struct block *b = at("free", locals[i->a], i->n);
+            free(b->words);
+            *b = (struct block){ 0 };
+            top->next++;
+            break;
+        }
         case 0x8: top->next = i->t; break;
         case 0x9: top->next = locals[i->a] ? top->next + 1 : i->t; break;
         case 0xa: {

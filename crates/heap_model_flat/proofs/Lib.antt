@@ -5,4 +5,5 @@ pub mod ChangedListing
 pub mod SpanLemmas
 pub mod WriteLemmas
 pub mod SizeLemmas
+pub mod MoveLemmas
 pub mod BlockLemmas

@@ -17,7 +17,7 @@ use Rattle.heap_model_flat.specs.Spans.{span_words, span_at, flat_blocks, AreLai
 use Rattle.heap_model_flat.proofs.TableLemmas.{equal_keys, no_later}
 use Rattle.heap_model_flat.proofs.ListingLemmas.{table_sized}
 
-in_tail : (p : ℕ × Span) (es : List (ℕ × Span)) (l : ℕ) (s : Span)
+pub in_tail : (p : ℕ × Span) (es : List (ℕ × Span)) (l : ℕ) (s : Span)
     → AllByRecursion (λ y. nat_cmp p.0 y ≡ Less) (keys_of es)
     → span_at es l ≡ Some s
     → span_at (p ∷ es) l ≡ Some s
@@ -28,7 +28,7 @@ in_tail p es l s a h =
     none_is_no_span : None ≡ Some s → ⊥
     none_is_no_span e = cc
 
-at_first : (p : ℕ × Span) (es : List (ℕ × Span)) → span_at (p ∷ es) p.0 ≡ Some p.1
+pub at_first : (p : ℕ × Span) (es : List (ℕ × Span)) → span_at (p ∷ es) p.0 ≡ Some p.1
 at_first p es = let b = equal_keys p.0 p.0 in grind (arith, nat_tests)
 
 module _ (ws : List ℕ) where

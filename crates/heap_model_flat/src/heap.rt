@@ -1,17 +1,19 @@
 //! `Heap`: all blocks in one vector of words, beside a table from each location to the span of its
-//! block. `put` appends its block, so the span that stood at the location before is dead, as is one
-//! that was removed. Where more words are dead than the heap is large, `put` first builds the heap
-//! anew without them: so the vector grows only while at most half of it and of the table is dead,
-//! and as many words must die again before the next such time, which pays for it.
+//! block. `put` appends its block, so the words that stood at the location before are dead, as are
+//! those of a block that was removed; but a block whose words are the last is cut off. Where more
+//! words are dead than live, and eight more for each block, `put` first squeezes the dead ones out:
+//! it copies the live words to a vector of their own and moves the spans within the table. Each word
+//! dies once, so all squeezing together copies fewer words than were written.
 
-ghost use Rattle.std.specs.Prelude.{◌≡◌, ◌+◌, ◌<◌, ◌≤◌, length, option_map, option_copied, unwrap_or, sum_by, IfOk, OnOk, OnErr, MatchOption};
+ghost use Rattle.std.specs.Prelude.{◌≡◌, ◌+◌, ◌<◌, ◌≤◌, ◌^◌, length, option_map, option_copied, unwrap_or, sum_by, IfOk, OnOk, OnErr, MatchOption};
 ghost use Rattle.std.specs.Bool.{OnTrue, OnFalse};
-ghost use Rattle.std.specs.BTreeMap.{values};
+ghost use Rattle.std.specs.Ordering.{nat_cmp};
+ghost use Rattle.std.specs.BTreeMap.{values, IsOrdered};
 ghost use Rattle.theory_values.specs.Heaps.{IsHeap, empty_heap, with_block, without_block};
 ghost use Rattle.theory_meaning.specs.Choices.{IsGreatest};
 ghost use Rattle.heap_model_flat.specs.Listing.{IsSize};
 ghost use Rattle.heap_model_flat.specs.Places.{IsLeastAbove, NoneAbove, is_of_length};
-ghost use Rattle.heap_model_flat.specs.Spans.{span_words, flat_blocks, with_span_words, AreLaidOut};
+ghost use Rattle.heap_model_flat.specs.Spans.{span_words, flat_blocks, with_span_words, live_words, moved_spans, AreLaidOut};
 
 use crate::span::Span;
 use std::alloc::{AllocError, Global};
@@ -71,15 +73,12 @@ impl Heap {
         ensures ok { OnOk result (blocks_of self.new ≡ with_block (blocks_of self.old) at block.now) }
         ensures err { OnErr result (blocks_of self.new ≡ blocks_of self.old) }
     {
-        let span = Span {
-            start: self.words.len(),
-            len: block.len(),
-        };
+        let end = self.words.len();
         self.words.extend_from_slice(block)?;
-        match self.table.insert(at, span) {
+        match self.table.insert(at, Span::new(end, block.len())) {
             Ok(old) => self.dead += len_of(old),
             Err(_) => {
-                self.words.truncate(span.start);
+                self.words.truncate(end);
                 return Err(AllocError);
             }
         }
@@ -93,21 +92,49 @@ impl Heap {
         ensures ok { OnOk result (blocks_of self.new ≡ with_block (blocks_of self.old) at block.items) }
         ensures err { OnErr result (blocks_of self.new ≡ blocks_of self.old) }
     {
-        if self.dead as u64 > self.size() {
-            *self = self.squeezed()?;
-        }
-        self.append(at, &block)
+        self.put_words(at, &block)
     }
 
-    /// The same heap, with its words in the order of the table and none of them dead.
-    fn squeezed(&self) -> Result<Heap, AllocError>
-        ensures same { IfOk result (λ heap. blocks_of heap ≡ blocks_of self.now) }
+    /// `put` with a copy of the words.
+    pub fn put_words(&mut self, at: u64, words: &[u64]) -> Result<(), AllocError>
+        requires { 0 < at }
+        ensures ok { OnOk result (blocks_of self.new ≡ with_block (blocks_of self.old) at words.now) }
+        ensures err { OnErr result (blocks_of self.new ≡ blocks_of self.old) }
     {
-        let mut heap = Heap::new(self.alloc);
-        for (at, span) in &self.table {
-            heap.append(*at, self.span_words(span))?;
+        if self.pays_for_squeezing() {
+            self.squeeze()?;
         }
-        Ok(heap)
+        self.append(at, words)
+    }
+
+    /// Whether so many words are dead that they pay for copying the live ones and for moving the
+    /// span of each block, which counts as eight words.
+    fn pays_for_squeezing(&self) -> bool {
+        let live = self.words.len() - self.dead;
+        self.dead.saturating_sub(live) / 8 > self.table.len()
+    }
+
+    /// Leaves the dead words out, so that the live ones stand in the order of the table. Where memory
+    /// is wanting nothing has changed.
+    fn squeeze(&mut self) -> Result<(), AllocError>
+        ensures same { blocks_of self.new ≡ blocks_of self.old }
+    {
+        let words = self.live_words()?;
+        move_spans(&mut self.table);
+        self.words = words;
+        self.dead = 0;
+        Ok(())
+    }
+
+    /// The words of all blocks, in the order of the table.
+    fn live_words(&self) -> Result<Vec<u64>, AllocError>
+        ensures { IfOk result (λ words. words.items ≡ live_words self.now.words.items self.now.table.entries) }
+    {
+        let mut live = Vec::with_capacity(self.alloc, self.words.len() - self.dead)?;
+        for (_, span) in &self.table {
+            live.extend_from_slice(self.span_words(span))?;
+        }
+        Ok(live)
     }
 
     /// Writes the words over a block of the same length at the location, and says whether one stands
@@ -148,7 +175,11 @@ impl Heap {
         ensures removed { blocks_of self.new ≡ without_block (blocks_of self.old) at }
     {
         let span = self.table.remove(&at)?;
-        self.dead += span.len;
+        if span.start + span.len == self.words.len() {
+            self.words.truncate(span.start);
+        } else {
+            self.dead += span.len;
+        }
         Some(span.len as u64)
     }
 
@@ -189,6 +220,21 @@ fn overwrite(all: &mut [u64], span: Span, words: &[u64])
     ensures { all.new ≡ with_span_words all.old span words.now }
 {
     all[span.start..span.start + span.len].copy_from_slice(words);
+}
+
+/// Moves the spans so that each begins where the one before it ends, the first at 0. No place is
+/// above the sum of all lengths, so none saturates.
+fn move_spans(table: &mut BTreeMap<u64, Span>)
+    requires { sum_by (λ s. s.len) (values table.old) < 2 ^ 64 }
+    ensures moved { table.new.entries ≡ moved_spans 0 table.old.entries }
+    ensures was_ordered { IsOrdered nat_cmp table.old }
+{
+    let mut start = 0usize;
+    table.retain(move |_, span| {
+        *span = Span::new(start, span.len);
+        start = start.saturating_add(span.len);
+        true
+    });
 }
 
 fn len_of(span: Option<Span>) -> usize
@@ -264,11 +310,27 @@ mod tests {
         let mut heap = two_blocks(alloc)?;
         for round in 0..500u64 {
             heap.put(1, vec![in alloc; round, round, round]?)?;
+            heap.put(2, vec![in alloc; round; 2]?)?;
             assert_eq!(rt; heap.remove(1), Some(3));
-            assert!(rt; heap.words.len() < 20);
+            assert_eq!(rt; heap.take(2)?, Some(vec![in alloc; round; 2]?));
+            assert!(rt; heap.words.len() < 40);
         }
         assert_eq!(rt; heap.get(9), Some([1, 2].as_slice()));
         assert_eq!(rt; heap.get(5), Some([42].as_slice()));
+        Ok(())
+    }
+
+    #[test]
+    fn the_last_words_are_cut_off(rt: HostRuntime) -> Result<(), Fail> {
+        let alloc = rt.alloc();
+        let mut heap = two_blocks(alloc)?;
+        heap.put(3, Vec::new(alloc))?;
+        for (at, length, left) in [(5, 1, 2), (9, 2, 0)] {
+            assert_eq!(rt; heap.remove(at), Some(length));
+            assert_eq!(rt; heap.words.len(), left);
+        }
+        assert_eq!(rt; heap.get(3), Some([].as_slice()));
+        assert_eq!(rt; heap.size(), 1);
         Ok(())
     }
 }

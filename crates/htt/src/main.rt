@@ -4,6 +4,7 @@
 
 use htt_base::{RealFiles, RealSink, Status};
 use htt_top::htt_command;
+use htt_top_answers::{Refusal, print};
 use std::env;
 use std::io::{self, ErrorKind};
 use std::process::ExitCode;
@@ -17,7 +18,8 @@ fn words(rt: &HostRuntime) -> io::Result<Vec<String>> {
     Ok(words)
 }
 
-/// What is done with the words; words that are no text have no form.
+/// What is done with the words. Words that are no text have no form; other failures to read them are
+/// want of memory, which is printed here, since no command has begun.
 fn status(rt: &HostRuntime) -> Status {
     let mut files = RealFiles::new(*rt);
     let mut out = RealSink::new(*rt);
@@ -25,7 +27,7 @@ fn status(rt: &HostRuntime) -> Status {
         Ok(words) => htt_command(rt.alloc(), &words, &mut files, &mut out),
         Err(error) => match error.kind() {
             ErrorKind::InvalidData => htt_command(rt.alloc(), &[], &mut files, &mut out),
-            _ => Status::NoMemory,
+            _ => print(rt.alloc(), &Err(Refusal::NoMemory), &mut out),
         },
     }
 }

@@ -12,12 +12,11 @@ ghost use Rattle.word_machine.specs.Steps.{Performs, fitting};
 use crate::stepped::Stepped;
 use heap_model_flat::Heap;
 use htt_syntax_words::Kind;
-use std::alloc::{AllocError, Global};
+use std::alloc::AllocError;
 use word_machine_frames::Frames;
 
 /// d, s, n: a new block of n words from s at the fresh location, which d becomes.
 pub(crate) fn put_block(
-    alloc: Global,
     heap: &mut Heap,
     frames: &mut Frames,
     operands: (u16, u16, u16),
@@ -34,8 +33,7 @@ pub(crate) fn put_block(
         return Ok(Stepped::Asks);
     }
     let (to, from, count) = operands;
-    let block = frames.words(from, count).to_vec(alloc)?;
-    heap.put(fresh, block)?;
+    heap.put_words(fresh, frames.words(from, count))?;
     frames.set_word(to, fresh);
     Ok(Stepped::Going)
 }

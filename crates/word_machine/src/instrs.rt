@@ -1,13 +1,13 @@
 //! The instructions of a machine that goes on, by the table of the code format. Each reads all its
 //! words before it writes any.
 
-ghost use Rattle.std.specs.Prelude.{ℕ, ◌≡◌, ◌+◌, ◌<◌, ◌≤◌, ◌^◌, List, ◌∷◌, length, nat_eq, if◌then◌else◌, IfOk, OnErr, slice_get};
+ghost use Rattle.std.specs.Prelude.{ℕ, ◌≡◌, ◌+◌, ◌<◌, ◌≤◌, ◌^◌, List, [], ◌∷◌, length, nat_eq, if◌then◌else◌, IfOk, OnErr, slice_get};
 ghost use Rattle.word_loader_code.specs.Valid.{IsValid};
-ghost use Rattle.word_loader_code.specs.Machine.{top, goes_on, effect, returned, local_at, words_at};
+ghost use Rattle.word_loader_code.specs.Machine.{top, goes_on, effect, returned, local_at, words_at, operation_result};
 ghost use Rattle.theory_machine.specs.Fits.{function_of, StackFits};
 ghost use Rattle.theory_values.specs.Heaps.{Heap as Blocks};
 ghost use Rattle.heap_model_flat.specs.Blocks.{blocks_of};
-ghost use Rattle.word_machine_frames.specs.Stacks.{locals_of, ResultFits};
+ghost use Rattle.word_machine_frames.specs.Stacks.{locals_of, written, ResultFits};
 ghost use Rattle.word_machine.specs.Steps.{choices_left, Performs};
 
 use crate::blocks::{free_block, get_block, put_block, set_block};
@@ -46,23 +46,15 @@ impl Machine {
                 Ok(Stepped::Going)
             }
             Instr::Op(d, o, a, b) => {
-                let word = operation(o, self.frames.word(a), self.frames.word(b));
-                self.frames.set_word(d, word);
+                put_result(&mut self.frames, d, o, (a, b));
                 Ok(Stepped::Going)
             }
             Instr::Sel(d, c, a, b, n) => {
-                let from = if self.frames.word(c) == 0 { b } else { a };
-                self.frames.move_words(d, from, n);
+                move_either(&mut self.frames, d, c, (a, b), n);
                 Ok(Stepped::Going)
             }
             Instr::Alloc(d, s, n) => {
-                put_block(
-                    self.alloc,
-                    &mut self.heap,
-                    &mut self.frames,
-                    (d, s, n),
-                    fresh,
-                )
+                put_block(&mut self.heap, &mut self.frames, (d, s, n), fresh)
             }
             Instr::Get(d, p, n) => Ok(get_block(&self.heap, &mut self.frames, d, p, n)),
             Instr::Set(p, s, n) => Ok(set_block(&mut self.heap, &mut self.frames, p, s, n)),
@@ -87,6 +79,35 @@ impl Machine {
                 Ok(Stepped::Going)
             }
         }
+    }
+}
+
+/// Puts what the operation gives for the words at two places.
+fn put_result(frames: &mut Frames, to: u16, operator: u8, from: (u16, u16))
+    requires next { (top frames.old).next + 1 < 2 ^ 32 }
+    requires within { to < length (locals_of frames.old) }
+    requires left { from.0 < length (locals_of frames.old) }
+    requires right { from.1 < length (locals_of frames.old) }
+    ensures { frames.new ≡ written frames.old to (operation_result operator (local_at (locals_of frames.old) from.0) (local_at (locals_of frames.old) from.1) ∷ []) }
+{
+    let word = operation(operator, frames.word(from.0), frames.word(from.1));
+    frames.set_word(to, word);
+}
+
+/// Moves so many words from the second of two places where the word at `test` is 0, else from the
+/// first.
+fn move_either(frames: &mut Frames, to: u16, test: u16, from: (u16, u16), count: u16)
+    requires next { (top frames.old).next + 1 < 2 ^ 32 }
+    requires test { test < length (locals_of frames.old) }
+    requires within { to + count ≤ length (locals_of frames.old) }
+    requires first { from.0 + count ≤ length (locals_of frames.old) }
+    requires second { from.1 + count ≤ length (locals_of frames.old) }
+    ensures { frames.new ≡ written frames.old to (if nat_eq (local_at (locals_of frames.old) test) 0 then words_at (locals_of frames.old) from.1 count else words_at (locals_of frames.old) from.0 count) }
+{
+    if frames.word(test) == 0 {
+        frames.move_words(to, from.1, count);
+    } else {
+        frames.move_words(to, from.0, count);
     }
 }
 

@@ -30,7 +30,6 @@ pub(crate) enum Over {
 /// `state_of`.
 #[derive(Drop)]
 pub struct Machine {
-    pub(crate) alloc: Global,
     pub(crate) heap: Heap,
     pub(crate) frames: Frames,
     pub(crate) over: Option<Over>,
@@ -52,7 +51,6 @@ pub fn start(alloc: Global, code: &Code, heap: Heap) -> Result<Machine, StartSto
     let main = &code.functions.as_slice()[0];
     match Frames::enter(alloc, main.locals) {
         Ok(frames) => Ok(Machine {
-            alloc,
             heap,
             frames,
             over: None,
@@ -78,7 +76,6 @@ impl Machine {
         ensures { HaltsAs (state_of self) result }
     {
         let Machine {
-            alloc: _,
             heap,
             frames,
             over: _,

@@ -1,7 +1,7 @@
 -- Reads and writes in the last part of a list, seen from its start.
 use Rattle.std.proofs.Common.{ℕ, zero, suc, ◌≡◌, ◌+◌, ◌-◌, ◌<◌, ◌≤◌, List, [], ◌∷◌, ◌++◌, length, take, drop, set, append_assoc, zero-add, suc-add, add-one}
 use Rattle.std.proofs.Common.{sym, ap, ◌∙◌, refl, arith, rules, replicate}
-use Rattle.std.proofs.lemmas.List.{length-append, length-take, length-drop, drop-drop, get_or-drop, set_split, take-take, take_at, drop_at, take_all}
+use Rattle.std.proofs.lemmas.List.{length-append, length-take, length-drop, length-replicate, drop-drop, get_or-drop, set_split, take-take, take_at, drop_at}
 use Rattle.std.proofs.lemmas.List.{take-append-le, drop-append-le, drop-replicate}
 use Rattle.std.proofs.lemmas.Slice.{between_is}
 use Rattle.std.proofs.Math.Seq.{take-append-add}
@@ -65,16 +65,6 @@ take-with_words_end words start n ws long within =
     let front : length (take start words ++ ws) ≡ start + n = simp (length-append, length-take, long) (omega arith) in
     take_at (take start words ++ ws) (drop (start + length ws) words) (start + n) front
 
--- a frame that is appended, moved down to a place
-pub moved_down : (words ls : List ℕ) (start n : ℕ)
-    → length ls ≡ n
-    → start ≤ length words
-    → take (start + n) (with_words (words ++ ls) start (words_at (words ++ ls) (length words) n)) ≡ take start words ++ ls
-moved_down words ls start n long within =
-    let same : words_at (words ++ ls) (length words) n ≡ ls = rw drop_at (take_all n ls (omega (arith, long))) in
-    let longer : start ≤ length (words ++ ls) = omega (arith, length-append words ls) in
-    rw same (take-with_words_end (words ++ ls) start n ls long longer ∙ ap (λ (l : List ℕ). l ++ ls) (take-append-le start words ls within))
-
 -- words that are copied to the front of zeros behind them
 pub appended : (words words' : List ℕ) (from p n : ℕ)
     → from + p ≤ length words
@@ -91,3 +81,31 @@ appended words words' from p n within e =
     sym (drop-drop p (length words) (words ++ zeros)) ∙ (ap (drop p) (drop_at words zeros (length words) refl) ∙ drop-replicate p n 0) in
     let front : take (length words) (words ++ zeros) ≡ words = take_at words zeros (length words) refl in
     e ∙ rw (read, long, behind, front) (append_assoc words (words_at words from p) (replicate (n - p) 0))
+
+-- words of a place on, with zeros behind them, in the place of all that stood there
+pub replaced : (words grown copied zeroed : List ℕ) (start from p n : ℕ)
+    → start ≤ from
+    → p ≤ n
+    → from + p ≤ length words
+    → grown ≡ words ++ replicate (start + n - length words) 0
+    → copied ≡ with_words grown start (words_at grown from p)
+    → zeroed ≡ with_words copied (start + p) (replicate (n - p) 0)
+    → take (start + n) zeroed ≡ take start words ++ (words_at words from p ++ replicate (n - p) 0)
+replaced words grown copied zeroed start from p n order some within g c z =
+    let zeros : List ℕ = replicate (start + n - length words) 0 in
+    let end : start + n ≡ start + p + (n - p) = omega arith in
+    let low : start ≤ length words = omega arith in
+    let more : p ≤ length (drop from words) = omega (arith, length-drop from words) in
+    let read : words_at (words ++ zeros) from p ≡ words_at words from p =
+    rw (drop-append-le from words zeros (omega arith)) (take-append-le p (drop from words) zeros more) in
+    let long : length (words_at words from p) ≡ p = length-words_at words from p within in
+    let longer : length (words ++ zeros) ≡ length words + (start + n - length words) =
+    length-append words zeros ∙ ap (λ k. length words + k) (length-replicate (start + n - length words) 0) in
+    let made : copied ≡ with_words (words ++ zeros) start (words_at words from p) = c ∙ rw (g, read) refl in
+    let front : take (start + p) copied ≡ take start words ++ words_at words from p =
+    ap (take (start + p)) made
+    ∙ (take-with_words_end (words ++ zeros) start p (words_at words from p) long (omega (arith, longer))
+    ∙ ap (λ (l : List ℕ). l ++ words_at words from p) (take-append-le start words zeros low)) in
+    let reaches : start + p ≤ length copied = rw made (simp (length-append, length-take, length-drop, long) (omega (arith, longer))) in
+    rw (z, end) (take-with_words_end copied (start + p) (n - p) (replicate (n - p) 0) (length-replicate (n - p) 0) reaches)
+    ∙ (ap (λ (l : List ℕ). l ++ replicate (n - p) 0) front ∙ append_assoc (take start words) (words_at words from p) (replicate (n - p) 0))

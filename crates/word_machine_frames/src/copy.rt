@@ -1,8 +1,6 @@
-//! Copies of words within one slice. Where the two parts overlap the order of the words decides, so
-//! that each word is read before it is written: towards the front the first word goes first, towards
-//! the end the last.
+//! Words copied, put and cleared at a place of one slice.
 
-ghost use Rattle.std.specs.Prelude.{◌≡◌, ◌+◌, ◌<◌, ◌≤◌, length};
+ghost use Rattle.std.specs.Prelude.{◌≡◌, ◌+◌, ◌≤◌, length, replicate};
 ghost use Rattle.word_loader_code.specs.Machine.{words_at, with_words};
 
 /// Copies so many words from one place to another. All are read before any is written.
@@ -11,11 +9,7 @@ pub(crate) fn copy_within(words: &mut [u64], from: usize, to: usize, count: usiz
     requires written { to + count ≤ length words.old }
     ensures { words.new ≡ with_words words.old to (words_at words.old from count) }
 {
-    if to <= from {
-        copy_to_front(words, from, to, count);
-    } else {
-        copy_to_end(words, from, to, count);
-    }
+    words.copy_within(from..from + count, to);
 }
 
 /// Writes these words from a place on.
@@ -26,24 +20,19 @@ pub(crate) fn write_at(words: &mut [u64], at: usize, source: &[u64])
     words[at..at + source.len()].copy_from_slice(source);
 }
 
-fn copy_to_front(words: &mut [u64], from: usize, to: usize, count: usize)
-    requires order { to ≤ from }
+/// Copies so many words from one place to another, and writes so many zeros behind them.
+pub(crate) fn copy_before_zeros(
+    words: &mut [u64],
+    from: usize,
+    to: usize,
+    count: usize,
+    zeros: usize,
+)
     requires read { from + count ≤ length words.old }
-    ensures { words.new ≡ with_words words.old to (words_at words.old from count) }
+    requires written { to + count + zeros ≤ length words.old }
+    ensures { words.new ≡ with_words (with_words words.old to (words_at words.old from count)) (to + count) (replicate zeros 0) }
 {
-    for i in 0..count {
-        words[to + i] = words[from + i];
-    }
-}
-
-fn copy_to_end(words: &mut [u64], from: usize, to: usize, count: usize)
-    requires order { from < to }
-    requires written { to + count ≤ length words.old }
-    ensures { words.new ≡ with_words words.old to (words_at words.old from count) }
-{
-    let mut left = count;
-    while left > 0 {
-        left -= 1;
-        words[to + left] = words[from + left];
-    }
+    copy_within(words, from, to, count);
+    let end = to + count;
+    words[end..end + zeros].fill(0);
 }

@@ -2,11 +2,11 @@
 //! others wait below in the order of their calls. The locals of the top frame are the words from its
 //! start to the end, so a call appends words and a return cuts them off.
 
-ghost use Rattle.std.specs.Prelude.{◌≡◌, ◌+◌, ◌-◌, ◌<◌, ◌≤◌, ◌^◌, [], ◌∷◌, ◌++◌, length, replicate, IfOk, OnOk, OnErr};
+ghost use Rattle.std.specs.Prelude.{◌≡◌, ◌+◌, ◌-◌, ◌<◌, ◌≤◌, ◌^◌, [], ◌∷◌, ◌++◌, length, take, replicate, IfOk, OnOk, OnErr};
 ghost use Rattle.word_loader_code.specs.Machine.{top, bottom, above, with_top, goes_on, entered_frame, local_at, words_at, with_words};
 ghost use Rattle.word_machine_frames.specs.Stacks.{locals_of, written, frame_total, total_below, ResultFits, ReturnsTo};
 
-use crate::copy::{copy_within, write_at};
+use crate::copy::{copy_before_zeros, copy_within, write_at};
 use std::alloc::{AllocError, Global};
 use std::marker::Model;
 use word_loader_code::Function;
@@ -207,11 +207,7 @@ impl Frames {
         ensures unchanged { OnErr result (self.new ≡ self.old) }
     {
         let start = self.top.start;
-        let end = self.words.len();
-        append_frame(&mut self.words, start + from as usize, function)?;
-        let locals = function.locals as usize;
-        copy_within(&mut self.words, end, start, locals);
-        self.words.truncate(start + locals);
+        replace_frame(&mut self.words, start, start + from as usize, function)?;
         self.top.function = number;
         self.top.next = 0;
         Ok(())
@@ -281,6 +277,39 @@ fn append_frame(words: &mut Vec<u64>, from: usize, function: &Function) -> Resul
     let end = words.len();
     append_zeros(words, function.locals as usize)?;
     copy_within(words, from, end, function.params as usize);
+    Ok(())
+}
+
+/// Puts the locals of a new frame in the place of all words from `start` on: the parameters, which
+/// are words from `from` on, and 0 in the other locals. After an error nothing has changed.
+fn replace_frame(
+    words: &mut Vec<u64>,
+    start: usize,
+    from: usize,
+    function: &Function,
+) -> Result<(), AllocError>
+    requires order { start ≤ from }
+    requires params { function.now.params ≤ function.now.locals }
+    requires read { from + function.now.params ≤ length words.old.items }
+    ensures replaced { OnOk result (words.new.items ≡ take start words.old.items ++ (words_at words.old.items from function.now.params ++ replicate (function.now.locals - function.now.params) 0)) }
+    ensures unchanged { OnErr result (words.new.items ≡ words.old.items) }
+{
+    let params = function.params as usize;
+    let locals = function.locals as usize;
+    grow_to(words, start + locals)?;
+    copy_before_zeros(words, from, start, params, locals - params);
+    words.truncate(start + locals);
+    Ok(())
+}
+
+/// Appends zeros up to so many words, where there are fewer.
+fn grow_to(words: &mut Vec<u64>, count: usize) -> Result<(), AllocError>
+    ensures grown { OnOk result (words.new.items ≡ words.old.items ++ replicate (count - length words.old.items) 0) }
+    ensures unchanged { OnErr result (words.new.items ≡ words.old.items) }
+{
+    if words.len() < count {
+        words.resize(count, 0)?;
+    }
     Ok(())
 }
 

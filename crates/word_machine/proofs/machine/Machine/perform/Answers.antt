@@ -3,7 +3,6 @@ use Rattle.word_loader_code.specs.declared.code.Instr.TheVariants.{Const, Mov, O
 use Rattle.theory_machine.proofs.Standing.{standing_at}
 use Rattle.word_machine.proofs.Room.{next_fits, named_within, callee_at, result_fits, called-at, replaced-at}
 use Rattle.word_machine.proofs.machine.Machine.perform.Goals as goal
-use Rattle.word_machine.proofs.machine.Machine.perform.Goals.{then-word-eq0, else-word-eq0}
 
 pub set_word-requires-clause-next : goal.set_word-requires-clause-next
 set_word-requires-clause-next c =
@@ -40,57 +39,64 @@ move_words-requires-clause-within c =
     c.requires.fits c.requires.function (rw c.in-Mov.is at c.requires.instr) in
     omega (arith, s.valid, s.locals)
 
-pub word-requires : goal.word-requires
-word-requires c =
-    let s =
-    standing_at c.args.code.now c.args.self.now.frames c.args.function.now (Op c.in-Op.d c.in-Op.o c.in-Op.a c.in-Op.b) c.requires.valid
-    c.requires.fits c.requires.function (rw c.in-Op.is at c.requires.instr) in
-    omega (arith, s.valid, s.locals)
-
-pub word-requires-in-Op : goal.word-requires-in-Op
-word-requires-in-Op c =
-    let s =
-    standing_at c.args.code.now c.args.self.now.frames c.args.function.now (Op c.in-Op.d c.in-Op.o c.in-Op.a c.in-Op.b) c.requires.valid
-    c.requires.fits c.requires.function (rw c.in-Op.is at c.requires.instr) in
-    omega (arith, s.valid, s.locals)
-
-pub set_word-requires-in-Op-clause-next : goal.set_word-requires-in-Op-clause-next
-set_word-requires-in-Op-clause-next c =
+pub put_result-requires-clause-next : goal.put_result-requires-clause-next
+put_result-requires-clause-next c =
     let s =
     standing_at c.args.code.now c.args.self.now.frames c.args.function.now (Op c.in-Op.d c.in-Op.o c.in-Op.a c.in-Op.b) c.requires.valid
     c.requires.fits c.requires.function (rw c.in-Op.is at c.requires.instr) in
     next_fits _ _ _ _ c.requires.valid s (λ x. x)
 
-pub set_word-requires-in-Op-clause-within : goal.set_word-requires-in-Op-clause-within
-set_word-requires-in-Op-clause-within c =
+pub put_result-requires-clause-within : goal.put_result-requires-clause-within
+put_result-requires-clause-within c =
     let s =
     standing_at c.args.code.now c.args.self.now.frames c.args.function.now (Op c.in-Op.d c.in-Op.o c.in-Op.a c.in-Op.b) c.requires.valid
     c.requires.fits c.requires.function (rw c.in-Op.is at c.requires.instr) in
     omega (arith, s.valid, s.locals)
 
-pub word-requires-in-Sel : goal.word-requires-in-Sel
-word-requires-in-Sel c =
+pub put_result-requires-clause-left : goal.put_result-requires-clause-left
+put_result-requires-clause-left c =
     let s =
-    standing_at c.args.code.now c.args.self.now.frames c.args.function.now (Sel c.in-Sel.d c.in-Sel.c c.in-Sel.a c.in-Sel.b c.in-Sel.n)
-    c.requires.valid c.requires.fits c.requires.function (rw c.in-Sel.is at c.requires.instr) in
+    standing_at c.args.code.now c.args.self.now.frames c.args.function.now (Op c.in-Op.d c.in-Op.o c.in-Op.a c.in-Op.b) c.requires.valid
+    c.requires.fits c.requires.function (rw c.in-Op.is at c.requires.instr) in
     omega (arith, s.valid, s.locals)
 
-pub move_words-requires-in-Sel-clause-next : goal.move_words-requires-in-Sel-clause-next
-move_words-requires-in-Sel-clause-next c =
+pub put_result-requires-clause-right : goal.put_result-requires-clause-right
+put_result-requires-clause-right c =
+    let s =
+    standing_at c.args.code.now c.args.self.now.frames c.args.function.now (Op c.in-Op.d c.in-Op.o c.in-Op.a c.in-Op.b) c.requires.valid
+    c.requires.fits c.requires.function (rw c.in-Op.is at c.requires.instr) in
+    omega (arith, s.valid, s.locals)
+
+pub move_either-requires-clause-next : goal.move_either-requires-clause-next
+move_either-requires-clause-next c =
     let s =
     standing_at c.args.code.now c.args.self.now.frames c.args.function.now (Sel c.in-Sel.d c.in-Sel.c c.in-Sel.a c.in-Sel.b c.in-Sel.n)
     c.requires.valid c.requires.fits c.requires.function (rw c.in-Sel.is at c.requires.instr) in
     next_fits _ _ _ _ c.requires.valid s (λ x. x)
 
-pub move_words-requires-in-Sel-clause-read : goal.move_words-requires-in-Sel-clause-read
-move_words-requires-in-Sel-clause-read c =
+pub move_either-requires-clause-test : goal.move_either-requires-clause-test
+move_either-requires-clause-test c =
     let s =
     standing_at c.args.code.now c.args.self.now.frames c.args.function.now (Sel c.in-Sel.d c.in-Sel.c c.in-Sel.a c.in-Sel.b c.in-Sel.n)
     c.requires.valid c.requires.fits c.requires.function (rw c.in-Sel.is at c.requires.instr) in
-    elim c.if-word-eq0.branch [ then-word-eq0 w ↦ omega (arith, s.valid, s.locals) | else-word-eq0 w ↦ omega (arith, s.valid, s.locals) ]
+    omega (arith, s.valid, s.locals)
 
-pub move_words-requires-in-Sel-clause-within : goal.move_words-requires-in-Sel-clause-within
-move_words-requires-in-Sel-clause-within c =
+pub move_either-requires-clause-within : goal.move_either-requires-clause-within
+move_either-requires-clause-within c =
+    let s =
+    standing_at c.args.code.now c.args.self.now.frames c.args.function.now (Sel c.in-Sel.d c.in-Sel.c c.in-Sel.a c.in-Sel.b c.in-Sel.n)
+    c.requires.valid c.requires.fits c.requires.function (rw c.in-Sel.is at c.requires.instr) in
+    omega (arith, s.valid, s.locals)
+
+pub move_either-requires-clause-first : goal.move_either-requires-clause-first
+move_either-requires-clause-first c =
+    let s =
+    standing_at c.args.code.now c.args.self.now.frames c.args.function.now (Sel c.in-Sel.d c.in-Sel.c c.in-Sel.a c.in-Sel.b c.in-Sel.n)
+    c.requires.valid c.requires.fits c.requires.function (rw c.in-Sel.is at c.requires.instr) in
+    omega (arith, s.valid, s.locals)
+
+pub move_either-requires-clause-second : goal.move_either-requires-clause-second
+move_either-requires-clause-second c =
     let s =
     standing_at c.args.code.now c.args.self.now.frames c.args.function.now (Sel c.in-Sel.d c.in-Sel.c c.in-Sel.a c.in-Sel.b c.in-Sel.n)
     c.requires.valid c.requires.fits c.requires.function (rw c.in-Sel.is at c.requires.instr) in
