@@ -19,7 +19,7 @@ use sqlite_items::Boxed;
 
 impl<F: Fn(Wanted, usize) -> Result<(Found, usize), Halted>> Formulas<'_, F> {
     /// A formula that is no chain.
-    #[tactic(auto, using(htt_parser_trees::specs::TreeLevels::fatom_tt, htt_parser_trees::specs::TreeLevels::fatom_ff, htt_parser_trees::specs::TreeLevels::fatom_emp), unfolding(htt_parser_words::proofs::Steps::choosing, theory_grammar::specs::Phrases::fatom_reader))]
+    #[tactic(auto, using(htt_parser_trees::specs::TreeLevels::raw_fatom_tt, htt_parser_trees::specs::TreeLevels::raw_fatom_ff, htt_parser_trees::specs::TreeLevels::raw_fatom_emp), unfolding(htt_parser_words::proofs::Steps::choosing, theory_grammar::specs::Phrases::fatom_reader))]
     pub fn fatom(&self, at: usize) -> Result<(RawFatom, usize), Halted>
         requires { IsLevel F.Fn self.now.terms.operands.level }
         ensures { Gives self.now.terms.operands.level.cursor.tokens.now raw_fatom_tree result (fatom_reader (deeper 63 self.now.terms.operands.level.left) (drop at self.now.terms.operands.level.cursor.tokens.now)) }
@@ -44,7 +44,7 @@ impl<F: Fn(Wanted, usize) -> Result<(Found, usize), Halted>> Formulas<'_, F> {
     }
 
     /// What follows `Emp` at this byte.
-    #[tactic(auto, using(htt_parser_words::proofs::Steps::steps, htt_parser_trees::specs::TreeLevels::fatom_emp_of), unfolding(htt_parser_words::proofs::Steps::reading))]
+    #[tactic(auto, using(htt_parser_words::proofs::Steps::steps, htt_parser_trees::specs::TreeLevels::raw_fatom_emp_of), unfolding(htt_parser_words::proofs::Steps::reading))]
     fn emp_of(&self, from: u64, at: usize) -> Result<(RawFatom, usize), Halted>
         ensures { Gives self.now.terms.operands.level.cursor.tokens.now raw_fatom_tree result (emp_of_on from (drop at self.now.terms.operands.level.cursor.tokens.now)) }
     {
@@ -65,7 +65,7 @@ impl<F: Fn(Wanted, usize) -> Result<(Found, usize), Halted>> Formulas<'_, F> {
     }
 
     /// What follows `Same` at this byte.
-    #[tactic(auto, using(htt_parser_words::proofs::Steps::steps, htt_parser_trees::specs::TreeLevels::fatom_same), unfolding(htt_parser_words::proofs::Steps::reading))]
+    #[tactic(auto, using(htt_parser_words::proofs::Steps::steps, htt_parser_trees::specs::TreeLevels::raw_fatom_same), unfolding(htt_parser_words::proofs::Steps::reading))]
     fn same_heaps(&self, from: u64, at: usize) -> Result<(RawFatom, usize), Halted>
         ensures { Gives self.now.terms.operands.level.cursor.tokens.now raw_fatom_tree result (same_on from (drop at self.now.terms.operands.level.cursor.tokens.now)) }
     {
@@ -95,7 +95,7 @@ impl<F: Fn(Wanted, usize) -> Result<(Found, usize), Halted>> Formulas<'_, F> {
     }
 
     /// What follows `Join` at this byte.
-    #[tactic(auto, using(htt_parser_words::proofs::Steps::steps, htt_parser_trees::specs::TreeLevels::fatom_join), unfolding(htt_parser_words::proofs::Steps::reading))]
+    #[tactic(auto, using(htt_parser_words::proofs::Steps::steps, htt_parser_trees::specs::TreeLevels::raw_fatom_join), unfolding(htt_parser_words::proofs::Steps::reading))]
     fn join(&self, from: u64, at: usize) -> Result<(RawFatom, usize), Halted>
         ensures { Gives self.now.terms.operands.level.cursor.tokens.now raw_fatom_tree result (join_on from (drop at self.now.terms.operands.level.cursor.tokens.now)) }
     {
@@ -128,7 +128,7 @@ impl<F: Fn(Wanted, usize) -> Result<(Found, usize), Halted>> Formulas<'_, F> {
     }
 
     /// What follows `Cell` at this byte.
-    #[tactic(auto, using(htt_parser_words::proofs::Steps::steps, htt_parser_trees::specs::TreeLevels::fatom_cell), unfolding(htt_parser_words::proofs::Steps::reading))]
+    #[tactic(auto, using(htt_parser_words::proofs::Steps::steps, htt_parser_trees::specs::TreeLevels::raw_fatom_cell), unfolding(htt_parser_words::proofs::Steps::reading))]
     fn cell(&self, from: u64, at: usize) -> Result<(RawFatom, usize), Halted>
         requires { IsLevel F.Fn self.now.terms.operands.level }
         ensures { Gives self.now.terms.operands.level.cursor.tokens.now raw_fatom_tree result (cell_on (deeper 63 self.now.terms.operands.level.left) from (drop at self.now.terms.operands.level.cursor.tokens.now)) }
@@ -169,7 +169,7 @@ impl<F: Fn(Wanted, usize) -> Result<(Found, usize), Halted>> Formulas<'_, F> {
     }
 
     /// What follows `Block` at this byte.
-    #[tactic(auto, using(htt_parser_words::proofs::Steps::steps, htt_parser_trees::specs::TreeLevels::fatom_block), unfolding(htt_parser_words::proofs::Steps::reading))]
+    #[tactic(auto, using(htt_parser_words::proofs::Steps::steps, htt_parser_trees::specs::TreeLevels::raw_fatom_block), unfolding(htt_parser_words::proofs::Steps::reading))]
     fn block(&self, from: u64, at: usize) -> Result<(RawFatom, usize), Halted>
         requires { IsLevel F.Fn self.now.terms.operands.level }
         ensures { Gives self.now.terms.operands.level.cursor.tokens.now raw_fatom_tree result (block_on (deeper 63 self.now.terms.operands.level.left) from (drop at self.now.terms.operands.level.cursor.tokens.now)) }
@@ -207,7 +207,7 @@ impl<F: Fn(Wanted, usize) -> Result<(Found, usize), Halted>> Formulas<'_, F> {
     }
 
     /// What follows `[` at this byte.
-    #[tactic(auto, using(htt_parser_words::proofs::Steps::steps, htt_parser_trees::specs::TreeLevels::fatom_brackets), unfolding(htt_parser_words::proofs::Steps::reading))]
+    #[tactic(auto, using(htt_parser_words::proofs::Steps::steps, htt_parser_trees::specs::TreeLevels::raw_fatom_brackets), unfolding(htt_parser_words::proofs::Steps::reading))]
     fn in_brackets(&self, from: u64, at: usize) -> Result<(RawFatom, usize), Halted>
         requires { IsLevel F.Fn self.now.terms.operands.level }
         ensures { Gives self.now.terms.operands.level.cursor.tokens.now raw_fatom_tree result (in_brackets_on (deeper 63 self.now.terms.operands.level.left) from (drop at self.now.terms.operands.level.cursor.tokens.now)) }
@@ -223,7 +223,7 @@ impl<F: Fn(Wanted, usize) -> Result<(Found, usize), Halted>> Formulas<'_, F> {
     }
 
     /// What follows `@` at this byte.
-    #[tactic(auto, using(htt_parser_words::proofs::Steps::steps, htt_parser_trees::specs::TreeLevels::fatom_at_heap), unfolding(htt_parser_words::proofs::Steps::reading))]
+    #[tactic(auto, using(htt_parser_words::proofs::Steps::steps, htt_parser_trees::specs::TreeLevels::raw_fatom_at_heap), unfolding(htt_parser_words::proofs::Steps::reading))]
     fn at_heap(&self, from: u64, at: usize) -> Result<(RawFatom, usize), Halted>
         requires { IsLevel F.Fn self.now.terms.operands.level }
         ensures { Gives self.now.terms.operands.level.cursor.tokens.now raw_fatom_tree result (at_heap_on (deeper 63 self.now.terms.operands.level.left) from (drop at self.now.terms.operands.level.cursor.tokens.now)) }
@@ -323,7 +323,7 @@ impl<F: Fn(Wanted, usize) -> Result<(Found, usize), Halted>> Formulas<'_, F> {
     }
 
     /// What follows `@` behind a predicate's name.
-    #[tactic(auto, using(htt_parser_words::proofs::Steps::steps, htt_parser_trees::specs::TreeLevels::fatom_use_at_heap), unfolding(htt_parser_words::proofs::Steps::reading))]
+    #[tactic(auto, using(htt_parser_words::proofs::Steps::steps, htt_parser_trees::specs::TreeLevels::raw_fatom_use_at_heap), unfolding(htt_parser_words::proofs::Steps::reading))]
     fn used_at_heap(&self, from: u64, name: Span, at: usize) -> Result<(RawFatom, usize), Halted>
         requires { IsLevel F.Fn self.now.terms.operands.level }
         ensures { Gives self.now.terms.operands.level.cursor.tokens.now raw_fatom_tree result (use_at_heap_on (deeper 63 self.now.terms.operands.level.left) from name (drop at self.now.terms.operands.level.cursor.tokens.now)) }
@@ -362,7 +362,7 @@ impl<F: Fn(Wanted, usize) -> Result<(Found, usize), Halted>> Formulas<'_, F> {
     }
 
     /// What follows `(` behind a predicate's name.
-    #[tactic(auto, using(htt_parser_words::proofs::Steps::steps, htt_parser_trees::specs::TreeLevels::fatom_use), unfolding(htt_parser_words::proofs::Steps::reading))]
+    #[tactic(auto, using(htt_parser_words::proofs::Steps::steps, htt_parser_trees::specs::TreeLevels::raw_fatom_use), unfolding(htt_parser_words::proofs::Steps::reading))]
     fn used_plainly(&self, from: u64, name: Span, at: usize) -> Result<(RawFatom, usize), Halted>
         requires { IsLevel F.Fn self.now.terms.operands.level }
         ensures { Gives self.now.terms.operands.level.cursor.tokens.now raw_fatom_tree result (use_plain_on (deeper 63 self.now.terms.operands.level.left) from name (drop at self.now.terms.operands.level.cursor.tokens.now)) }
@@ -410,7 +410,7 @@ impl<F: Fn(Wanted, usize) -> Result<(Found, usize), Halted>> Formulas<'_, F> {
     }
 
     /// What follows the semicolon behind a predicate's index.
-    #[tactic(auto, using(htt_parser_words::proofs::Steps::steps, htt_parser_trees::specs::TreeLevels::fatom_use_at), unfolding(htt_parser_words::proofs::Steps::reading))]
+    #[tactic(auto, using(htt_parser_words::proofs::Steps::steps, htt_parser_trees::specs::TreeLevels::raw_fatom_use_at), unfolding(htt_parser_words::proofs::Steps::reading))]
     fn used_at_index(
         &self,
         from: u64,
@@ -477,7 +477,7 @@ impl<F: Fn(Wanted, usize) -> Result<(Found, usize), Halted>> Formulas<'_, F> {
     }
 
     /// A predicate with one argument, behind its closing bracket.
-    #[tactic(auto, using(htt_parser_trees::specs::TreeLevels::fatom_use), unfolding(htt_parser_words::proofs::Steps::reading))]
+    #[tactic(auto, using(htt_parser_trees::specs::TreeLevels::raw_fatom_use), unfolding(htt_parser_words::proofs::Steps::reading))]
     fn used_at_term(
         &self,
         from: u64,
@@ -527,7 +527,7 @@ impl<F: Fn(Wanted, usize) -> Result<(Found, usize), Halted>> Formulas<'_, F> {
     }
 
     /// What follows `=`.
-    #[tactic(auto, using(htt_parser_words::proofs::Steps::steps, htt_parser_trees::specs::TreeLevels::fatom_eq), unfolding(htt_parser_words::proofs::Steps::reading))]
+    #[tactic(auto, using(htt_parser_words::proofs::Steps::steps, htt_parser_trees::specs::TreeLevels::raw_fatom_eq), unfolding(htt_parser_words::proofs::Steps::reading))]
     fn equation(&self, one: Boxed<RawRel>, at: usize) -> Result<(RawFatom, usize), Halted>
         requires { IsLevel F.Fn self.now.terms.operands.level }
         ensures { Gives self.now.terms.operands.level.cursor.tokens.now raw_fatom_tree result (equal_on (deeper 63 self.now.terms.operands.level.left) (raw_rel_tree one) (drop at self.now.terms.operands.level.cursor.tokens.now)) }
@@ -550,7 +550,7 @@ impl<F: Fn(Wanted, usize) -> Result<(Found, usize), Halted>> Formulas<'_, F> {
     }
 
     /// What follows `|->`.
-    #[tactic(auto, using(htt_parser_words::proofs::Steps::steps, htt_parser_trees::specs::TreeLevels::fatom_points_to, htt_parser_trees::specs::TreeLevels::fatom_points_to_any), unfolding(htt_parser_words::proofs::Steps::reading))]
+    #[tactic(auto, using(htt_parser_words::proofs::Steps::steps, htt_parser_trees::specs::TreeLevels::raw_fatom_points_to, htt_parser_trees::specs::TreeLevels::raw_fatom_points_to_any), unfolding(htt_parser_words::proofs::Steps::reading))]
     fn points_to(&self, place: Boxed<RawRel>, at: usize) -> Result<(RawFatom, usize), Halted>
         requires { IsLevel F.Fn self.now.terms.operands.level }
         ensures { Gives self.now.terms.operands.level.cursor.tokens.now raw_fatom_tree result (points_on (deeper 63 self.now.terms.operands.level.left) (raw_rel_tree place) (drop at self.now.terms.operands.level.cursor.tokens.now)) }

@@ -24,7 +24,7 @@ enum Quantifier {
 
 impl Quantifier {
     /// The formula that is quantified so.
-    #[tactic(auto, using(htt_parser_trees::specs::TreeLevels::formula_all, htt_parser_trees::specs::TreeLevels::formula_ex), unfolding(htt_parser_words::proofs::Steps::reading))]
+    #[tactic(auto, using(htt_parser_trees::specs::TreeLevels::raw_formula_all, htt_parser_trees::specs::TreeLevels::raw_formula_ex), unfolding(htt_parser_words::proofs::Steps::reading))]
     fn over(self, from: u64, name: Binder, sort: RawSort, body: Boxed<RawFormula>) -> RawFormula
         ensures { raw_formula_tree result ≡ quantifier_tree self from name (raw_sort_tree sort) (raw_formula_tree body) }
     {
@@ -121,7 +121,7 @@ impl<F: Fn(Wanted, usize) -> Result<(Found, usize), Halted>> Formulas<'_, F> {
     }
 
     /// A chain of `\/`, with what it implies.
-    #[tactic(auto, using(htt_parser_words::proofs::Steps::steps, htt_parser_trees::specs::TreeLevels::formula_disj, htt_parser_trees::specs::TreeLevels::formula_implies), unfolding(htt_parser_words::proofs::Steps::reading))]
+    #[tactic(auto, using(htt_parser_words::proofs::Steps::steps, htt_parser_trees::specs::TreeLevels::raw_formula_disj, htt_parser_trees::specs::TreeLevels::raw_formula_implies), unfolding(htt_parser_words::proofs::Steps::reading))]
     fn implication(&self, at: usize) -> Result<(RawFormula, usize), Halted>
         requires { IsLevel F.Fn self.now.terms.operands.level }
         ensures { Gives self.now.terms.operands.level.cursor.tokens.now raw_formula_tree result (implication_on (deeper 63 self.now.terms.operands.level.left) (drop at self.now.terms.operands.level.cursor.tokens.now)) }
@@ -153,7 +153,7 @@ impl<F: Fn(Wanted, usize) -> Result<(Found, usize), Halted>> Formulas<'_, F> {
     }
 
     /// A chain of `\/`.
-    #[tactic(auto, using(htt_parser_words::proofs::Steps::steps, htt_parser_trees::specs::TreeLevels::disj_conj, htt_parser_trees::specs::TreeLevels::disj_or), unfolding(htt_parser_words::proofs::Steps::reading, theory_grammar::specs::Phrases::disj_reader))]
+    #[tactic(auto, using(htt_parser_words::proofs::Steps::steps, htt_parser_trees::specs::TreeLevels::raw_disj_conj, htt_parser_trees::specs::TreeLevels::raw_disj_or), unfolding(htt_parser_words::proofs::Steps::reading, theory_grammar::specs::Phrases::disj_reader))]
     pub fn disj(&self, at: usize) -> Result<(RawDisj, usize), Halted>
         requires { IsLevel F.Fn self.now.terms.operands.level }
         ensures { Gives self.now.terms.operands.level.cursor.tokens.now raw_disj_tree result (disj_reader (deeper 63 self.now.terms.operands.level.left) (drop at self.now.terms.operands.level.cursor.tokens.now)) }
@@ -179,7 +179,7 @@ impl<F: Fn(Wanted, usize) -> Result<(Found, usize), Halted>> Formulas<'_, F> {
     }
 
     /// A chain of `/\`.
-    #[tactic(auto, using(htt_parser_words::proofs::Steps::steps, htt_parser_trees::specs::TreeLevels::conj_star, htt_parser_trees::specs::TreeLevels::conj_and), unfolding(htt_parser_words::proofs::Steps::reading, theory_grammar::specs::Phrases::conj_reader))]
+    #[tactic(auto, using(htt_parser_words::proofs::Steps::steps, htt_parser_trees::specs::TreeLevels::raw_conj_star, htt_parser_trees::specs::TreeLevels::raw_conj_and), unfolding(htt_parser_words::proofs::Steps::reading, theory_grammar::specs::Phrases::conj_reader))]
     pub fn conj(&self, at: usize) -> Result<(RawConj, usize), Halted>
         requires { IsLevel F.Fn self.now.terms.operands.level }
         ensures { Gives self.now.terms.operands.level.cursor.tokens.now raw_conj_tree result (conj_reader (deeper 63 self.now.terms.operands.level.left) (drop at self.now.terms.operands.level.cursor.tokens.now)) }
@@ -205,7 +205,7 @@ impl<F: Fn(Wanted, usize) -> Result<(Found, usize), Halted>> Formulas<'_, F> {
     }
 
     /// A chain of `**`.
-    #[tactic(auto, using(htt_parser_words::proofs::Steps::steps, htt_parser_trees::specs::TreeLevels::star_fatom, htt_parser_trees::specs::TreeLevels::star_times), unfolding(htt_parser_words::proofs::Steps::reading, theory_grammar::specs::Phrases::star_reader))]
+    #[tactic(auto, using(htt_parser_words::proofs::Steps::steps, htt_parser_trees::specs::TreeLevels::raw_star_fatom, htt_parser_trees::specs::TreeLevels::raw_star_times), unfolding(htt_parser_words::proofs::Steps::reading, theory_grammar::specs::Phrases::star_reader))]
     pub fn star(&self, at: usize) -> Result<(RawStar, usize), Halted>
         requires { IsLevel F.Fn self.now.terms.operands.level }
         ensures { Gives self.now.terms.operands.level.cursor.tokens.now raw_star_tree result (star_reader (deeper 63 self.now.terms.operands.level.left) (drop at self.now.terms.operands.level.cursor.tokens.now)) }

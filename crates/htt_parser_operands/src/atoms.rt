@@ -17,7 +17,7 @@ use sqlite_items::Boxed;
 
 impl<F: Fn(Wanted, usize) -> Result<(Found, usize), Halted>> Operands<'_, F> {
     /// An atom.
-    #[tactic(auto, using(htt_parser_trees::specs::TreeLevels::atom_name, htt_parser_trees::specs::TreeLevels::atom_number, htt_parser_trees::specs::TreeLevels::atom_true, htt_parser_trees::specs::TreeLevels::atom_false, htt_parser_trees::specs::TreeLevels::atom_null), unfolding(htt_parser_words::proofs::Steps::choosing, theory_grammar::specs::Phrases::atom_reader))]
+    #[tactic(auto, using(htt_parser_trees::specs::TreeLevels::raw_atom_name, htt_parser_trees::specs::TreeLevels::raw_atom_number, htt_parser_trees::specs::TreeLevels::raw_atom_true, htt_parser_trees::specs::TreeLevels::raw_atom_false, htt_parser_trees::specs::TreeLevels::raw_atom_null), unfolding(htt_parser_words::proofs::Steps::choosing, theory_grammar::specs::Phrases::atom_reader))]
     pub fn atom(&self, at: usize) -> Result<(RawAtom, usize), Halted>
         requires { IsLevel F.Fn self.now.level }
         ensures { Gives self.now.level.cursor.tokens.now raw_atom_tree result (atom_reader (deeper 63 self.now.level.left) (drop at self.now.level.cursor.tokens.now)) }
@@ -46,7 +46,7 @@ impl<F: Fn(Wanted, usize) -> Result<(Found, usize), Halted>> Operands<'_, F> {
     }
 
     /// What follows `place` at this byte.
-    #[tactic(auto, using(htt_parser_words::proofs::Steps::steps, htt_parser_trees::specs::TreeLevels::atom_place), unfolding(htt_parser_words::proofs::Steps::reading))]
+    #[tactic(auto, using(htt_parser_words::proofs::Steps::steps, htt_parser_trees::specs::TreeLevels::raw_atom_place), unfolding(htt_parser_words::proofs::Steps::reading))]
     fn place(&self, from: u64, at: usize) -> Result<(RawAtom, usize), Halted>
         ensures { Gives self.now.level.cursor.tokens.now raw_atom_tree result (place_on from (drop at self.now.level.cursor.tokens.now)) }
     {
@@ -55,7 +55,7 @@ impl<F: Fn(Wanted, usize) -> Result<(Found, usize), Halted>> Operands<'_, F> {
     }
 
     /// What follows `eq` at this byte.
-    #[tactic(auto, using(htt_parser_words::proofs::Steps::steps, htt_parser_trees::specs::TreeLevels::atom_eq), unfolding(htt_parser_words::proofs::Steps::reading))]
+    #[tactic(auto, using(htt_parser_words::proofs::Steps::steps, htt_parser_trees::specs::TreeLevels::raw_atom_eq), unfolding(htt_parser_words::proofs::Steps::reading))]
     fn equality(&self, from: u64, at: usize) -> Result<(RawAtom, usize), Halted>
         requires { IsLevel F.Fn self.now.level }
         ensures { Gives self.now.level.cursor.tokens.now raw_atom_tree result (equality_on (deeper 63 self.now.level.left) from (drop at self.now.level.cursor.tokens.now)) }
@@ -78,7 +78,7 @@ impl<F: Fn(Wanted, usize) -> Result<(Found, usize), Halted>> Operands<'_, F> {
     }
 
     /// What follows `sel` at this byte.
-    #[tactic(auto, using(htt_parser_words::proofs::Steps::steps, htt_parser_trees::specs::TreeLevels::atom_sel), unfolding(htt_parser_words::proofs::Steps::reading))]
+    #[tactic(auto, using(htt_parser_words::proofs::Steps::steps, htt_parser_trees::specs::TreeLevels::raw_atom_sel), unfolding(htt_parser_words::proofs::Steps::reading))]
     fn selection(&self, from: u64, at: usize) -> Result<(RawAtom, usize), Halted>
         requires { IsLevel F.Fn self.now.level }
         ensures { Gives self.now.level.cursor.tokens.now raw_atom_tree result (selection_on (deeper 63 self.now.level.left) from (drop at self.now.level.cursor.tokens.now)) }
@@ -104,7 +104,7 @@ impl<F: Fn(Wanted, usize) -> Result<(Found, usize), Halted>> Operands<'_, F> {
     }
 
     /// What follows `(` at this byte.
-    #[tactic(auto, using(htt_parser_words::proofs::Steps::steps, htt_parser_trees::specs::TreeLevels::atom_unit), unfolding(htt_parser_words::proofs::Steps::reading))]
+    #[tactic(auto, using(htt_parser_words::proofs::Steps::steps, htt_parser_trees::specs::TreeLevels::raw_atom_unit), unfolding(htt_parser_words::proofs::Steps::reading))]
     fn bracket(&self, from: u64, at: usize) -> Result<(RawAtom, usize), Halted>
         requires { IsLevel F.Fn self.now.level }
         ensures { Gives self.now.level.cursor.tokens.now raw_atom_tree result (bracket_on (deeper 63 self.now.level.left) from (drop at self.now.level.cursor.tokens.now)) }
@@ -117,7 +117,7 @@ impl<F: Fn(Wanted, usize) -> Result<(Found, usize), Halted>> Operands<'_, F> {
     }
 
     /// What follows a term behind `(` at this byte.
-    #[tactic(auto, using(htt_parser_trees::specs::TreeLevels::atom_brackets), unfolding(htt_parser_words::proofs::Steps::choosing))]
+    #[tactic(auto, using(htt_parser_trees::specs::TreeLevels::raw_atom_brackets), unfolding(htt_parser_words::proofs::Steps::choosing))]
     fn after_term(
         &self,
         from: u64,
@@ -139,7 +139,7 @@ impl<F: Fn(Wanted, usize) -> Result<(Found, usize), Halted>> Operands<'_, F> {
     }
 
     /// What follows the comma of a pair.
-    #[tactic(auto, using(htt_parser_words::proofs::Steps::steps, htt_parser_trees::specs::TreeLevels::atom_pair), unfolding(htt_parser_words::proofs::Steps::reading))]
+    #[tactic(auto, using(htt_parser_words::proofs::Steps::steps, htt_parser_trees::specs::TreeLevels::raw_atom_pair), unfolding(htt_parser_words::proofs::Steps::reading))]
     fn pair(&self, from: u64, first: Boxed<RawTerm>, at: usize) -> Result<(RawAtom, usize), Halted>
         requires { IsLevel F.Fn self.now.level }
         ensures { Gives self.now.level.cursor.tokens.now raw_atom_tree result (pair_on (deeper 63 self.now.level.left) from (raw_term_tree first) (drop at self.now.level.cursor.tokens.now)) }
@@ -157,7 +157,7 @@ impl<F: Fn(Wanted, usize) -> Result<(Found, usize), Halted>> Operands<'_, F> {
     }
 
     /// What follows the colon of a term with its type.
-    #[tactic(auto, using(htt_parser_words::proofs::Steps::steps, htt_parser_trees::specs::TreeLevels::atom_annotated), unfolding(htt_parser_words::proofs::Steps::reading))]
+    #[tactic(auto, using(htt_parser_words::proofs::Steps::steps, htt_parser_trees::specs::TreeLevels::raw_atom_annotated), unfolding(htt_parser_words::proofs::Steps::reading))]
     fn annotated(
         &self,
         from: u64,

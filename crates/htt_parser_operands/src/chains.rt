@@ -84,7 +84,7 @@ impl<F: Fn(Wanted, usize) -> Result<(Found, usize), Halted>> Operands<'_, F> {
     }
 
     /// What follows a word that stands before an atom.
-    #[tactic(auto, using(htt_parser_words::proofs::Steps::steps, htt_parser_trees::specs::TreeLevels::appl_unary), unfolding(htt_parser_words::proofs::Steps::reading))]
+    #[tactic(auto, using(htt_parser_words::proofs::Steps::steps, htt_parser_trees::specs::TreeLevels::raw_appl_unary), unfolding(htt_parser_words::proofs::Steps::reading))]
     fn unary(&self, word: UnaryWord, from: u64, at: usize) -> Result<(RawAppl, usize), Halted>
         requires { IsLevel F.Fn self.now.level }
         ensures { Gives self.now.level.cursor.tokens.now raw_appl_tree result (unary_on (deeper 63 self.now.level.left) word from (drop at self.now.level.cursor.tokens.now)) }
@@ -101,7 +101,7 @@ impl<F: Fn(Wanted, usize) -> Result<(Found, usize), Halted>> Operands<'_, F> {
     }
 
     /// An atom with what it is applied to.
-    #[tactic(auto, using(htt_parser_words::proofs::Steps::steps, htt_parser_trees::specs::TreeLevels::appl_apply), unfolding(htt_parser_words::proofs::Steps::reading))]
+    #[tactic(auto, using(htt_parser_words::proofs::Steps::steps, htt_parser_trees::specs::TreeLevels::raw_appl_apply), unfolding(htt_parser_words::proofs::Steps::reading))]
     fn apply(&self, at: usize) -> Result<(RawAppl, usize), Halted>
         requires { IsLevel F.Fn self.now.level }
         ensures { Gives self.now.level.cursor.tokens.now raw_appl_tree result (apply_on (deeper 63 self.now.level.left) (drop at self.now.level.cursor.tokens.now)) }
@@ -269,7 +269,7 @@ impl<F: Fn(Wanted, usize) -> Result<(Found, usize), Halted>> Operands<'_, F> {
     }
 
     /// A sum, or a comparison of two.
-    #[tactic(auto, using(htt_parser_words::proofs::Steps::steps, htt_parser_trees::specs::TreeLevels::rel_sum, htt_parser_trees::specs::TreeLevels::rel_less), unfolding(htt_parser_words::proofs::Steps::reading, theory_grammar::specs::Phrases::rel_reader))]
+    #[tactic(auto, using(htt_parser_words::proofs::Steps::steps, htt_parser_trees::specs::TreeLevels::raw_rel_sum, htt_parser_trees::specs::TreeLevels::raw_rel_less), unfolding(htt_parser_words::proofs::Steps::reading, theory_grammar::specs::Phrases::rel_reader))]
     fn rel(&self, at: usize) -> Result<(RawRel, usize), Halted>
         requires { IsLevel F.Fn self.now.level }
         ensures { Gives self.now.level.cursor.tokens.now raw_rel_tree result (rel_reader (deeper 63 self.now.level.left) (drop at self.now.level.cursor.tokens.now)) }

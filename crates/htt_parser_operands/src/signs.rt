@@ -43,7 +43,7 @@ impl TimesSign {
     }
 
     /// An operand with this sign before it.
-    #[tactic(auto, using(htt_parser_trees::specs::TreeLevels::prod_operand_times, htt_parser_trees::specs::TreeLevels::prod_operand_and, htt_parser_trees::specs::TreeLevels::prod_operand_shift_left, htt_parser_trees::specs::TreeLevels::prod_operand_shift_right), unfolding(htt_parser_words::proofs::Steps::reading))]
+    #[tactic(auto, using(htt_parser_trees::specs::TreeLevels::raw_prod_operand_times, htt_parser_trees::specs::TreeLevels::raw_prod_operand_and, htt_parser_trees::specs::TreeLevels::raw_prod_operand_shift_left, htt_parser_trees::specs::TreeLevels::raw_prod_operand_shift_right), unfolding(htt_parser_words::proofs::Steps::reading))]
     pub fn joined(self, operand: RawAppl) -> ProdOperand
         ensures { raw_prod_operand_tree result ≡ x_more (times_tree self) (raw_appl_tree operand) }
     {
@@ -71,7 +71,7 @@ impl PlusSign {
     }
 
     /// An operand with this sign before it.
-    #[tactic(auto, using(htt_parser_trees::specs::TreeLevels::sum_operand_plus, htt_parser_trees::specs::TreeLevels::sum_operand_minus, htt_parser_trees::specs::TreeLevels::sum_operand_bar, htt_parser_trees::specs::TreeLevels::sum_operand_caret), unfolding(htt_parser_words::proofs::Steps::reading))]
+    #[tactic(auto, using(htt_parser_trees::specs::TreeLevels::raw_sum_operand_plus, htt_parser_trees::specs::TreeLevels::raw_sum_operand_minus, htt_parser_trees::specs::TreeLevels::raw_sum_operand_bar, htt_parser_trees::specs::TreeLevels::raw_sum_operand_caret), unfolding(htt_parser_words::proofs::Steps::reading))]
     pub fn joined(self, operand: RawProd) -> SumOperand
         ensures { raw_sum_operand_tree result ≡ s_more (plus_tree self) (raw_prod_tree operand) }
     {

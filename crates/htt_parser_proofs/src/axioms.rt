@@ -47,7 +47,7 @@ impl Proofs<'_> {
     }
 
     /// What follows the dot behind a predicate's name, which an axiom unfolds.
-    #[tactic(auto, using(htt_parser_words::proofs::Steps::steps, htt_parser_trees::specs::ProofLevels::end_unfold), unfolding(htt_parser_words::proofs::Steps::reading))]
+    #[tactic(auto, using(htt_parser_words::proofs::Steps::steps, htt_parser_trees::specs::ProofLevels::raw_end_unfold), unfolding(htt_parser_words::proofs::Steps::reading))]
     fn unfold(&self, left: u32, from: u64, name: Span, at: usize) -> Result<(RawEnd, usize), Halted>
         ensures { Gives self.now.phrases.cursor.tokens.now raw_end_tree result (unfold_on (deeper 63 left) from name (drop at self.now.phrases.cursor.tokens.now)) }
     {
@@ -69,7 +69,7 @@ impl Proofs<'_> {
     }
 
     /// What follows the bracket before an axiom's monotypes.
-    #[tactic(auto, using(htt_parser_words::proofs::Steps::steps, htt_parser_trees::specs::ProofLevels::end_axiom), unfolding(htt_parser_words::proofs::Steps::reading))]
+    #[tactic(auto, using(htt_parser_words::proofs::Steps::steps, htt_parser_trees::specs::ProofLevels::raw_end_axiom), unfolding(htt_parser_words::proofs::Steps::reading))]
     fn axiom_monos(
         &self,
         left: u32,
@@ -96,7 +96,7 @@ impl Proofs<'_> {
     }
 
     /// What follows the bracket before an axiom's arguments where it has no monotypes.
-    #[tactic(auto, using(htt_parser_words::proofs::Steps::steps, htt_parser_trees::specs::ProofLevels::end_axiom), unfolding(htt_parser_words::proofs::Steps::reading))]
+    #[tactic(auto, using(htt_parser_words::proofs::Steps::steps, htt_parser_trees::specs::ProofLevels::raw_end_axiom), unfolding(htt_parser_words::proofs::Steps::reading))]
     fn axiom_plain(
         &self,
         left: u32,
@@ -120,7 +120,7 @@ impl Proofs<'_> {
     }
 
     /// What follows `lem` at this byte.
-    #[tactic(auto, using(htt_parser_words::proofs::Steps::steps, htt_parser_trees::specs::ProofLevels::end_lem), unfolding(htt_parser_words::proofs::Steps::reading))]
+    #[tactic(auto, using(htt_parser_words::proofs::Steps::steps, htt_parser_trees::specs::ProofLevels::raw_end_lem), unfolding(htt_parser_words::proofs::Steps::reading))]
     pub(crate) fn lem(&self, left: u32, from: u64, at: usize) -> Result<(RawEnd, usize), Halted>
         ensures { Gives self.now.phrases.cursor.tokens.now raw_end_tree result (lem_on (deeper 63 left) from (drop at self.now.phrases.cursor.tokens.now)) }
     {
@@ -131,7 +131,7 @@ impl Proofs<'_> {
     }
 
     /// What a proof is used at, with the bracket that closes it.
-    #[tactic(auto, using(htt_parser_words::proofs::Steps::steps, htt_parser_trees::specs::ProofLevels::end_inst), unfolding(htt_parser_words::proofs::Steps::reading, theory_grammar::specs::Reading::inst_more))]
+    #[tactic(auto, using(htt_parser_words::proofs::Steps::steps, htt_parser_trees::specs::ProofLevels::raw_end_inst), unfolding(htt_parser_words::proofs::Steps::reading, theory_grammar::specs::Reading::inst_more))]
     pub(crate) fn instance(
         &self,
         left: u32,

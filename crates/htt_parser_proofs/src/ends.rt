@@ -19,7 +19,7 @@ use sqlite_items::Boxed;
 
 impl<F: Fn(usize) -> Result<(RawProof, usize), Halted> + Copy> ProofLevel<'_, F> {
     /// The end of a proof.
-    #[tactic(auto, using(htt_parser_trees::specs::ProofLevels::end_name, htt_parser_trees::specs::ProofLevels::end_trivial, htt_parser_trees::specs::ProofLevels::end_refl), unfolding(htt_parser_words::proofs::Steps::choosing, theory_grammar::specs::Reading::end_reader))]
+    #[tactic(auto, using(htt_parser_trees::specs::ProofLevels::raw_end_name, htt_parser_trees::specs::ProofLevels::raw_end_trivial, htt_parser_trees::specs::ProofLevels::raw_end_refl), unfolding(htt_parser_words::proofs::Steps::choosing, theory_grammar::specs::Reading::end_reader))]
     pub fn end(&self, at: usize) -> Result<(RawEnd, usize), Halted>
         requires { IsProofLevel F.Fn self.now }
         ensures { Gives self.now.proofs.phrases.cursor.tokens.now raw_end_tree result (end_reader (deeper 63 self.now.left) (drop at self.now.proofs.phrases.cursor.tokens.now)) }
@@ -60,7 +60,7 @@ impl<F: Fn(usize) -> Result<(RawProof, usize), Halted> + Copy> ProofLevel<'_, F>
     }
 
     /// What follows the word of an end that has one proof.
-    #[tactic(auto, using(htt_parser_words::proofs::Steps::steps, htt_parser_trees::specs::ProofLevels::end_unary), unfolding(htt_parser_words::proofs::Steps::reading, theory_grammar::specs::Reading::unary_reader))]
+    #[tactic(auto, using(htt_parser_words::proofs::Steps::steps, htt_parser_trees::specs::ProofLevels::raw_end_unary), unfolding(htt_parser_words::proofs::Steps::reading, theory_grammar::specs::Reading::unary_reader))]
     fn unary(&self, from: u64, rule: UnaryRule, at: usize) -> Result<(RawEnd, usize), Halted>
         requires { IsProofLevel F.Fn self.now }
         ensures { Gives self.now.proofs.phrases.cursor.tokens.now raw_end_tree result (unary_reader (deeper 63 self.now.left) from rule (drop at self.now.proofs.phrases.cursor.tokens.now)) }
@@ -79,7 +79,7 @@ impl<F: Fn(usize) -> Result<(RawProof, usize), Halted> + Copy> ProofLevel<'_, F>
     }
 
     /// What follows `both` at this byte.
-    #[tactic(auto, using(htt_parser_words::proofs::Steps::steps, htt_parser_trees::specs::ProofLevels::end_both), unfolding(htt_parser_words::proofs::Steps::reading))]
+    #[tactic(auto, using(htt_parser_words::proofs::Steps::steps, htt_parser_trees::specs::ProofLevels::raw_end_both), unfolding(htt_parser_words::proofs::Steps::reading))]
     fn both(&self, from: u64, at: usize) -> Result<(RawEnd, usize), Halted>
         requires { IsProofLevel F.Fn self.now }
         ensures { Gives self.now.proofs.phrases.cursor.tokens.now raw_end_tree result (both_on (deeper 63 self.now.left) from (drop at self.now.proofs.phrases.cursor.tokens.now)) }
@@ -100,7 +100,7 @@ impl<F: Fn(usize) -> Result<(RawProof, usize), Halted> + Copy> ProofLevel<'_, F>
     }
 
     /// What follows `give` at this byte.
-    #[tactic(auto, using(htt_parser_words::proofs::Steps::steps, htt_parser_trees::specs::ProofLevels::end_give), unfolding(htt_parser_words::proofs::Steps::reading))]
+    #[tactic(auto, using(htt_parser_words::proofs::Steps::steps, htt_parser_trees::specs::ProofLevels::raw_end_give), unfolding(htt_parser_words::proofs::Steps::reading))]
     fn give(&self, from: u64, at: usize) -> Result<(RawEnd, usize), Halted>
         requires { IsProofLevel F.Fn self.now }
         ensures { Gives self.now.proofs.phrases.cursor.tokens.now raw_end_tree result (give_on (deeper 63 self.now.left) from (drop at self.now.proofs.phrases.cursor.tokens.now)) }
@@ -133,7 +133,7 @@ impl<F: Fn(usize) -> Result<(RawProof, usize), Halted> + Copy> ProofLevel<'_, F>
     }
 
     /// What a proof is applied to, with the bracket that closes it.
-    #[tactic(auto, using(htt_parser_words::proofs::Steps::steps, htt_parser_trees::specs::ProofLevels::end_app), unfolding(htt_parser_words::proofs::Steps::reading, theory_grammar::specs::Reading::app_more))]
+    #[tactic(auto, using(htt_parser_words::proofs::Steps::steps, htt_parser_trees::specs::ProofLevels::raw_end_app), unfolding(htt_parser_words::proofs::Steps::reading, theory_grammar::specs::Reading::app_more))]
     fn applied(
         &self,
         from: u64,

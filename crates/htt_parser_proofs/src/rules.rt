@@ -17,7 +17,7 @@ use sqlite_items::Boxed;
 
 impl<F: Fn(usize) -> Result<(RawProof, usize), Halted> + Copy> ProofLevel<'_, F> {
     /// What follows `case` at this byte.
-    #[tactic(auto, using(htt_parser_words::proofs::Steps::steps, htt_parser_trees::specs::ProofLevels::end_case), unfolding(htt_parser_words::proofs::Steps::reading))]
+    #[tactic(auto, using(htt_parser_words::proofs::Steps::steps, htt_parser_trees::specs::ProofLevels::raw_end_case), unfolding(htt_parser_words::proofs::Steps::reading))]
     pub fn case(&self, from: u64, at: usize) -> Result<(RawEnd, usize), Halted>
         requires { IsProofLevel F.Fn self.now }
         ensures { Gives self.now.proofs.phrases.cursor.tokens.now raw_end_tree result (case_on (deeper 63 self.now.left) from (drop at self.now.proofs.phrases.cursor.tokens.now)) }
@@ -47,7 +47,7 @@ impl<F: Fn(usize) -> Result<(RawProof, usize), Halted> + Copy> ProofLevel<'_, F>
     }
 
     /// What follows `rewrite` at this byte.
-    #[tactic(auto, using(htt_parser_words::proofs::Steps::steps, htt_parser_trees::specs::ProofLevels::end_rewrite), unfolding(htt_parser_words::proofs::Steps::reading))]
+    #[tactic(auto, using(htt_parser_words::proofs::Steps::steps, htt_parser_trees::specs::ProofLevels::raw_end_rewrite), unfolding(htt_parser_words::proofs::Steps::reading))]
     pub fn rewrite(&self, from: u64, at: usize) -> Result<(RawEnd, usize), Halted>
         requires { IsProofLevel F.Fn self.now }
         ensures { Gives self.now.proofs.phrases.cursor.tokens.now raw_end_tree result (rewrite_on (deeper 63 self.now.left) from (drop at self.now.proofs.phrases.cursor.tokens.now)) }
@@ -71,7 +71,7 @@ impl<F: Fn(usize) -> Result<(RawProof, usize), Halted> + Copy> ProofLevel<'_, F>
     }
 
     /// What follows `induct` at this byte.
-    #[tactic(auto, using(htt_parser_words::proofs::Steps::steps, htt_parser_trees::specs::ProofLevels::end_induct), unfolding(htt_parser_words::proofs::Steps::reading))]
+    #[tactic(auto, using(htt_parser_words::proofs::Steps::steps, htt_parser_trees::specs::ProofLevels::raw_end_induct), unfolding(htt_parser_words::proofs::Steps::reading))]
     pub fn induct(&self, from: u64, at: usize) -> Result<(RawEnd, usize), Halted>
         requires { IsProofLevel F.Fn self.now }
         ensures { Gives self.now.proofs.phrases.cursor.tokens.now raw_end_tree result (induct_end_on (deeper 63 self.now.left) from (drop at self.now.proofs.phrases.cursor.tokens.now)) }
@@ -87,7 +87,7 @@ impl<F: Fn(usize) -> Result<(RawProof, usize), Halted> + Copy> ProofLevel<'_, F>
     }
 
     /// What follows the first proof of `induct` and its comma.
-    #[tactic(auto, using(htt_parser_words::proofs::Steps::steps, htt_parser_trees::specs::ProofLevels::end_induct), unfolding(htt_parser_words::proofs::Steps::reading))]
+    #[tactic(auto, using(htt_parser_words::proofs::Steps::steps, htt_parser_trees::specs::ProofLevels::raw_end_induct), unfolding(htt_parser_words::proofs::Steps::reading))]
     fn induct_step(
         &self,
         from: u64,
@@ -121,7 +121,7 @@ impl<F: Fn(usize) -> Result<(RawProof, usize), Halted> + Copy> ProofLevel<'_, F>
     }
 
     /// What follows `split` at this byte.
-    #[tactic(auto, using(htt_parser_words::proofs::Steps::steps, htt_parser_trees::specs::ProofLevels::end_split), unfolding(htt_parser_words::proofs::Steps::reading))]
+    #[tactic(auto, using(htt_parser_words::proofs::Steps::steps, htt_parser_trees::specs::ProofLevels::raw_end_split), unfolding(htt_parser_words::proofs::Steps::reading))]
     pub fn split(&self, from: u64, at: usize) -> Result<(RawEnd, usize), Halted>
         requires { IsProofLevel F.Fn self.now }
         ensures { Gives self.now.proofs.phrases.cursor.tokens.now raw_end_tree result (split_on (deeper 63 self.now.left) from (drop at self.now.proofs.phrases.cursor.tokens.now)) }
@@ -148,7 +148,7 @@ impl<F: Fn(usize) -> Result<(RawProof, usize), Halted> + Copy> ProofLevel<'_, F>
     }
 
     /// What follows `the` at this byte.
-    #[tactic(auto, using(htt_parser_words::proofs::Steps::steps, htt_parser_trees::specs::ProofLevels::end_the), unfolding(htt_parser_words::proofs::Steps::reading))]
+    #[tactic(auto, using(htt_parser_words::proofs::Steps::steps, htt_parser_trees::specs::ProofLevels::raw_end_the), unfolding(htt_parser_words::proofs::Steps::reading))]
     pub fn the(&self, from: u64, at: usize) -> Result<(RawEnd, usize), Halted>
         requires { IsProofLevel F.Fn self.now }
         ensures { Gives self.now.proofs.phrases.cursor.tokens.now raw_end_tree result (the_on (deeper 63 self.now.left) from (drop at self.now.proofs.phrases.cursor.tokens.now)) }

@@ -19,7 +19,7 @@ use htt_syntax_seq::Seq;
 
 impl Proofs<'_> {
     /// What follows `intro` at this byte.
-    #[tactic(auto, using(htt_parser_words::proofs::Steps::steps, htt_parser_trees::specs::ProofLevels::stmt_intro), unfolding(htt_parser_words::proofs::Steps::reading))]
+    #[tactic(auto, using(htt_parser_words::proofs::Steps::steps, htt_parser_trees::specs::ProofLevels::raw_stmt_intro), unfolding(htt_parser_words::proofs::Steps::reading))]
     fn intro(&self, from: u64, at: usize) -> Result<(RawStmt, usize), Halted>
         ensures { Gives self.now.phrases.cursor.tokens.now raw_stmt_tree result (intro_on from (drop at self.now.phrases.cursor.tokens.now)) }
     {
@@ -29,7 +29,7 @@ impl Proofs<'_> {
     }
 
     /// What follows `gen` at this byte.
-    #[tactic(auto, using(htt_parser_words::proofs::Steps::steps, htt_parser_trees::specs::ProofLevels::stmt_gen), unfolding(htt_parser_words::proofs::Steps::reading))]
+    #[tactic(auto, using(htt_parser_words::proofs::Steps::steps, htt_parser_trees::specs::ProofLevels::raw_stmt_gen), unfolding(htt_parser_words::proofs::Steps::reading))]
     fn generalize(&self, from: u64, at: usize) -> Result<(RawStmt, usize), Halted>
         ensures { Gives self.now.phrases.cursor.tokens.now raw_stmt_tree result (gen_on from (drop at self.now.phrases.cursor.tokens.now)) }
     {
@@ -41,7 +41,7 @@ impl Proofs<'_> {
 
 impl<F: Fn(usize) -> Result<(RawProof, usize), Halted> + Copy> ProofLevel<'_, F> {
     /// What follows `open` at this byte.
-    #[tactic(auto, using(htt_parser_words::proofs::Steps::steps, htt_parser_trees::specs::ProofLevels::stmt_open), unfolding(htt_parser_words::proofs::Steps::reading))]
+    #[tactic(auto, using(htt_parser_words::proofs::Steps::steps, htt_parser_trees::specs::ProofLevels::raw_stmt_open), unfolding(htt_parser_words::proofs::Steps::reading))]
     fn open(&self, from: u64, at: usize) -> Result<(RawStmt, usize), Halted>
         requires { IsProofLevel F.Fn self.now }
         ensures { Gives self.now.proofs.phrases.cursor.tokens.now raw_stmt_tree result (open_on (deeper 63 self.now.left) from (drop at self.now.proofs.phrases.cursor.tokens.now)) }
@@ -63,7 +63,7 @@ impl<F: Fn(usize) -> Result<(RawProof, usize), Halted> + Copy> ProofLevel<'_, F>
     }
 
     /// What follows `have` at this byte.
-    #[tactic(auto, using(htt_parser_words::proofs::Steps::steps, htt_parser_trees::specs::ProofLevels::stmt_have), unfolding(htt_parser_words::proofs::Steps::reading))]
+    #[tactic(auto, using(htt_parser_words::proofs::Steps::steps, htt_parser_trees::specs::ProofLevels::raw_stmt_have), unfolding(htt_parser_words::proofs::Steps::reading))]
     fn have(&self, from: u64, at: usize) -> Result<(RawStmt, usize), Halted>
         requires { IsProofLevel F.Fn self.now }
         ensures { Gives self.now.proofs.phrases.cursor.tokens.now raw_stmt_tree result (have_on (deeper 63 self.now.left) from (drop at self.now.proofs.phrases.cursor.tokens.now)) }
@@ -77,7 +77,7 @@ impl<F: Fn(usize) -> Result<(RawProof, usize), Halted> + Copy> ProofLevel<'_, F>
     }
 
     /// What follows the formula of `have`.
-    #[tactic(auto, using(htt_parser_words::proofs::Steps::steps, htt_parser_trees::specs::ProofLevels::stmt_have), unfolding(htt_parser_words::proofs::Steps::reading))]
+    #[tactic(auto, using(htt_parser_words::proofs::Steps::steps, htt_parser_trees::specs::ProofLevels::raw_stmt_have), unfolding(htt_parser_words::proofs::Steps::reading))]
     fn had(
         &self,
         from: u64,

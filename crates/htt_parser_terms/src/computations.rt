@@ -78,7 +78,7 @@ impl<F: Fn(Wanted, usize) -> Result<(Found, usize), Halted>> Terms<'_, F> {
     }
 
     /// What follows `alloc`.
-    #[tactic(auto, using(htt_parser_words::proofs::Steps::steps, htt_parser_trees::specs::TreeLevels::step_alloc, htt_parser_trees::specs::TreeLevels::step_name_alloc), unfolding(htt_parser_words::proofs::Steps::reading))]
+    #[tactic(auto, using(htt_parser_words::proofs::Steps::steps, htt_parser_trees::specs::TreeLevels::raw_step_alloc, htt_parser_trees::specs::TreeLevels::raw_step_name_alloc), unfolding(htt_parser_words::proofs::Steps::reading))]
     fn alloc_step(&self, name: Binder, at: usize) -> Result<(RawStep, usize), Halted>
         requires { IsLevel F.Fn self.now.operands.level }
         ensures gives { Gives self.now.operands.level.cursor.tokens.now raw_step_tree result (alloc_on (deeper 63 self.now.operands.level.left) (drop at self.now.operands.level.cursor.tokens.now)) }
@@ -94,7 +94,7 @@ impl<F: Fn(Wanted, usize) -> Result<(Found, usize), Halted>> Terms<'_, F> {
     }
 
     /// What follows `get`.
-    #[tactic(auto, using(htt_parser_words::proofs::Steps::steps, htt_parser_trees::specs::TreeLevels::step_get, htt_parser_trees::specs::TreeLevels::step_name_get), unfolding(htt_parser_words::proofs::Steps::reading))]
+    #[tactic(auto, using(htt_parser_words::proofs::Steps::steps, htt_parser_trees::specs::TreeLevels::raw_step_get, htt_parser_trees::specs::TreeLevels::raw_step_name_get), unfolding(htt_parser_words::proofs::Steps::reading))]
     fn get_step(&self, name: Binder, at: usize) -> Result<(RawStep, usize), Halted>
         requires { IsLevel F.Fn self.now.operands.level }
         ensures gives { Gives self.now.operands.level.cursor.tokens.now raw_step_tree result (get_on (deeper 63 self.now.operands.level.left) (drop at self.now.operands.level.cursor.tokens.now)) }
@@ -110,7 +110,7 @@ impl<F: Fn(Wanted, usize) -> Result<(Found, usize), Halted>> Terms<'_, F> {
     }
 
     /// What follows `set`.
-    #[tactic(auto, using(htt_parser_words::proofs::Steps::steps, htt_parser_trees::specs::TreeLevels::step_set, htt_parser_trees::specs::TreeLevels::step_name_set), unfolding(htt_parser_words::proofs::Steps::reading))]
+    #[tactic(auto, using(htt_parser_words::proofs::Steps::steps, htt_parser_trees::specs::TreeLevels::raw_step_set, htt_parser_trees::specs::TreeLevels::raw_step_name_set), unfolding(htt_parser_words::proofs::Steps::reading))]
     fn set_step(&self, name: Binder, at: usize) -> Result<(RawStep, usize), Halted>
         requires { IsLevel F.Fn self.now.operands.level }
         ensures gives { Gives self.now.operands.level.cursor.tokens.now raw_step_tree result (set_on (deeper 63 self.now.operands.level.left) (drop at self.now.operands.level.cursor.tokens.now)) }
@@ -135,7 +135,7 @@ impl<F: Fn(Wanted, usize) -> Result<(Found, usize), Halted>> Terms<'_, F> {
     }
 
     /// What follows `free`.
-    #[tactic(auto, using(htt_parser_words::proofs::Steps::steps, htt_parser_trees::specs::TreeLevels::step_free, htt_parser_trees::specs::TreeLevels::step_name_free), unfolding(htt_parser_words::proofs::Steps::reading))]
+    #[tactic(auto, using(htt_parser_words::proofs::Steps::steps, htt_parser_trees::specs::TreeLevels::raw_step_free, htt_parser_trees::specs::TreeLevels::raw_step_name_free), unfolding(htt_parser_words::proofs::Steps::reading))]
     fn free_step(&self, name: Binder, at: usize) -> Result<(RawStep, usize), Halted>
         requires { IsLevel F.Fn self.now.operands.level }
         ensures gives { Gives self.now.operands.level.cursor.tokens.now raw_step_tree result (free_on (deeper 63 self.now.operands.level.left) (drop at self.now.operands.level.cursor.tokens.now)) }
@@ -151,7 +151,7 @@ impl<F: Fn(Wanted, usize) -> Result<(Found, usize), Halted>> Terms<'_, F> {
     }
 
     /// What follows `if`.
-    #[tactic(auto, using(htt_parser_words::proofs::Steps::steps, htt_parser_trees::specs::TreeLevels::step_if, htt_parser_trees::specs::TreeLevels::step_name_if), unfolding(htt_parser_words::proofs::Steps::reading))]
+    #[tactic(auto, using(htt_parser_words::proofs::Steps::steps, htt_parser_trees::specs::TreeLevels::raw_step_if, htt_parser_trees::specs::TreeLevels::raw_step_name_if), unfolding(htt_parser_words::proofs::Steps::reading))]
     fn if_step(&self, name: Binder, at: usize) -> Result<(RawStep, usize), Halted>
         requires { IsLevel F.Fn self.now.operands.level }
         ensures gives { Gives self.now.operands.level.cursor.tokens.now raw_step_tree result (if_on (deeper 63 self.now.operands.level.left) (drop at self.now.operands.level.cursor.tokens.now)) }
@@ -182,7 +182,7 @@ impl<F: Fn(Wanted, usize) -> Result<(Found, usize), Halted>> Terms<'_, F> {
     }
 
     /// What follows `claim`.
-    #[tactic(auto, using(htt_parser_words::proofs::Steps::steps, htt_parser_trees::specs::TreeLevels::step_claim, htt_parser_trees::specs::TreeLevels::step_name_claim), unfolding(htt_parser_words::proofs::Steps::reading))]
+    #[tactic(auto, using(htt_parser_words::proofs::Steps::steps, htt_parser_trees::specs::TreeLevels::raw_step_claim, htt_parser_trees::specs::TreeLevels::raw_step_name_claim), unfolding(htt_parser_words::proofs::Steps::reading))]
     fn claim(&self, name: Binder, at: usize) -> Result<(RawStep, usize), Halted>
         requires { IsLevel F.Fn self.now.operands.level }
         ensures gives { Gives self.now.operands.level.cursor.tokens.now raw_step_tree result (claim_on (deeper 63 self.now.operands.level.left) (drop at self.now.operands.level.cursor.tokens.now)) }
@@ -195,7 +195,7 @@ impl<F: Fn(Wanted, usize) -> Result<(Found, usize), Halted>> Terms<'_, F> {
     }
 
     /// The run of a routine.
-    #[tactic(auto, using(htt_parser_words::proofs::Steps::steps, htt_parser_trees::specs::TreeLevels::step_run, htt_parser_trees::specs::TreeLevels::step_name_run), unfolding(htt_parser_words::proofs::Steps::reading))]
+    #[tactic(auto, using(htt_parser_words::proofs::Steps::steps, htt_parser_trees::specs::TreeLevels::raw_step_run, htt_parser_trees::specs::TreeLevels::raw_step_name_run), unfolding(htt_parser_words::proofs::Steps::reading))]
     fn run(&self, name: Binder, at: usize) -> Result<(RawStep, usize), Halted>
         requires { IsLevel F.Fn self.now.operands.level }
         ensures gives { Gives self.now.operands.level.cursor.tokens.now raw_step_tree result (run_on (deeper 63 self.now.operands.level.left) (drop at self.now.operands.level.cursor.tokens.now)) }

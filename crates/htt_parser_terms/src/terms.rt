@@ -19,7 +19,7 @@ use htt_syntax_seq::Seq;
 use sqlite_items::Boxed;
 
 /// A parameter that binds so.
-#[tactic(auto, using(htt_parser_trees::specs::TreeLevels::param_named, htt_parser_trees::specs::TreeLevels::param_blank), unfolding(htt_parser_words::proofs::Steps::reading))]
+#[tactic(auto, using(htt_parser_trees::specs::TreeLevels::raw_param_named, htt_parser_trees::specs::TreeLevels::raw_param_blank), unfolding(htt_parser_words::proofs::Steps::reading))]
 fn parameter(binder: Binder, ty: RawTy) -> RawParam
     ensures { raw_param_tree result ≡ more_params binder (raw_ty_tree ty) }
 {
@@ -66,7 +66,7 @@ impl<F: Fn(Wanted, usize) -> Result<(Found, usize), Halted>> Terms<'_, F> {
     }
 
     /// What follows `fun [`.
-    #[tactic(auto, using(htt_parser_words::proofs::Steps::steps, htt_parser_trees::specs::TreeLevels::term_fun_mono), unfolding(htt_parser_words::proofs::Steps::reading))]
+    #[tactic(auto, using(htt_parser_words::proofs::Steps::steps, htt_parser_trees::specs::TreeLevels::raw_term_fun_mono), unfolding(htt_parser_words::proofs::Steps::reading))]
     fn mono_function(&self, from: u64, at: usize) -> Result<(RawTerm, usize), Halted>
         requires { IsLevel F.Fn self.now.operands.level }
         ensures { Gives self.now.operands.level.cursor.tokens.now raw_term_tree result (fun_mono_on (deeper 63 self.now.operands.level.left) from (drop at self.now.operands.level.cursor.tokens.now)) }
@@ -86,7 +86,7 @@ impl<F: Fn(Wanted, usize) -> Result<(Found, usize), Halted>> Terms<'_, F> {
     }
 
     /// What follows `fun` where it binds a term.
-    #[tactic(auto, using(htt_parser_words::proofs::Steps::steps, htt_parser_trees::specs::TreeLevels::term_fun), unfolding(htt_parser_words::proofs::Steps::reading))]
+    #[tactic(auto, using(htt_parser_words::proofs::Steps::steps, htt_parser_trees::specs::TreeLevels::raw_term_fun), unfolding(htt_parser_words::proofs::Steps::reading))]
     fn term_function(&self, from: u64, at: usize) -> Result<(RawTerm, usize), Halted>
         requires { IsLevel F.Fn self.now.operands.level }
         ensures { Gives self.now.operands.level.cursor.tokens.now raw_term_tree result (fun_binder_on (deeper 63 self.now.operands.level.left) from (drop at self.now.operands.level.cursor.tokens.now)) }
@@ -105,7 +105,7 @@ impl<F: Fn(Wanted, usize) -> Result<(Found, usize), Halted>> Terms<'_, F> {
     }
 
     /// What follows `do` at this byte.
-    #[tactic(auto, using(htt_parser_words::proofs::Steps::steps, htt_parser_trees::specs::TreeLevels::term_do), unfolding(htt_parser_words::proofs::Steps::reading))]
+    #[tactic(auto, using(htt_parser_words::proofs::Steps::steps, htt_parser_trees::specs::TreeLevels::raw_term_do), unfolding(htt_parser_words::proofs::Steps::reading))]
     fn do_block(&self, from: u64, at: usize) -> Result<(RawTerm, usize), Halted>
         requires { IsLevel F.Fn self.now.operands.level }
         ensures { Gives self.now.operands.level.cursor.tokens.now raw_term_tree result (do_on (deeper 63 self.now.operands.level.left) from (drop at self.now.operands.level.cursor.tokens.now)) }
@@ -116,7 +116,7 @@ impl<F: Fn(Wanted, usize) -> Result<(Found, usize), Halted>> Terms<'_, F> {
     }
 
     /// What follows `fix` at this byte.
-    #[tactic(auto, using(htt_parser_words::proofs::Steps::steps, htt_parser_trees::specs::TreeLevels::term_fix), unfolding(htt_parser_words::proofs::Steps::reading))]
+    #[tactic(auto, using(htt_parser_words::proofs::Steps::steps, htt_parser_trees::specs::TreeLevels::raw_term_fix), unfolding(htt_parser_words::proofs::Steps::reading))]
     fn fix(&self, from: u64, at: usize) -> Result<(RawTerm, usize), Halted>
         requires { IsLevel F.Fn self.now.operands.level }
         ensures { Gives self.now.operands.level.cursor.tokens.now raw_term_tree result (fix_on (deeper 63 self.now.operands.level.left) from (drop at self.now.operands.level.cursor.tokens.now)) }
@@ -139,7 +139,7 @@ impl<F: Fn(Wanted, usize) -> Result<(Found, usize), Halted>> Terms<'_, F> {
     }
 
     /// A sum or a comparison as a term.
-    #[tactic(auto, using(htt_parser_words::proofs::Steps::steps, htt_parser_trees::specs::TreeLevels::term_rel), unfolding(htt_parser_words::proofs::Steps::reading))]
+    #[tactic(auto, using(htt_parser_words::proofs::Steps::steps, htt_parser_trees::specs::TreeLevels::raw_term_rel), unfolding(htt_parser_words::proofs::Steps::reading))]
     fn rel_term(&self, at: usize) -> Result<(RawTerm, usize), Halted>
         requires { IsLevel F.Fn self.now.operands.level }
         ensures { Gives self.now.operands.level.cursor.tokens.now raw_term_tree result (rel_term_on (deeper 63 self.now.operands.level.left) (drop at self.now.operands.level.cursor.tokens.now)) }

@@ -70,7 +70,7 @@ impl<F: Fn(Wanted, usize) -> Result<(Found, usize), Halted>> Terms<'_, F> {
     }
 
     /// What follows `(` in a type of a function.
-    #[tactic(auto, using(htt_parser_words::proofs::Steps::steps, htt_parser_trees::specs::TreeLevels::ty_fun), unfolding(htt_parser_words::proofs::Steps::reading))]
+    #[tactic(auto, using(htt_parser_words::proofs::Steps::steps, htt_parser_trees::specs::TreeLevels::raw_ty_fun), unfolding(htt_parser_words::proofs::Steps::reading))]
     fn parameter_ty(&self, from: u64, at: usize) -> Result<(RawTy, usize), Halted>
         requires { IsLevel F.Fn self.now.operands.level }
         ensures { Gives self.now.operands.level.cursor.tokens.now raw_ty_tree result (function_on (deeper 63 self.now.operands.level.left) from (drop at self.now.operands.level.cursor.tokens.now)) }
@@ -109,7 +109,7 @@ impl<F: Fn(Wanted, usize) -> Result<(Found, usize), Halted>> Terms<'_, F> {
     }
 
     /// What follows `[` in a type over all monotypes.
-    #[tactic(auto, using(htt_parser_words::proofs::Steps::steps, htt_parser_trees::specs::TreeLevels::ty_all), unfolding(htt_parser_words::proofs::Steps::reading))]
+    #[tactic(auto, using(htt_parser_words::proofs::Steps::steps, htt_parser_trees::specs::TreeLevels::raw_ty_all), unfolding(htt_parser_words::proofs::Steps::reading))]
     fn all_ty(&self, from: u64, at: usize) -> Result<(RawTy, usize), Halted>
         requires { IsLevel F.Fn self.now.operands.level }
         ensures { Gives self.now.operands.level.cursor.tokens.now raw_ty_tree result (all_on (deeper 63 self.now.operands.level.left) from (drop at self.now.operands.level.cursor.tokens.now)) }
@@ -129,7 +129,7 @@ impl<F: Fn(Wanted, usize) -> Result<(Found, usize), Halted>> Terms<'_, F> {
     }
 
     /// What follows `{` in a Hoare type.
-    #[tactic(auto, using(htt_parser_words::proofs::Steps::steps, htt_parser_trees::specs::TreeLevels::ty_hoare), unfolding(htt_parser_words::proofs::Steps::reading))]
+    #[tactic(auto, using(htt_parser_words::proofs::Steps::steps, htt_parser_trees::specs::TreeLevels::raw_ty_hoare), unfolding(htt_parser_words::proofs::Steps::reading))]
     fn hoare_ty(&self, from: u64, at: usize) -> Result<(RawTy, usize), Halted>
         requires { IsLevel F.Fn self.now.operands.level }
         ensures { Gives self.now.operands.level.cursor.tokens.now raw_ty_tree result (hoare_on (deeper 63 self.now.operands.level.left) from (drop at self.now.operands.level.cursor.tokens.now)) }
@@ -140,7 +140,7 @@ impl<F: Fn(Wanted, usize) -> Result<(Found, usize), Halted>> Terms<'_, F> {
     }
 
     /// A monotype as a type.
-    #[tactic(auto, using(htt_parser_words::proofs::Steps::steps, htt_parser_trees::specs::TreeLevels::ty_mono), unfolding(htt_parser_words::proofs::Steps::reading))]
+    #[tactic(auto, using(htt_parser_words::proofs::Steps::steps, htt_parser_trees::specs::TreeLevels::raw_ty_mono), unfolding(htt_parser_words::proofs::Steps::reading))]
     fn mono_ty(&self, at: usize) -> Result<(RawTy, usize), Halted>
         ensures { Gives self.now.operands.level.cursor.tokens.now raw_ty_tree result (mono_ty_on (deeper 63 self.now.operands.level.left) (drop at self.now.operands.level.cursor.tokens.now)) }
     {
