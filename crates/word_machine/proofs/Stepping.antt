@@ -128,6 +128,9 @@ going_is None h stack g = refl
 going_is (Some overs.Halted) h stack g = absurd g
 going_is (Some (overs.Fault kind l)) h stack g = absurd g
 
+pub is_going : (o : Option Over) (h : Heap) (stack : Stack) → o ≡ None → IsGoing (state o h stack)
+is_going o h stack e = rw e tt
+
 pub halt_is : (o : Option Over) (h : Heap) (stack : Stack) → IsHalted (state o h stack) → state o h stack ≡ halted (locals_of stack) h
 halt_is None h stack g = absurd g
 halt_is (Some overs.Halted) h stack g = refl

@@ -3,8 +3,8 @@
 
 ghost use Rattle.std.specs.Prelude.{ℕ, ◌≡◌, List, [], IfOk, OnErr, IfErr, slice_get};
 ghost use Rattle.word_loader_code.specs.Valid.{IsValid};
-ghost use Rattle.word_loader_code.specs.Machine.{started};
-ghost use Rattle.theory_machine.specs.Fits.{FitsCode};
+ghost use Rattle.word_loader_code.specs.Machine.{started, top};
+ghost use Rattle.theory_machine.specs.Fits.{FitsCode, function_of};
 ghost use Rattle.heap_model_flat.specs.Blocks.{blocks_of};
 ghost use Rattle.word_machine.specs.States.{state_of, over_after, over_answer};
 ghost use Rattle.word_machine.specs.Steps.{StepsTo, next_of, IsGoing, IsHalted};
@@ -16,7 +16,7 @@ use heap_model_flat::Heap;
 use htt_syntax_seq::Seq;
 use htt_syntax_words::Kind;
 use std::alloc::{AllocError, Global};
-use word_loader_code::{Code, Instr};
+use word_loader_code::{Code, Function, Instr};
 use word_machine_frames::Frames;
 
 /// How a machine ended.
@@ -60,14 +60,19 @@ pub fn start(alloc: Global, code: &Code, heap: Heap) -> Result<Machine, StartSto
 }
 
 impl Machine {
-    /// The next instruction of a machine that goes on.
-    pub(crate) fn next_instr(&self, code: &Code) -> Instr
+    /// The top frame's function and the next instruction of a machine that goes on.
+    pub(crate) fn next_instr<'c>(&self, code: &'c Code) -> (&'c Function, Instr)
         requires fits { FitsCode code.now (state_of self.now) }
         requires going { IsGoing (state_of self.now) }
-        ensures { next_of code.now (state_of self.now) ≡ Some result }
+        ensures function { function_of code.now (top self.now.frames) ≡ Some result.0.now }
+        ensures instr { slice_get result.0.now.body (top self.now.frames).next ≡ Some result.1 }
+        ensures next { next_of code.now (state_of self.now) ≡ Some result.1 }
     {
         let function = &code.functions.as_slice()[self.frames.function() as usize];
-        function.body.as_slice()[self.frames.next() as usize]
+        (
+            function,
+            function.body.as_slice()[self.frames.next() as usize],
+        )
     }
 
     /// The returned words and the heap of a machine that has halted. It takes no memory.
@@ -97,11 +102,35 @@ impl Machine {
         if let Some(over) = self.over {
             return Ok(answer_of(over));
         }
-        let function = &code.functions.as_slice()[self.frames.function() as usize];
-        let instr = function.body.as_slice()[self.frames.next() as usize];
-        let stepped = self.perform(code, function, instr, fresh)?;
-        self.over = over_after(stepped);
-        Ok(stepped)
+        let (function, instr) = self.next_instr(code);
+        self.go(code, function, instr, fresh)
+    }
+
+    /// `step` of a machine that goes on, which has this function in its top frame and this
+    /// instruction next.
+    pub(crate) fn go(
+        &mut self,
+        code: &Code,
+        function: &Function,
+        instr: Instr,
+        fresh: u64,
+    ) -> Result<Stepped, AllocError>
+        requires valid { IsValid code.now }
+        requires fits { FitsCode code.now (state_of self.old) }
+        requires going { IsGoing (state_of self.old) }
+        requires function { function_of code.now (top self.old.frames) ≡ Some function.now }
+        requires instr { slice_get function.now.body (top self.old.frames).next ≡ Some instr }
+        ensures steps { IfOk result (λ stepped. (rest : List ℕ) → StepsTo code.now (state_of self.old) fresh rest stepped (state_of self.new)) }
+        ensures unchanged { OnErr result (state_of self.new ≡ state_of self.old) }
+        ensures fits { FitsCode code.now (state_of self.new) }
+    {
+        match self.perform(code, function, instr, fresh)? {
+            Stepped::Going => Ok(Stepped::Going),
+            stepped => {
+                self.over = over_after(stepped);
+                Ok(stepped)
+            }
+        }
     }
 }
 

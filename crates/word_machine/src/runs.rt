@@ -41,11 +41,11 @@ pub fn run(alloc: Global, code: &Code, heap: Heap, steps: u64) -> Result<End, Al
         return Err(AllocError);
     };
     for _ in 0..steps {
-        let instr = machine.next_instr(code);
+        let (function, instr) = machine.next_instr(code);
         if let Some((bound, total)) = machine.passed(code, instr)? {
             return Ok(End::Stopped(bound, total));
         }
-        match machine.step(code, fresh)? {
+        match machine.go(code, function, instr, fresh)? {
             Stepped::Going => fresh = next_fresh(instr, fresh),
             Stepped::Halted => return Ok(machine.into_halt()),
             Stepped::Fault(kind, at) => return Ok(End::Fault(kind, at)),

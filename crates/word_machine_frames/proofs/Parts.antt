@@ -106,6 +106,6 @@ replaced words grown copied zeroed start from p n order some within g c z =
     ap (take (start + p)) made
     ∙ (take-with_words_end (words ++ zeros) start p (words_at words from p) long (omega (arith, longer))
     ∙ ap (λ (l : List ℕ). l ++ words_at words from p) (take-append-le start words zeros low)) in
-    let reaches : start + p ≤ length copied = rw made (simp (length-append, length-take, length-drop, long) (omega (arith, longer))) in
+    let reaches : start + p ≤ length copied = rw made (simp (length-append, length-take, length-drop) (omega (arith, longer, long))) in
     rw (z, end) (take-with_words_end copied (start + p) (n - p) (replicate (n - p) 0) (length-replicate (n - p) 0) reaches)
     ∙ (ap (λ (l : List ℕ). l ++ replicate (n - p) 0) front ∙ append_assoc (take start words) (words_at words from p) (replicate (n - p) 0))

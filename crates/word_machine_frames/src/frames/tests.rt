@@ -48,5 +48,8 @@ fn replaces_a_frame(rt: HostRuntime) -> Result<(), Fail> {
     frames.tail(4, &function, 0)?;
     assert_eq!(rt; (frames.function(), frames.next()), (4, 0));
     assert_eq!(rt; frames.words(0, 3), [0, 8, 0].as_slice());
+    frames.set_word(2, 9);
+    frames.tail(5, &function, 1)?;
+    assert_eq!(rt; frames.words(0, 3), [8, 9, 0].as_slice());
     Ok(())
 }

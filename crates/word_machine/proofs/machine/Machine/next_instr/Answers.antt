@@ -42,4 +42,4 @@ returns c =
     let i : Instr = get_or c.as_slice-2.result.now c.next.result (Const 0 0) in
     let i_is : slice_get f.body (top m.frames).next ≡ Some i =
     rw (c.next.ensures, c.as_slice-2.ensures.same_items) (slice_get-get_or f.body (top m.frames).next (Const 0 0) within) in
-    next_of-read code m.over (blocks_of m.heap) m.frames f i none there i_is
+    record { function = there; instr = i_is; next = next_of-read code m.over (blocks_of m.heap) m.frames f i none there i_is }
