@@ -15,8 +15,6 @@ mod proof_copy;
 mod proof_parts;
 mod proofs;
 mod terms;
-#[cfg(test)]
-mod tests;
 mod types;
 
 pub use action::Action;

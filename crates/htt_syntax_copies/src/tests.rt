@@ -1,8 +1,8 @@
 //! A copy of each form of node, with memory enough. What the copy is, the contracts say.
 
-use crate::{copy_comp, copy_formula, copy_mono, copy_term, copy_ty};
 use htt_syntax::{Comp, Fix, Formula, Mono, Op, Step, Term, Triple, Ty};
 use htt_syntax_seq::{Seq, boxed};
+use htt_syntax_walk::{copy_comp, copy_formula, copy_mono, copy_term, copy_ty};
 use sqlite_items::Boxed;
 use std::alloc::{AllocError, Global};
 use std::test::Fail;
