@@ -2,7 +2,7 @@
 //! contract.
 #![tactic(auto)]
 
-ghost use Rattle.theory_file_sound.specs.Laws.{FilesAreSound};
+ghost use Rattle.theory_file_steps.specs.Laws.{FilesAreSound};
 
 /// A value or definition that is typed where the declarations before it hold, holds too.
 pub fn files_are_sound()

@@ -22,7 +22,7 @@ use Rattle.theory_typing_sound.proofs.Sound.{fit_means}
 use Rattle.theory_text_simulation.specs.Simulation.{GivesSo, Does, match_none, ValDoes}
 use Rattle.theory_text_simulation.proofs.Valued.{entered_so}
 use Rattle.theory_text_simulation.proofs.Denoted.{fit_do}
-use Rattle.theory_file_sound.specs.Laws.{FileHolds, FilesAreSound}
+use Rattle.theory_file_steps.specs.Laws.{FileHolds, FilesAreSound}
 
 -- what is found in a list with one more at the end
 found_in : {A : Type 0} (xs : List A) (x : A) (n : ℕ) (y : A) → slice_get (xs ++ x ∷ []) n ≡ Some y → (slice_get xs n ≡ Some y) ⊎ ((n ≡ length xs) × (x ≡ y))
