@@ -20,7 +20,8 @@ use Rattle.theory_typing.specs.Positions.{plain_ty}
 use Rattle.theory_typing.specs.Contexts.{EndsInHoare, type_here, forms_word}
 use Rattle.theory_typing.specs.Typing.{forms_eq, gives_var, gives_word, gives_def, gives_app, gives_bin, fits_lam, fits_given}
 use Rattle.theory_logic_rules.specs.Rules.{infers_hyp, infers_inst_term}
-use Rattle.theory_logic_rules.specs.Examples.{doubles, env, with_word, with_heap, is_five}
+use Rattle.theory_logic_rules.specs.Examples.{env, with_word, with_heap, is_five}
+use Rattle.theory_truth.specs.Examples.{doubles}
 use Rattle.theory_logic_rules.proofs.Examples as derivations
 use Rattle.theory_logic_sorts.specs.Sorts.{SortedMono, SortedTerm, SortedFormula}
 use Rattle.theory_typing_values.specs.FirstOrder.{sorts_of, IsFirstOrder, fo_none, fo_value, fo_heap}
