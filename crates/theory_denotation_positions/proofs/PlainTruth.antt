@@ -12,6 +12,7 @@ use Rattle.theory_canonical.specs.Skeletons.{Skeleton, sk_o, sk_c, sk_arrow, sk_
 use Rattle.theory_typing.specs.Positions.{plain_ty, plain_triple, plain_formula}
 use Rattle.theory_denotation.specs.Valuations.{Domain, den_mono, den_heap, den_term, Valuation, mono_in, heap_in, HeadEntries}
 use Rattle.theory_denotation.specs.Satisfaction.{Satisfies, PreAt, PostAt, answer_mono}
+use Rattle.theory_denotation_shapes.proofs.Reindexed.{shape_plain}
 use Rattle.theory_denotation_types.specs.Meeting.{Meets}
 use Rattle.theory_denotation_types.specs.Types.{Means}
 use Rattle.theory_denotation_positions.specs.Laws.{PositionsSayNothing}
@@ -56,7 +57,9 @@ pub means_plain : (R : Recs) (e : HeadEntries) (ty : TyTree) (w : Valuation) (s 
 unfolding Means plain_ty
 means_plain R e (y_mono mono) w s d = refl
 means_plain R e (y_fun argument answer) w (sk_arrow s t) d =
-    λ j. (x : Domain s) → means_plain R e argument w s x j → means_plain R e answer (den_term s x ∷ w) t (d x) j
+    λ j.
+    shape_plain (y_fun argument answer) w (sk_arrow s t) d j
+    × ((x : Domain s) → means_plain R e argument w s x j → means_plain R e answer (den_term s x ∷ w) t (d x) j)
 means_plain R e (y_all body) w (sk_all s) d = λ j. (t : MonoTree) → IsClosed t → means_plain R e body (den_mono t ∷ w) s (d t) j
 means_plain R e (y_hoare spec) w sk_c d = λ j. Meets (λ h. pre_plain R e spec w h j) (answer_plain spec w j) (λ v b k. post_plain R e spec w v b k j) d
 means_plain R e (y_at at ty) w s d = means_plain R e ty w s d

@@ -11,6 +11,7 @@ use Rattle.theory_typing.specs.Contexts.{EndsInHoare}
 use Rattle.theory_denotation.specs.Outcomes.{Running}
 use Rattle.theory_denotation.specs.Valuations.{Domain, den_mono, den_term, Valuation, HeadEntries}
 use Rattle.theory_denotation.specs.Recursion.{entered_running, entered, unentered, turns, by_fuel, recursion}
+use Rattle.theory_denotation_shapes.proofs.Reindexed.{ending_shaped}
 use Rattle.theory_denotation_types.specs.Meeting.{Post, EndsWell, Meets}
 use Rattle.theory_denotation_types.specs.Types.{Means}
 use Rattle.theory_denotation_types.specs.Laws.{RecursionMeans}
@@ -19,7 +20,10 @@ module _ (R : Recs) (e : HeadEntries) where
   unentered_means : (ty : TyTree) → EndsInHoare ty → (w : Valuation) → Means R e w ty (skeleton ty) (unentered (skeleton ty))
   unfolding Means skeleton
   unentered_means (y_mono mono) r w = absurd r
-  unentered_means (y_fun argument answer) r w = λ d m. unentered_means answer r (den_term (skeleton argument) d ∷ w)
+  unentered_means (y_fun argument answer) r w = (
+    ending_shaped w (y_fun argument answer) r (skeleton (y_fun argument answer)) (unentered (skeleton (y_fun argument answer))),
+    λ d m. unentered_means answer r (den_term (skeleton argument) d ∷ w),
+  )
   unentered_means (y_all body) r w = λ t c. unentered_means body r (den_mono t ∷ w)
   unentered_means (y_hoare spec) r w = record { at = λ n before frame whole cs i j a p. tt }
   unentered_means (y_at at ty) r w = absurd r
@@ -42,7 +46,10 @@ module _ (R : Recs) (e : HeadEntries) where
       → Means R e w ty (skeleton ty) (entered (skeleton ty) d)
   unfolding Means skeleton
   entered_means (y_mono mono) r w d m = absurd r
-  entered_means (y_fun argument answer) r w d m = λ x mx. entered_means answer r (den_term (skeleton argument) x ∷ w) (d x) (m x mx)
+  entered_means (y_fun argument answer) r w d m = (
+    ending_shaped w (y_fun argument answer) r (skeleton (y_fun argument answer)) (entered (skeleton (y_fun argument answer)) d),
+    λ x mx. entered_means answer r (den_term (skeleton argument) x ∷ w) (d x) (m.1 x mx),
+  )
   entered_means (y_all body) r w d m = λ t c. entered_means body r (den_mono t ∷ w) (d t) (m t c)
   entered_means (y_hoare spec) r w d m = record { at = entered_meets m }
   entered_means (y_at at ty) r w d m = absurd r
@@ -54,7 +61,10 @@ module _ (R : Recs) (e : HeadEntries) where
       → Means R e w ty (skeleton ty) (by_fuel (skeleton ty) g)
   unfolding Means skeleton
   fuel_means (y_mono mono) r w g m = absurd r
-  fuel_means (y_fun argument answer) r w g m = λ x mx. fuel_means answer r (den_term (skeleton argument) x ∷ w) (λ k. g k x) (λ k. m k x mx)
+  fuel_means (y_fun argument answer) r w g m = (
+    ending_shaped w (y_fun argument answer) r (skeleton (y_fun argument answer)) (by_fuel (skeleton (y_fun argument answer)) g),
+    λ x mx. fuel_means answer r (den_term (skeleton argument) x ∷ w) (λ k. g k x) (λ k. (m k).1 x mx),
+  )
   fuel_means (y_all body) r w g m = λ t c. fuel_means body r (den_mono t ∷ w) (λ k. g k t) (λ k. m k t c)
   fuel_means (y_hoare spec) r w g m = record { at = λ n before frame whole cs i j a p. (m (suc n)).at n before frame whole cs i j a p }
   fuel_means (y_at at ty) r w g m = absurd r

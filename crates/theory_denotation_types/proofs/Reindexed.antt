@@ -23,6 +23,7 @@ use Rattle.theory_denotation_substitution.specs.Put.{MayPutIn}
 use Rattle.theory_denotation_substitution.proofs.Results.{arrow_parts, all_part}
 use Rattle.theory_denotation_substitution.proofs.Placing.{put_term, put_mono_entry, mono_beside}
 use Rattle.theory_denotation_substitution.proofs.Formulas.{pre_put, post_put, answer_put}
+use Rattle.theory_denotation_shapes.proofs.Reindexed.{shape_renamed, shape_put, shape_filled}
 use Rattle.theory_denotation_types.specs.Meeting.{Meets}
 use Rattle.theory_denotation_types.specs.Types.{Means}
 use Rattle.theory_denotation_types.specs.Laws.{TypesReindex}
@@ -34,7 +35,9 @@ pub means_renamed : (R : Recs) (e : HeadEntries) (ty : TyTree) {m : Map} {w w' :
 unfolding Means rename_ty
 means_renamed R e (y_mono mono) a sk_o d = λ j. HasType d (mono_renamed a mono j)
 means_renamed R e (y_fun argument answer) a (sk_arrow s t) d =
-    λ j. (x : Domain s) → means_renamed R e argument a s x j → means_renamed R e answer (agree_next (den_term s x) a) t (d x) j
+    λ j.
+    shape_renamed (y_fun argument answer) a (sk_arrow s t) d j
+    × ((x : Domain s) → means_renamed R e argument a s x j → means_renamed R e answer (agree_next (den_term s x) a) t (d x) j)
 means_renamed R e (y_all body) a (sk_all s) d = λ j. (t : MonoTree) → IsClosed t → means_renamed R e body (agree_next (den_mono t) a) s (d t) j
 means_renamed R e (y_hoare spec) a sk_c d = λ j. Meets (λ h. pre_renamed R e spec a h j) (answer_renamed spec a j) (λ v b k. post_renamed R e spec a v b k j) d
 means_renamed R e (y_at at ty) a s d = means_renamed R e ty a s d
@@ -54,7 +57,9 @@ means_put R u_y_mono (n_mono m) p sk_o q d = λ j. HasType d (mono_beside m p.ma
 means_put R {heads = heads} {whole = whole} (u_y_fun {argument = argument} {answer = answer} a b) (n_fun c i f) p (sk_arrow s t) q d =
     let parts = arrow_parts {s = skeleton argument} {t = skeleton answer} {u = s} {v = t} q in
     let inner = subst (λ v. IsCanonicalTy heads (as_term v ∷ whole) answer) (sym i ∙ parts.0) f in
-    λ j. (y : Domain s) → means_put R a c p s parts.0 y j → means_put R b inner (put_term s y p) t parts.1 (d y) j
+    λ j.
+    shape_put (u_y_fun a b) (n_fun c i f) p (sk_arrow s t) q d j
+    × ((y : Domain s) → means_put R a c p s parts.0 y j → means_put R b inner (put_term s y p) t parts.1 (d y) j)
 means_put R (u_y_all {body = body} a) (n_all c) p (sk_all s) q d =
     λ j. (t : MonoTree) → IsClosed t → means_put R a c (put_mono_entry t p) s (all_part {s = skeleton body} {t = s} q) (d t) j
 means_put R (u_y_hoare a) (n_hoare c) p sk_c q d = λ j. Meets (λ h. pre_put R a c p h j) (answer_put a c p j) (λ v b k. post_put R a c p v b k j) d
@@ -74,13 +79,13 @@ pub means_filled : (R : Recs) {heads : Heads} {e : HeadEntries} (ty : TyTree) {f
     → Means R e w' (fill_ty f m ty) s d ≡ Means R e w ty s d
 unfolding Means skeleton fill_ty
 means_filled R (y_mono mono) h (n_mono t) k z sk_o q d = λ j. HasType d (mono_filled t k j)
-means_filled R {heads = heads} (y_fun argument answer) {g = g} h (n_fun c i f) k z (sk_arrow s t) q d =
+means_filled R {heads = heads} {e = e} (y_fun argument answer) {g = g} h (n_fun c i f) k z (sk_arrow s t) q d =
     let parts = arrow_parts {s = skeleton argument} {t = skeleton answer} {u = s} {v = t} q in
     let inner = subst (λ v. IsCanonicalTy heads (as_term v ∷ g) answer) (sym i ∙ parts.0) f in
     λ j.
-    (y : Domain s)
-    → means_filled R argument h c k z s parts.0 y j
-    → means_filled R answer h inner (fill_next (as_term s) (den_term s y) k) (valued_term s y z) t parts.1 (d y) j
+    shape_filled {e = e} (y_fun argument answer) h (n_fun c i f) k z (sk_arrow s t) q d j
+    × ((y : Domain s) → means_filled R argument h c k z s parts.0 y j →
+    means_filled R answer h inner (fill_next (as_term s) (den_term s y) k) (valued_term s y z) t parts.1 (d y) j)
 means_filled R (y_all body) h (n_all c) k z (sk_all s) q d =
     λ j.
     (t : MonoTree)

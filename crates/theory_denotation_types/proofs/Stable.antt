@@ -15,6 +15,7 @@ use Rattle.theory_denotation.specs.Satisfaction.{PostAt}
 use Rattle.theory_denotation.proofs.Classical.{classical}
 use Rattle.theory_denotation_types.specs.Meeting.{Post, LeavesPost, EndsWell}
 use Rattle.theory_denotation_types.specs.Types.{Means}
+use Rattle.theory_denotation_shapes.specs.Shapes.{InShape}
 use Rattle.theory_denotation_types.specs.Laws.{MeaningIsStable}
 use Rattle.theory_values.proofs.Joins.{own_is_rest, without}
 
@@ -100,13 +101,23 @@ ends_stable mono post before frame wrong s n = n (λ k. k)
 post_stable : (table : List RecTree) (e : HeadEntries) (w : Valuation) (spec : TripleTree) → StablePost (PostAt (recs_of table) e w spec)
 post_stable table e w (triple pre mono post) = record { at = λ v before own n. classical table e (den_heap own ∷ den_heap before ∷ den_term sk_o v ∷ w) post n }
 
+shape_stable : (w : Valuation) (ty : TyTree) (s : Skeleton) (d : Domain s) → NotNot (InShape w ty s d) → InShape w ty s d
+unfolding InShape
+shape_stable w (y_mono mono) sk_o d n = type_stable d _ n
+shape_stable w (y_fun argument answer) (sk_arrow s t) d n = λ x m. shape_stable (den_term s x ∷ w) answer t (d x) (λ deny. n (λ f. deny (f x m)))
+shape_stable w (y_all body) (sk_all s) d n = λ t c. shape_stable (den_mono t ∷ w) body s (d t) (λ deny. n (λ f. deny (f t c)))
+shape_stable w (y_at at ty) s d n = shape_stable w ty s d n
+shape_stable w _ s d n = tt
+
 pub means_stable : (table : List RecTree) (e : HeadEntries) (w : Valuation) (ty : TyTree) (s : Skeleton) (d : Domain s)
     → NotNot (Means (recs_of table) e w ty s d)
     → Means (recs_of table) e w ty s d
 unfolding Means
 means_stable table e w (y_mono mono) sk_o d n = type_stable d _ n
-means_stable table e w (y_fun argument answer) (sk_arrow s t) d n =
-    λ x m. means_stable table e (den_term s x ∷ w) answer t (d x) (λ deny. n (λ f. deny (f x m)))
+means_stable table e w (y_fun argument answer) (sk_arrow s t) d n = (
+  shape_stable w (y_fun argument answer) (sk_arrow s t) d (λ deny. n (λ f. deny f.0)),
+  λ x m. means_stable table e (den_term s x ∷ w) answer t (d x) (λ deny. n (λ f. deny (f.1 x m))),
+)
 means_stable table e w (y_all body) (sk_all s) d n = λ t c. means_stable table e (den_mono t ∷ w) body s (d t) (λ deny. n (λ f. deny (f t c)))
 means_stable table e w (y_hoare spec) sk_c d n = record {
   at = λ k before frame whole cs i j a p.

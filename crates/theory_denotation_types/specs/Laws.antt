@@ -20,6 +20,7 @@ use Rattle.theory_denotation_renaming.specs.Along.{AgreeAlong}
 use Rattle.theory_denotation_renaming.specs.Laws.{MayFillIn}
 use Rattle.theory_denotation_substitution.specs.Put.{MayPutIn}
 use Rattle.theory_typing_canonical.specs.Environments.{standings}
+use Rattle.theory_denotation_shapes.specs.Shapes.{InShape, ContextShaped}
 use Rattle.theory_denotation_types.specs.Types.{Means, ContextMeans}
 
 -- A renamed type, and one in which a term or a monotype is put for a variable, means what the type
@@ -93,3 +94,12 @@ pub record ContextsGive : Type 0 where
   pub valued : (table : List RecTree) (e : HeadEntries) {g : Context} {w : Valuation}
       → ContextMeans (recs_of table) e g w
       → ContextValued (standings g) w
+
+-- What is of a type is in its shape.
+pub record MeaningHasShape : Type 0 where
+  pub types : (table : List RecTree) (e : HeadEntries) (w : Valuation) (ty : TyTree) (s : Skeleton) (d : Domain s)
+      → Means (recs_of table) e w ty s d
+      → InShape w ty s d
+  pub contexts : (table : List RecTree) (e : HeadEntries) (g : Context) (w : Valuation)
+      → ContextMeans (recs_of table) e g w
+      → ContextShaped g w

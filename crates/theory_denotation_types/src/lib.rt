@@ -2,7 +2,7 @@
 //! where it meets it beside every frame. A function without a body states a law by its contract.
 #![tactic(auto)]
 
-ghost use Rattle.theory_denotation_types.specs.Laws.{ContextsGive, MeaningIsStable, RecursionMeans, TypesReindex};
+ghost use Rattle.theory_denotation_types.specs.Laws.{ContextsGive, MeaningHasShape, MeaningIsStable, RecursionMeans, TypesReindex};
 
 /// Renaming and substitution in a type are reindexing of the valuation.
 pub fn types_reindex()
@@ -22,4 +22,9 @@ pub fn recursion_means()
 /// A valuation of a context gives each entry a thing of its sort, and of its type.
 pub fn contexts_give()
     ensures law { ContextsGive }
+{}
+
+/// What is of a type is in the type's shape, and so is a valuation of a context.
+pub fn meaning_has_shape()
+    ensures law { MeaningHasShape }
 {}

@@ -8,10 +8,11 @@ use Rattle.theory_meaning.specs.Meaning.{item_result, inner_result}
 use Rattle.theory_canonical.specs.Skeletons.{skeleton}
 use Rattle.theory_typing.specs.Contexts.{Environment, Obligation, EndsInHoare}
 use Rattle.theory_typing.specs.Typing.{in_program, FormsTy, Fits}
-use Rattle.theory_typing_canonical.specs.Environments.{heads_of, IsCanonicalEnvironment, no_entry}
+use Rattle.theory_typing_canonical.specs.Environments.{heads_of, no_entry}
 use Rattle.theory_typing_canonical.proofs.Entries.{head_of}
 use Rattle.theory_typing_canonical.proofs.Typed.{formed_ty}
-use Rattle.theory_items.specs.Items.{with_def, with_val}
+use Rattle.theory_items.specs.Items.{i_def, i_val, i_rec, with_def, with_val, Derives, derives_def, derives_val, derives_rec}
+use Rattle.theory_items_sound.proofs.Kept.{items_keep_sound}
 use Rattle.theory_denotation.specs.Valuations.{den_term, HeadEntries}
 use Rattle.theory_denotation.specs.Denotation.{term_den}
 use Rattle.theory_denotation.specs.Valued.{EndsInRun, ends_c, ends_arrow, ends_all, HeadsRun}
@@ -19,9 +20,9 @@ use Rattle.theory_denotation_types.specs.Types.{Means, means_none}
 use Rattle.theory_typing_sound.specs.Environments.{ValMeans, AllTrue}
 use Rattle.theory_typing_sound.proofs.Closed.{type_at}
 use Rattle.theory_typing_sound.proofs.Sound.{fit_means}
-use Rattle.theory_text_simulation.specs.Simulation.{GivesSo, Does, match_none, ValDoes}
-use Rattle.theory_text_simulation.proofs.Valued.{entered_so}
-use Rattle.theory_text_simulation.proofs.Denoted.{fit_do}
+use Rattle.theory_meaning_simulation.specs.Simulation.{GivesSo, Does, match_none, ValDoes}
+use Rattle.theory_meaning_simulation.proofs.Valued.{entered_so}
+use Rattle.theory_meaning_simulation.proofs.Denoted.{fit_do}
 use Rattle.theory_file_steps.specs.Laws.{FileHolds, FilesAreSound}
 
 -- what is found in a list with one more at the end
@@ -56,7 +57,7 @@ module _ (table : List RecTree) (items : Items) (env : Environment) (e : HeadEnt
       → Fits env in_program [] term ty' term' o
       → AllTrue table e o
       → Means (recs_of table) e [] ty' (skeleton ty') (term_den e [] term' (skeleton ty'))
-  term_means f d t = fit_means table env e h.known h.means d (formed_ty env h.known no_entry f) no_entry means_none t
+  term_means f d t = fit_means table env e h.sound h.means d (formed_ty env h.sound.canonical no_entry f) no_entry means_none t
 
   term_does : {ty ty' : TyTree} {term term' : TermTree} {o : List Obligation}
       → FormsTy env [] ty ty'
@@ -65,7 +66,7 @@ module _ (table : List RecTree) (items : Items) (env : Environment) (e : HeadEnt
       → GivesSo (inner_result items i nothing term) (λ u. Does items [] ty' (skeleton ty') k u (term_den e [] term' (skeleton ty')))
   term_does {ty' = ty'} {term = term} {term' = term'} f d k i =
       entered_so items (λ u. Does items [] ty' (skeleton ty') k u (term_den e [] term' (skeleton ty'))) nothing term
-      (λ n. fit_do items env e h.known h.does d (formed_ty env h.known no_entry f) no_entry match_none n) i
+      (λ n. fit_do items env e h.sound.canonical h.does d (formed_ty env h.sound.canonical no_entry f) no_entry match_none n) i
 
   val_means : {ty ty' : TyTree} {term term' : TermTree} {o : List Obligation} (n : ℕ) (u : TyTree)
       → FormsTy env [] ty ty'
@@ -105,10 +106,9 @@ module _ (table : List RecTree) (items : Items) (env : Environment) (e : HeadEnt
       → AllTrue table e o
       → slice_get items.vals (length env.vals) ≡ Some term
       → e.vals (length env.vals) ≡ den_term (skeleton ty') (term_den e [] term' (skeleton ty'))
-      → IsCanonicalEnvironment (with_val env ty')
       → FileHolds table items (with_val env ty') e
-  val_holds ty ty' term term' o f ends d t at is known = record {
-    known = known;
+  val_holds ty ty' term term' o f ends d t at is = record {
+    sound = items_keep_sound.kept env (with_val env ty') (i_val ty term) o h.sound (derives_val f ends d);
     runs = heads_run env ty' h.runs ends;
     means = record { vals = λ n u q. val_means n u f d t is (found_in env.vals ty' n u q); defs = h.means.defs };
     does = record { vals = λ n u q. val_does n u f d at is (found_in env.vals ty' n u q); defs = h.does.defs };
@@ -153,11 +153,10 @@ module _ (table : List RecTree) (items : Items) (env : Environment) (e : HeadEnt
       → Fits env in_program [] term ty' term' o
       → AllTrue table e o
       → slice_get items.defs (length env.defs) ≡ Some term
-      → IsCanonicalEnvironment (with_def env ty' term')
       → FileHolds table items (with_def env ty' term') e
   unfolding DefMeans DefDoes
-  def_holds ty ty' term term' o f d t at known = record {
-    known = known;
+  def_holds ty ty' term term' o f d t at = record {
+    sound = items_keep_sound.kept env (with_def env ty' term') (i_def ty term) o h.sound (derives_def f d);
     runs = h.runs;
     means = record { vals = h.means.vals; defs = λ n u q. def_means n u f d t (found_in env.defs (ty', term') n u q) };
     does = record { vals = h.does.vals; defs = λ n u q. def_does n u f d at (found_in env.defs (ty', term') n u q) };
@@ -166,19 +165,27 @@ module _ (table : List RecTree) (items : Items) (env : Environment) (e : HeadEnt
 nothing_found : {A : Type 0} (n : ℕ) (x : A) → slice_get [] n ≡ Some x → ⊥
 nothing_found n x q = cc
 
+-- a recursive predicate adds nothing that means or does anything
+rec_holds : {table : List RecTree} {items : Items} {env next : Environment} {e : HeadEntries} {r : RecTree} {o : List Obligation}
+    → FileHolds table items env e
+    → Derives env (i_rec r) next o
+    → FileHolds table items next e
+rec_holds {env = env} {next = next} {r = r} {o = o} h (derives_rec f a b i) = record {
+  sound = items_keep_sound.kept env next (i_rec r) o h.sound (derives_rec f a b i);
+  runs = h.runs;
+  means = record { vals = h.means.vals; defs = h.means.defs };
+  does = record { vals = h.does.vals; defs = h.does.defs };
+}
+
 pub sound : FilesAreSound
 sound = record {
   nothing = λ table items e. record {
-    known = record {
-      val_types = λ n ty q. absurd (nothing_found n ty q);
-      def_types = λ n d q. absurd (nothing_found n d q);
-      def_terms = λ n d q. absurd (nothing_found n d q);
-      rec_params = λ n r q. absurd (nothing_found n r q);
-    };
+    sound = items_keep_sound.empty;
     runs = record { vals = λ n s d. elim d [ ]; made = λ n s d. elim d [ ] };
     means = record { vals = λ n ty q. absurd (nothing_found n ty q); defs = λ n d q. absurd (nothing_found n d q) };
     does = record { vals = λ n ty q. absurd (nothing_found n ty q); defs = λ n d q. absurd (nothing_found n d q) };
   };
-  val = λ table items env e h ty ty' term term' o f ends d t at is known. val_holds table items env e h ty ty' term term' o f ends d t at is known;
-  definition = λ table items env e h ty ty' term term' o f d t at known. def_holds table items env e h ty ty' term term' o f d t at known;
+  val = λ table items env e h ty ty' term term' o f ends d t at is. val_holds table items env e h ty ty' term term' o f ends d t at is;
+  definition = λ table items env e h ty ty' term term' o f d t at. def_holds table items env e h ty ty' term term' o f d t at;
+  recursive = λ table items env next e h r o d. rec_holds h d;
 }

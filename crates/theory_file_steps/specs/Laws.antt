@@ -6,18 +6,19 @@ use Rattle.theory_meaning.specs.Closures.{Items}
 use Rattle.theory_canonical.specs.Skeletons.{skeleton}
 use Rattle.theory_typing.specs.Contexts.{Environment, Obligation, EndsInHoare}
 use Rattle.theory_typing.specs.Typing.{in_program, FormsTy, Fits}
-use Rattle.theory_typing_canonical.specs.Environments.{heads_of, IsCanonicalEnvironment}
-use Rattle.theory_items.specs.Items.{with_def, with_val}
+use Rattle.theory_typing_canonical.specs.Environments.{heads_of}
+use Rattle.theory_items_sound.specs.Environments.{SoundEnvironment}
+use Rattle.theory_items.specs.Items.{i_rec, with_def, with_val, Derives}
 use Rattle.theory_denotation.specs.Valuations.{den_term, HeadEntries}
 use Rattle.theory_denotation.specs.Denotation.{term_den}
 use Rattle.theory_denotation.specs.Valued.{HeadsRun}
 use Rattle.theory_typing_sound.specs.Environments.{EnvironmentMeans, AllTrue}
-use Rattle.theory_text_simulation.specs.Simulation.{ItemsDo}
+use Rattle.theory_meaning_simulation.specs.Simulation.{ItemsDo}
 
--- What holds of the declarations so far: they are canonical, their values end in computations, mean
+-- What holds of the declarations so far: they are sound, their values end in computations, mean
 -- their types, and the written items do what these denote.
 pub record FileHolds (table : List RecTree) (items : Items) (env : Environment) (e : HeadEntries) : Type 0 where
-  pub known : IsCanonicalEnvironment env
+  pub sound : SoundEnvironment env
   pub runs : HeadsRun (heads_of env)
   pub means : EnvironmentMeans table env e
   pub does : ItemsDo items env e
@@ -37,7 +38,6 @@ pub record FilesAreSound : Type 0 where
       → AllTrue table e o
       → slice_get items.vals (length env.vals) ≡ Some term
       → e.vals (length env.vals) ≡ den_term (skeleton ty') (term_den e [] term' (skeleton ty'))
-      → IsCanonicalEnvironment (with_val env ty')
       → FileHolds table items (with_val env ty') e
   -- a definition that is typed, whose obligations are true, and which is written next
   pub definition : (table : List RecTree) (items : Items) (env : Environment) (e : HeadEntries)
@@ -47,5 +47,10 @@ pub record FilesAreSound : Type 0 where
       → Fits env in_program [] term ty' term' o
       → AllTrue table e o
       → slice_get items.defs (length env.defs) ≡ Some term
-      → IsCanonicalEnvironment (with_def env ty' term')
       → FileHolds table items (with_def env ty' term') e
+  -- a recursive predicate, which neither means nor does anything of its own
+  pub recursive : (table : List RecTree) (items : Items) (env next : Environment) (e : HeadEntries)
+      → FileHolds table items env e
+      → (r : RecTree) (o : List Obligation)
+      → Derives env (i_rec r) next o
+      → FileHolds table items next e

@@ -40,6 +40,10 @@ use Rattle.theory_denotation_renaming.proofs.Expanded.{expanded}
 use Rattle.theory_denotation_renaming.proofs.FilledTruth.{put_along}
 use Rattle.theory_denotation_substitution.proofs.Placing.{put_here}
 use Rattle.theory_denotation_substitution.proofs.Terms.{term_put, family_put}
+use Rattle.theory_items_sound.specs.Environments.{SoundEnvironment}
+use Rattle.theory_denotation_shapes.proofs.Reindexed.{ending_shaped}
+use Rattle.theory_typing_shaped.proofs.Fitting.{fit_shaped}
+use Rattle.theory_denotation_types.proofs.Shaped.{context_shaped}
 use Rattle.theory_denotation_types.specs.Meeting.{Post, EndsWell, Meets}
 use Rattle.theory_denotation_types.specs.Types.{Means, ContextMeans, means_mono, means_heap, means_term}
 use Rattle.theory_denotation_types.proofs.Reindexed.{means_renamed, means_put, means_filled}
@@ -53,8 +57,8 @@ use Rattle.theory_denotation_moves.proofs.Agreeing.{into, out_of}
 use Rattle.theory_denotation_moves.proofs.Sound.{sound as moves_sound}
 use Rattle.theory_typing_sound.specs.Environments.{EnvironmentMeans, IsTrueGoal, AllTrue}
 use Rattle.theory_typing_sound.specs.Laws.{TypingIsSound}
-use Rattle.theory_typing_sound.proofs.Values.{fst_typed, snd_typed, not_typed, op_typed, eq_typed, sel_typed, op_mono_in, closed_in, all_left, all_right}
-use Rattle.theory_typing_sound.proofs.Values.{owed_true}
+use Rattle.theory_typing_shaped.proofs.Values.{fst_typed, snd_typed, not_typed, op_typed, eq_typed, sel_typed, op_mono_in}
+use Rattle.theory_typing_sound.proofs.Values.{closed_in, all_left, all_right, owed_true}
 use Rattle.theory_typing_sound.proofs.Closed.{closed_means, closed_den, heads_valued}
 use Rattle.theory_typing_sound.proofs.Parts.{part_den, joined_den}
 use Rattle.theory_typing_sound.proofs.Ends.{EndPost, finish_holds, ends_mapped, ends_then}
@@ -70,7 +74,14 @@ unfolding fix_skeleton skeleton
 fix_is_of (fix_param {argument' = argument'} a) = λ j. sk_arrow (skeleton argument') (fix_is_of a j)
 fix_is_of (fix_body a) = refl
 
-module _ (table : List RecTree) (env : Environment) (e : HeadEntries) (known : IsCanonicalEnvironment env) (valued : EnvironmentMeans table env e) where
+fix_ends : {env : Environment} {g : Context} {whole ty : TyTree} {fix r : FixTree} {o : List Obligation} → FitsFix env g whole fix ty r o → EndsInHoare ty
+fix_ends (fix_param a) = fix_ends a
+fix_ends (fix_body a) = tt
+
+module _ (table : List RecTree) (env : Environment) (e : HeadEntries) (enough : SoundEnvironment env) (valued : EnvironmentMeans table env e) where
+  known : IsCanonicalEnvironment env
+  known = enough.canonical
+
   -- a denotation is of a type at the skeleton of another
   same_type : (w : Valuation) (ty u : TyTree) (f : (s : Skeleton) → Domain s)
       → plain_ty ty ≡ plain_ty u
@@ -149,7 +160,7 @@ module _ (table : List RecTree) (env : Environment) (e : HeadEntries) (known : I
         let h = heads_valued valued in
         let v = term_den e w value' (skeleton argument) in
         let may = put_here h (context_valued table e k) y.term in
-        let m = given_means a c k (all_left table e o p t) v (fit_means b (argument_part x.ty) c k (all_right table e o p t)) in
+        let m = (given_means a c k (all_left table e o p t)).1 v (fit_means b (argument_part x.ty) c k (all_right table e o p t)) in
         let n = subst (Means (recs_of table) e (den_term (skeleton argument) v ∷ w) answer (skeleton answer)) (sym (term_put f (lam_body x.term) may)) m in
         subst (λ s. Means (recs_of table) e w answer' s (term_den e w inner' s)) (sym (skeleton_kept d))
         (into (means_put (recs_of table) d (answer_part x.ty) may (skeleton answer) refl (term_den e w inner' (skeleton answer))) n)
@@ -212,7 +223,10 @@ module _ (table : List RecTree) (env : Environment) (e : HeadEntries) (known : I
         → ContextMeans (recs_of table) e g w
         → AllTrue table e o
         → Means (recs_of table) e w ty (skeleton ty) (term_den e w r (skeleton ty))
-    fit_means (fits_lam a) x c k t = λ d m. fit_means a (answer_part x) (term_entry c (argument_part x)) (means_term m k) t
+    fit_means (fits_lam a) x c k t = (
+      fit_shaped e enough c (context_shaped (recs_of table) e k) x (fits_lam a),
+      λ d m. fit_means a (answer_part x) (term_entry c (argument_part x)) (means_term m k) t,
+    )
     fit_means (fits_lam_t a) x c k t = λ u closed. fit_means a (under_mono x) (mono_entry c) (means_mono closed k) t
     fit_means (fits_pair {o = o} {p = p} a b) x c k t = is_pair (value_means a c k (all_left table e o p t)) (value_means b c k (all_right table e o p t))
     fit_means (fits_do a) x c k t = body_means a (spec_part x) c k t
@@ -231,10 +245,13 @@ module _ (table : List RecTree) (env : Environment) (e : HeadEntries) (known : I
         → (own : Domain s)
         → Means (recs_of table) e w whole s own
         → Means (recs_of table) e w ty (skeleton ty) (fix_den e w (den_term s own) r (skeleton ty))
-    fix_means {g = g} {w = w} (fix_param {argument' = argument'} {whole = whole} a) y x c k t s q own m = λ d n.
-        fix_means a (ty_renamed y (keeps_suc (as_term (skeleton argument')) (standings g))) (answer_part x) (term_entry c (argument_part x))
-        (means_term n k) t s (skeleton_stays suc whole ∙ q) own
-        (into (means_renamed (recs_of table) e whole (agree_suc (den_term (skeleton argument') d) w) s own) m)
+    fix_means {g = g} {ty = ty} {r = r} {w = w} (fix_param {argument' = argument'} {whole = whole} a) y x c k t s q own m = (
+      ending_shaped w ty (fix_ends a) (skeleton ty) (fix_den e w (den_term s own) r (skeleton ty)),
+      λ d n.
+          fix_means a (ty_renamed y (keeps_suc (as_term (skeleton argument')) (standings g))) (answer_part x)
+          (term_entry c (argument_part x)) (means_term n k) t s (skeleton_stays suc whole ∙ q) own
+          (into (means_renamed (recs_of table) e whole (agree_suc (den_term (skeleton argument') d) w) s own) m),
+    )
     fix_means {g = g} {w = w} (fix_body {whole = whole} {spec' = spec'} {comp' = comp'} a) y x c k t s q own m =
         subst (λ (u : Skeleton).
         (d : Domain u)
@@ -383,7 +400,7 @@ module _ (table : List RecTree) (env : Environment) (e : HeadEntries) (known : I
 
 pub sound : TypingIsSound
 sound = record {
-  given = λ table env e g w a m M N A o d t. given_means table env e a.known a.environment d a.canonical a.context t;
-  fitting = λ table env e g w a m M N A o c d t. fit_means table env e a.known a.environment d c a.canonical a.context t;
-  bodies = λ table env e g w a E r spec o c d t. body_means table env e a.known a.environment d c a.canonical a.context t;
+  given = λ table env e g w a m M N A o d t. given_means table env e a.sound a.environment d a.canonical a.context t;
+  fitting = λ table env e g w a m M N A o c d t. fit_means table env e a.sound a.environment d c a.canonical a.context t;
+  bodies = λ table env e g w a E r spec o c d t. body_means table env e a.sound a.environment d c a.canonical a.context t;
 }

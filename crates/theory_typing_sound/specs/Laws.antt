@@ -7,7 +7,8 @@ use Rattle.theory_canonical.specs.Skeletons.{skeleton}
 use Rattle.theory_canonical.specs.Canonical.{IsCanonicalTy, IsCanonicalTriple}
 use Rattle.theory_typing.specs.Contexts.{Context, Environment, Obligation}
 use Rattle.theory_typing.specs.Typing.{Mode, Gives, Fits, FitsBody}
-use Rattle.theory_typing_canonical.specs.Environments.{standings, heads_of, IsCanonicalEnvironment, IsCanonicalContext}
+use Rattle.theory_typing_canonical.specs.Environments.{standings, heads_of, IsCanonicalContext}
+use Rattle.theory_items_sound.specs.Environments.{SoundEnvironment}
 use Rattle.theory_denotation.specs.Valuations.{Valuation, HeadEntries}
 use Rattle.theory_denotation.specs.Denotation.{term_den, comp_den}
 use Rattle.theory_denotation.specs.Satisfaction.{PreAt, PostAt, answer_mono}
@@ -15,10 +16,10 @@ use Rattle.theory_denotation_types.specs.Meeting.{Meets}
 use Rattle.theory_denotation_types.specs.Types.{Means, ContextMeans}
 use Rattle.theory_typing_sound.specs.Environments.{EnvironmentMeans, AllTrue}
 
--- What stands around a phrase: an environment and a context that are canonical and valued.
+-- What stands around a phrase: a sound environment and a canonical context, valued.
 pub record Around (table : List RecTree) (env : Environment) (e : HeadEntries) (g : Context) (w : Valuation) :
     Type 0 where
-  pub known : IsCanonicalEnvironment env
+  pub sound : SoundEnvironment env
   pub canonical : IsCanonicalContext (heads_of env) g
   pub environment : EnvironmentMeans table env e
   pub context : ContextMeans (recs_of table) e g w

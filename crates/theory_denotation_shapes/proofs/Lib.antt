@@ -1,0 +1,2 @@
+pub mod Reindexed
+pub mod Given

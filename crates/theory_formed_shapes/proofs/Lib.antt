@@ -1,0 +1,5 @@
+pub mod Fillings
+pub mod ShapesOf
+pub mod Folded
+pub mod Filled
+pub mod Renamed

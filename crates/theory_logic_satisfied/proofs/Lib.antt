@@ -1,0 +1,4 @@
+pub mod Forms
+pub mod Scenes
+pub mod Rules
+pub mod Satisfied

@@ -1,0 +1,4 @@
+pub mod Arguments
+pub mod Fitting
+pub mod Bodies
+pub mod Unfolded

@@ -1,0 +1,4 @@
+pub mod Bytes
+pub mod Monotypes
+pub mod Phrases
+pub mod Proofs

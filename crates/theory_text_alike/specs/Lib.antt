@@ -1,0 +1,4 @@
+pub mod Alike
+pub mod Agreeing
+pub mod AlikeFiles
+pub mod Laws

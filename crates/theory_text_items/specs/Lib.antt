@@ -1,0 +1,4 @@
+pub mod Items
+pub mod Declarations
+pub mod Limits
+pub mod Resolving

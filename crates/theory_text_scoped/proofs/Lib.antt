@@ -1,0 +1,10 @@
+pub mod Renamed
+pub mod Put
+pub mod InScope
+pub mod Binding
+pub mod Named
+pub mod Uses
+pub mod Phrases
+pub mod Items
+pub mod Proofs
+pub mod Laws

@@ -1,0 +1,2 @@
+//! What the sugars of a text stand for.
+#![tactic(auto)]

@@ -1,5 +1,0 @@
-use Rattle.theory_text_triples.proofs.Triples.{meets}
-use Rattle.theory_text_triples.proofs.text_meets_triples.Goals as goal
-
-pub returns : goal.returns
-returns c = record { law = meets }

@@ -1,0 +1,4 @@
+pub mod Values
+pub mod Shaped
+pub mod Typed
+pub mod Fitting
