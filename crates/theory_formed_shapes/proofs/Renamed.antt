@@ -11,7 +11,7 @@ use Rattle.theory_canonical.specs.Folding.{contractum, folding, or_itself}
 use Rattle.theory_canonical.proofs.Renamed.{folded_renamed}
 use Rattle.theory_substitution.specs.Monotypes.{Filling, next_filling, fill_mono, fill_ty, fill_triple, fill_term, fill_fix, fill_comp, fill_step, fill_formula}
 use Rattle.theory_substitution.specs.Monotypes.{fill_terms}
-use Rattle.theory_formed_shapes.specs.Shapes.{Shape, fill_shape, renaming_of, ShapeEntry, in_term, Shapes, mono_further, heap_further, shape_there}
+use Rattle.theory_formed_shapes.specs.Shapes.{Shape, fill_shape, renaming_of, ShapeEntry, in_mono, in_term, Shapes, mono_further, heap_further, shape_there}
 use Rattle.theory_formed_shapes.specs.Formed.{FileShapes, IsFormedTerm, z_word, z_bool, z_loc, z_unit, z_pair, z_fst, z_snd, z_not, z_bin, z_eq, z_sel, z_lam}
 use Rattle.theory_formed_shapes.specs.Formed.{z_lam_t, z_do, z_neutral, IsFormedNeutral, w_var, w_val, w_made, w_fix, w_app, w_inst, IsFormedTerms, z_no_terms}
 use Rattle.theory_formed_shapes.specs.Formed.{z_more_terms, IsFormedFix, z_param, z_body, IsFormedComp, z_ret, z_step, IsFormedStep, z_run, z_alloc, z_get}
@@ -142,6 +142,14 @@ pub term_renamed : {file : FileShapes} {m : Map} {g h : Shapes} {M : TermTree} {
 term_renamed {file = file} {m = m} {h = h} {s = s} d c k =
     subst (λ (N : TermTree). IsFormedTerm file h N (fill_shape (renaming_of m) s)) (term_same m d) (filling.term_filled d c k)
 
+pub neutral_renamed : {file : FileShapes} {m : Map} {g h : Shapes} {M : TermTree} {s : Shape}
+    → IsFormedNeutral file g M s
+    → IsClosedFile file
+    → FillsFormed (renaming_of m) m g h
+    → IsFormedNeutral file h (rename_term m M) (fill_shape (renaming_of m) s)
+neutral_renamed {file = file} {m = m} {h = h} {s = s} d c k =
+    subst (λ (N : TermTree). IsFormedNeutral file h N (fill_shape (renaming_of m) s)) (neutral_same m d) (filling.neutral_filled d c k)
+
 pub comp_renamed : {file : FileShapes} {m : Map} {g h : Shapes} {E : CompTree} {t : MonoTree}
     → IsFormedComp file g E t
     → IsClosedFile file
@@ -182,6 +190,9 @@ pub fills_lift : {m : Map} {g h : Shapes} (a : Shape)
 fills_lift {m = m} {g = g} {h = h} a k =
     subst (λ (f : Filling). FillsFormed f (lift m) (in_term a ∷ g) (in_term (fill_shape (renaming_of m) a) ∷ h)) (next_renaming m)
     (filling.next_term a k)
+
+pub fills_lift_mono : {m : Map} {g h : Shapes} → FillsFormed (renaming_of m) m g h → FillsFormed (renaming_of (lift m)) (lift m) (in_mono ∷ g) (in_mono ∷ h)
+fills_lift_mono {m = m} {g = g} {h = h} k = subst (λ (f : Filling). FillsFormed f (lift m) (in_mono ∷ g) (in_mono ∷ h)) (next_renaming m) (filling.next_mono k)
 
 pub renaming_formed : RenamingKeepsFormed
 renaming_formed = record {
