@@ -16,7 +16,7 @@ use Rattle.theory_text_names.specs.Stops.{Stop, unbound, wrong_sort, ◌>>=◌}
 use Rattle.theory_text_names.specs.Scopes.{Sort, a_mono, a_term, a_heap, a_term_or_heap, the_init, the_mem, Local, Scope, one_more, with_local, heap_past}
 use Rattle.theory_text_names.specs.Scopes.{at_heap, under_mem, under_heaps}
 use Rattle.theory_text_names.specs.Uses.{Use, mono_of_use, term_of_use, heap_of_use, pred_of_use, rec_of_use, term_named, pred_named, rec_named, is_init}
-use Rattle.theory_text_names.specs.Uses.{is_mem, heap_or_outer, heap_outside, how_many, heap_there, heap_comes, current_heap}
+use Rattle.theory_text_names.specs.Uses.{is_mem, heap_or_outer, heap_outside, passed_over, heap_there, heap_comes, current_heap}
 use Rattle.theory_text_sugar.specs.Putting.{used_at}
 use Rattle.theory_text_sugar.specs.Sugar.{star, left_part, right_part}
 use Rattle.theory_text.specs.Monotypes.{mono_name_comes, factor_comes, mono_comes, monos_come}
@@ -197,10 +197,10 @@ heap_alike : {s s' : Scope} {h h' : RawHeap} → AlikeHeap s s' h h' → AreAlik
 heap_alike (alike_heap_name {x = x} {x' = x'} p) fits = heap_used x.from x'.from p
 heap_alike {s} {s'} (alike_init {at = at} {at' = at'} {over = over} e) fits =
     there_alike at at'
-    (outside_alike is_init (how_many over) 0 s.locals s'.locals fits.sorts ∙ ap (λ n. heap_outside is_init n 0 s'.locals) e)
+    (outside_alike is_init (passed_over over) 0 s.locals s'.locals fits.sorts ∙ ap (λ n. heap_outside is_init n 0 s'.locals) e)
 heap_alike {s} {s'} (alike_mem {at = at} {at' = at'} {over = over} e) fits =
     there_alike at at'
-    (outside_alike is_mem (how_many over) 0 s.locals s'.locals fits.sorts ∙ ap (λ n. heap_outside is_mem n 0 s'.locals) e)
+    (outside_alike is_mem (passed_over over) 0 s.locals s'.locals fits.sorts ∙ ap (λ n. heap_outside is_mem n 0 s'.locals) e)
 
 -- ---- monotypes
 

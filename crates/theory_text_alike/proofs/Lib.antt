@@ -5,3 +5,4 @@ pub mod PlainCounts
 pub mod Alike
 pub mod AlikeFiles
 pub mod Laws
+pub mod Examples

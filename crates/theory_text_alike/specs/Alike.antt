@@ -15,7 +15,7 @@ use Rattle.htt_parser_trees.specs.Trees as raw
 use Rattle.theory_text_names.specs.Scopes.{Sort, a_mono, a_term, a_heap, Local, PredTree, Meaning, means_mono}
 use Rattle.theory_text_names.specs.Scopes.{means_pred, means_rec, means_def, means_val, Scope, under, under_name}
 use Rattle.theory_text_names.specs.Scopes.{at_heap, under_mem, under_heaps}
-use Rattle.theory_text_names.specs.Uses.{Use, a_variable, the_hypothesis, a_declared, use_at, how_many}
+use Rattle.theory_text_names.specs.Uses.{Use, a_variable, the_hypothesis, a_declared, use_at, passed_over}
 use Rattle.theory_text_sugar.specs.Sugar.{left_part, right_part}
 
 -- a predicate without positions
@@ -47,10 +47,10 @@ AlikeName s s' x x' = AlikeUse (use_at s x) (use_at s' x')
 pub data AlikeHeap : Scope → Scope → RawHeap → RawHeap → Type 0 where
   alike_heap_name : {s s' : Scope} {x x' : Span} → AlikeName s s' x x' → AlikeHeap s s' (heaps.Name x) (heaps.Name x')
   alike_init : {s s' : Scope} {at at' : ℕ} {over over' : Option ℕ}
-      → how_many over ≡ how_many over'
+      → passed_over over ≡ passed_over over'
       → AlikeHeap s s' (heaps.Init at over) (heaps.Init at' over')
   alike_mem : {s s' : Scope} {at at' : ℕ} {over over' : Option ℕ}
-      → how_many over ≡ how_many over'
+      → passed_over over ≡ passed_over over'
       → AlikeHeap s s' (heaps.Mem at over) (heaps.Mem at' over')
 
 pub data AlikeMonoName : Scope → Scope → MonoName → MonoName → Type 0 where

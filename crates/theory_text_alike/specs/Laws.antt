@@ -35,13 +35,13 @@ pub record BoundNamesAreFree : Type 0 where
 -- a use of a predicate without bytes is a use of the predicate without bytes
 abbrev pub UsesWithoutBytes : Type 0
 UsesWithoutBytes =
-    (p : PredTree) (ts : List MonoTree) (Ms : TermTrees) (h : ℕ)
-    → plain_formula (used_at p ts (list_of Ms) h) ≡ used_at (plain_pred p) ts (list_of (plain_terms Ms)) h
+    (p : PredTree) (ts : List MonoTree) (Ms : TermTrees) (h : ℕ) → plain_formula (used_at p ts (list_of Ms) h)
+    ≡ used_at (plain_pred p) ts (list_of (plain_terms Ms)) h
 
 -- files that declare the same names, and differ in bound names alone, have the same items and names, but for bytes, or
 -- are stopped for the same reason
 abbrev pub FilesWithOtherNames : Type 0
 FilesWithOtherNames = (text text' : List ℕ) (file file' : List raw.RawDeclTree) →
-    map (declared_name text) file ≡ map (declared_name text') file'
-    → AlikeDecls file file' text text' [] [] file file' →
+    map (declared_name text) file ≡ map (declared_name text') file' →
+    AlikeDecls file file' text text' [] [] file file' →
     SameResult plain_file (file_comes text file) (file_comes text' file')

@@ -2,6 +2,7 @@
 //! by its contract.
 #![tactic(auto)]
 
+ghost use Rattle.theory_text_alike.specs.Examples.{WorkedAlike};
 ghost use Rattle.theory_text_alike.specs.Laws.{BoundNamesAreFree, FilesWithOtherNames, UsesWithoutBytes};
 
 /// Phrases that differ in bound names alone come to the same trees, but for bytes, or are stopped for one reason.
@@ -18,4 +19,9 @@ pub fn uses_without_bytes()
 /// stopped for one reason.
 pub fn files_with_other_names()
     ensures law { FilesWithOtherNames }
+{}
+
+/// Phrases that differ in bound names alone, and phrases that differ in more.
+pub fn worked_alike()
+    ensures examples { WorkedAlike }
 {}

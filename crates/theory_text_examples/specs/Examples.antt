@@ -74,18 +74,24 @@ pub record Refusals : Type 0 where
 -- What names stand for.
 pub record Scoping : Type 0 where
   pub abbreviation_in_params :
-      items_of (file_comes (codes "type n = word pred p induct n (x : n) = { tt } { tt }") abbreviation_in_params_decls)
-      ≡ Ok (an_item (i_abbreviation m_word) ∷
-      an_item (i_rec (record { params = m_word ∷ []; at_zero = f_at 42 f_tt; at_next = f_at 49 f_tt })) ∷ [])
+      items_of (file_comes (codes "type n = word pred p induct n (x : n) = { tt } { tt }")
+      abbreviation_in_params_decls) ≡ Ok (an_item (i_abbreviation m_word) ∷ an_item (i_rec (record {
+        params =
+            m_word ∷ [];
+        at_zero = f_at 42 f_tt;
+        at_next = f_at 49 f_tt;
+      })) ∷ [])
   pub mem_past_none : items_of (file_comes (codes "pred p() = Emp(mem^0)") mem_past_none_decls)
       ≡ Ok (an_item (i_pred 0 [] (f_at 11 (f_emp 0))) ∷ [])
   pub params_see_no_params : items_of (file_comes (codes "pred p[a](a : word, y : a) = tt") params_see_no_params_decls)
       ≡ Ok (an_item (i_pred 1 (m_word ∷ m_var 1 ∷ []) (f_at 29 f_tt)) ∷ [])
-  pub second_body : items_of (file_comes (codes "pred l induct n (p : loc) = { emp } { !l(n; p) }") second_body_decls)
-      ≡ Ok (an_item (i_rec (record {
+  pub second_body :
+      items_of (file_comes (codes "pred l induct n (p : loc) = { emp } { !l(n; p) }") second_body_decls) ≡ Ok
+      (an_item (i_rec (record {
         params = m_loc ∷ [];
         at_zero = f_at 30 (f_emp 0);
-        at_next = f_at 38 (f_rec 0 0 (t_at 41 (t_var 2)) (more_terms (t_at 44 (t_var 1)) no_terms));
+        at_next = f_at 38 (f_rec 0 0
+            (t_at 41 (t_var 2)) (more_terms (t_at 44 (t_var 1)) no_terms));
       })) ∷ [])
   pub recursive_function :
       items_of (file_comes (codes "def f : word = fix g (n : word) : {n =[word] 0} r : word {n =[word] r} . ret g")
@@ -117,11 +123,12 @@ pub record Scoping : Type 0 where
       (f_at 26 (f_eq m_word (t_at 27 (t_do (c_step (s_claim (f_at 42 (f_same 2 3))) (c_ret (t_at 68 (t_word 0))))))
       (t_at 79 (t_word 1))))))) (t_at 84 (t_do (c_ret (t_at 91 (t_word 0)))))) ∷ [])
   pub recursive_at_a_heap :
-      items_of (file_comes (codes "pred l induct n () = { tt } { ex k : heap . !l@k(n;) }") recursive_at_a_heap_decls)
-      ≡ Ok (an_item (i_rec (record {
+      items_of (file_comes (codes "pred l induct n () = { tt } { ex k : heap . !l@k(n;) }")
+      recursive_at_a_heap_decls) ≡ Ok (an_item (i_rec (record {
         params = [];
         at_zero = f_at 23 f_tt;
-        at_next = f_at 30 (f_ex_h (f_at 44 (f_rec 0 0 (t_at 49 (t_var 2)) no_terms)));
+        at_next =
+            f_at 30 (f_ex_h (f_at 44 (f_rec 0 0 (t_at 49 (t_var 2)) no_terms)));
       })) ∷ [])
 
 -- What sugar stands for, and the bytes of phrases.
@@ -242,30 +249,37 @@ pub record Proofs : Type 0 where
       ≡ Ok (p_block (b_then (d_at 0 (d_open (p_at 11 (p_hyp 0))))
       (b_end (p_at 16 (p_inst (p_at 16 (p_inst (p_at 21 (p_hyp 1)) (a_heap 0))) (a_heap 1))))))
   pub unfolded :
-      sequent_proof_comes (codes "axiom lst.0(@_h1)")
-      (Some (record { name = codes "lst"; meaning = means_rec 0 1 }) ∷ []) 1
-      (en_heap ∷ en_heap ∷ en_term (y_mono m_word) ∷ []) 0 unfolded_proof
-      ≡ Ok (p_at 0 (p_unfold 0 0 (a_heap 1 ∷ [])))
+      sequent_proof_comes (codes "axiom lst.0(@_h1)") (Some (record {
+        name = codes "lst";
+        meaning = means_rec 0
+            1;
+      }) ∷ []) 1 (en_heap ∷ en_heap ∷ en_term (y_mono m_word) ∷ []) 0 unfolded_proof ≡ Ok (p_at 0 (p_unfold 0
+      0 (a_heap 1 ∷ [])))
   pub not_visible_yet :
-      sequent_proof_comes (codes "axiom lst.0(@_h1)")
-      (Some (record { name = codes "lst"; meaning = means_rec 0 1 }) ∷ []) 0
-      (en_heap ∷ en_heap ∷ en_term (y_mono m_word) ∷ []) 0 not_visible_yet_proof
-      ≡ Err (unbound 6)
+      sequent_proof_comes (codes "axiom lst.0(@_h1)") (Some (record {
+        name = codes "lst";
+        meaning = means_rec 0
+            1;
+      }) ∷ []) 0 (en_heap ∷ en_heap ∷ en_term (y_mono m_word) ∷ []) 0 not_visible_yet_proof ≡ Err (unbound 6)
   pub hypothesis_hides :
-      sequent_proof_comes (codes "intro lst; axiom lst.0(@_h1)")
-      (Some (record { name = codes "lst"; meaning = means_rec 0 1 }) ∷ []) 1
-      (en_heap ∷ en_heap ∷ en_term (y_mono m_word) ∷ []) 0 hypothesis_hides_proof
-      ≡ Err (wrong_sort 17)
+      sequent_proof_comes (codes "intro lst; axiom lst.0(@_h1)") (Some (record {
+        name = codes "lst";
+        meaning =
+            means_rec 0 1;
+      }) ∷ []) 1 (en_heap ∷ en_heap ∷ en_term (y_mono m_word) ∷ []) 0 hypothesis_hides_proof ≡ Err
+      (wrong_sort 17)
   pub axiom_names_are_free :
       sequent_proof_comes (codes "intro join_comm; axiom join_comm(@_h2)") [] 0
       (en_heap ∷ en_heap ∷ en_term (y_mono m_word) ∷ []) 0 axiom_names_are_free_proof
       ≡ Ok (p_block (b_then (d_at 0 d_intro) (b_end (p_at 17 (p_axiom (codes "join_comm") [] (a_heap 0 ∷ []))))))
   pub use_at_a_heap :
-      sequent_proof_comes (codes "the [@_h1 [!p()]] (refl)")
-      (Some
-      (record { name = codes "p"; meaning = means_pred (record { monos = 0; params = []; body = f_at 30 f_tt }) }) ∷ [])
-      1 (en_heap ∷ en_heap ∷ en_term (y_mono m_word) ∷ []) 0 use_at_a_heap_proof
-      ≡ Ok (p_at 0 (p_the (f_at 5 (f_at 11 f_tt)) (p_at 19 p_refl)))
+      sequent_proof_comes (codes "the [@_h1 [!p()]] (refl)") (Some (record {
+        name = codes "p";
+        meaning =
+            means_pred (record { monos = 0; params = []; body = f_at 30 f_tt });
+      }) ∷ []) 1 (en_heap ∷ en_heap ∷
+      en_term (y_mono m_word) ∷ []) 0 use_at_a_heap_proof ≡ Ok (p_at 0 (p_the (f_at 5 (f_at 11 f_tt)) (p_at 19
+      p_refl)))
   pub case_branches :
       sequent_proof_comes (codes "case(_u0, v . v, w . v)") [] 0 (en_heap ∷ en_heap ∷ en_term (y_mono m_word) ∷ []) 1
       case_branches_proof

@@ -143,7 +143,8 @@ entry_locals (sort ∷ sorts) = record { name = entry_name sort (length sorts); 
 -- so many hypotheses: `_u0` and so on
 unfoldable pub hypothesis_locals : ℕ → List Local
 hypothesis_locals zero = []
-hypothesis_locals (suc n) = record { name = Some (codes "_u" ++ decimal n); sort = a_hypothesis } ∷ hypothesis_locals n
+hypothesis_locals (suc n) =
+    record { name = Some (codes "_u" ++ decimal n); sort = a_hypothesis } ∷ hypothesis_locals n
 
 -- a sequent whose context has these entries, the innermost first, and with so many hypotheses
 abbrev pub in_sequent : List ℕ → Names → List Sort → ℕ → Scope

@@ -131,9 +131,9 @@ heap_outside is_kind over n [] = None
 heap_outside is_kind over n (l ∷ ls) =
     heap_or_outer (is_kind l.sort) over n (λ left. heap_outside is_kind left (one_more l.sort n) ls)
 
-abbrev pub how_many : Option ℕ → ℕ
-how_many None = 0
-how_many (Some n) = n
+abbrev pub passed_over : Option ℕ → ℕ
+passed_over None = 0
+passed_over (Some n) = n
 
 abbrev pub heap_there : ℕ → Option ℕ → Result ℕ Stop
 heap_there at (Some heap) = Ok heap
@@ -142,8 +142,8 @@ heap_there at None = Err (wrong_sort at)
 -- A heap: a name, or `init` or `mem` with the number of such binders that it passes over.
 abbrev pub heap_comes : Scope → RawHeap → Result ℕ Stop
 heap_comes s (heaps.Name span) = heap_named s span
-heap_comes s (heaps.Init at over) = heap_there at (heap_outside is_init (how_many over) 0 s.locals)
-heap_comes s (heaps.Mem at over) = heap_there at (heap_outside is_mem (how_many over) 0 s.locals)
+heap_comes s (heaps.Init at over) = heap_there at (heap_outside is_init (passed_over over) 0 s.locals)
+heap_comes s (heaps.Mem at over) = heap_there at (heap_outside is_mem (passed_over over) 0 s.locals)
 
 -- The current heap, for a sugar that begins at this byte.
 abbrev pub current_heap : Scope → ℕ → Result ℕ Stop

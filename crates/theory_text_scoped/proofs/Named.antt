@@ -13,7 +13,7 @@ use Rattle.theory_text_names.specs.Scopes.{means_def, means_val, Declared, Names
 use Rattle.theory_text_names.specs.Scopes.{under_heaps}
 use Rattle.theory_text_names.specs.Uses.{Use, a_variable, the_hypothesis, a_declared, is_named, use_of, local_use, declares, meaning_of, declared_use}
 use Rattle.theory_text_names.specs.Uses.{first_some, use_at, mono_of_use, term_of_use, heap_of_use, pred_of_use, term_named, pred_named, is_init, is_mem}
-use Rattle.theory_text_names.specs.Uses.{heap_or_outer, heap_outside, how_many, heap_there, heap_comes, current_heap}
+use Rattle.theory_text_names.specs.Uses.{heap_or_outer, heap_outside, passed_over, heap_there, heap_comes, current_heap}
 use Rattle.theory_text_sugar.specs.Sugar.{left_part, right_part}
 use Rattle.theory_text.specs.Monotypes.{mono_name_comes, factor_comes, mono_comes, monos_come}
 use Rattle.theory_text_scoped.specs.Sorted.{Sorts, HasSort, sort_here, sort_there, IsMono, IsHeap, may_be_mono, may_be_term, may_be_heap, SortedMono}
@@ -238,11 +238,11 @@ mem_is_heap the_init e = refl
 pub heap_sorted : (s : Scope) → IsSortedScope s → (heap : RawHeap) → Gives (heap_comes s heap) (IsHeap (sorts_in s.locals))
 heap_sorted s fits (heaps.Name span) = heap_used (sorts_in s.locals) span.from (use_at s span) (use_at_sorted s fits span)
 heap_sorted s fits (heaps.Init at over) =
-    there (sorts_in s.locals) at (heap_outside is_init (how_many over) 0 s.locals)
-    (outside_sorted is_init init_is_heap (how_many over) 0 s.locals (sorts_in s.locals) drops_none)
+    there (sorts_in s.locals) at (heap_outside is_init (passed_over over) 0 s.locals)
+    (outside_sorted is_init init_is_heap (passed_over over) 0 s.locals (sorts_in s.locals) drops_none)
 heap_sorted s fits (heaps.Mem at over) =
-    there (sorts_in s.locals) at (heap_outside is_mem (how_many over) 0 s.locals)
-    (outside_sorted is_mem mem_is_heap (how_many over) 0 s.locals (sorts_in s.locals) drops_none)
+    there (sorts_in s.locals) at (heap_outside is_mem (passed_over over) 0 s.locals)
+    (outside_sorted is_mem mem_is_heap (passed_over over) 0 s.locals (sorts_in s.locals) drops_none)
 
 -- ---- monotypes
 

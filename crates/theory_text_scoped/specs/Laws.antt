@@ -46,6 +46,5 @@ pub record SortedIsScoped : Type 0 where
 -- the items of a file are closed, and so is what its names stand for
 abbrev pub FilesAreSorted : Type 0
 FilesAreSorted =
-    (text : List ℕ) (decls : List raw.RawDeclTree) (file : Resolved)
-    → file_comes text decls ≡ Ok file
-    → AreSortedItems file.items × SortedNames file.names
+    (text : List ℕ) (decls : List raw.RawDeclTree) (file : Resolved) → file_comes text decls ≡ Ok file →
+    AreSortedItems file.items × SortedNames file.names

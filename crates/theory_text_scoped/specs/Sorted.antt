@@ -201,7 +201,8 @@ mutual
         → SortedMono g mono
         → SortedFormula (a_term ∷ g) body
         → SortedFormula g (f_ex_t mono body)
-    sorted_f_all_h : {g : Sorts} {body : FormulaTree} → SortedFormula (a_heap ∷ g) body → SortedFormula g (f_all_h body)
+    sorted_f_all_h : {g : Sorts} {body : FormulaTree} → SortedFormula (a_heap ∷ g) body →
+        SortedFormula g (f_all_h body)
     sorted_f_ex_h : {g : Sorts} {body : FormulaTree} → SortedFormula (a_heap ∷ g) body → SortedFormula g (f_ex_h body)
     sorted_f_emp : {g : Sorts} {heap : ℕ} → IsHeap g heap → SortedFormula g (f_emp heap)
     sorted_f_cell : {g : Sorts} {mono : MonoTree} {heap : ℕ} {place : TermTree} {value : TermTree}

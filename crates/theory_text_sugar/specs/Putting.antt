@@ -57,7 +57,8 @@ with_monos puts (t ∷ ts) = with_monos (put_mono t ∷ puts) ts
 
 -- (M : t) for each parameter x : t, behind what was put for the parameters and monotypes before it
 unfoldable pub with_arguments : List Put → List MonoTree → List TermTree → List Put
-with_arguments puts (t ∷ ts) (m ∷ ms) = with_arguments (put_term (t_ann m (y_mono (put_into_mono puts t))) ∷ puts) ts ms
+with_arguments puts (t ∷ ts) (m ∷ ms) =
+    with_arguments (put_term (t_ann m (y_mono (put_into_mono puts t))) ∷ puts) ts ms
 with_arguments puts _ _ = puts
 
 -- the body at a heap, its monotypes replaced by those given, its parameters by the arguments

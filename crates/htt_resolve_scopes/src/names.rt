@@ -1,0 +1,35 @@
+//! Names as bytes.
+
+ghost use Rattle.std.specs.Prelude.{◌≡◌, ◌≤◌, length};
+ghost use Rattle.std.specs.Char.{is_ascii_digit};
+ghost use Rattle.std.specs.List.{list_all};
+ghost use Rattle.theory_text_names.specs.Scopes.{bytes_of, is_reserved};
+
+use htt_parser_trees::Span;
+
+/// The bytes of a name of the text.
+pub fn name_bytes(text: &[u8], span: Span) -> &[u8]
+    requires ordered { span.from ≤ span.to }
+    requires within { span.to ≤ length text.now }
+    ensures bytes { result.now ≡ bytes_of text.now span }
+{
+    &text[span.from as usize..span.to as usize]
+}
+
+/// Whether the name may not be declared: `_x`, `_a`, `_h` or `_u` before digits.
+pub fn is_reserved(name: &[u8]) -> bool
+    ensures reserved { result ≡ is_reserved name.now }
+{
+    match name {
+        [b'_', b'x' | b'a' | b'h' | b'u', digit, digits @ ..] => {
+            digit.is_ascii_digit() && all_digits(digits)
+        }
+        _ => false,
+    }
+}
+
+fn all_digits(bytes: &[u8]) -> bool
+    ensures all { result ≡ list_all is_ascii_digit bytes.now }
+{
+    bytes.iter().all(|byte| byte.is_ascii_digit())
+}

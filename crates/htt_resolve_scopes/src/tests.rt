@@ -1,0 +1,26 @@
+//! Names that may be declared, and names that may not.
+
+use crate::{is_reserved, name_bytes};
+use htt_parser_trees::Span;
+use std::test::Fail;
+
+#[test]
+fn a_reserved_name_has_digits_alone_behind_its_letter(rt: HostRuntime) -> Result<(), Fail> {
+    for name in ["_x0", "_x00", "_a1", "_h12", "_u7"] {
+        assert!(rt; is_reserved(name.as_bytes()), "{name}");
+    }
+    for name in ["_x", "_x1a", "_b1", "x0", "_", "__x0", "_xy", "_X0", ""] {
+        assert!(rt; !is_reserved(name.as_bytes()), "{name}");
+    }
+    Ok(())
+}
+
+#[test]
+fn a_name_is_its_bytes(rt: HostRuntime) -> Result<(), Fail> {
+    let text = "def one : word = 1";
+    assert_eq!(rt;
+        name_bytes(text.as_bytes(), Span { from: 4, to: 7 }),
+        "one".as_bytes()
+    );
+    Ok(())
+}
