@@ -14,7 +14,7 @@ use Rattle.word_loader_format.proofs.LawProofs.{one_code_lem, coded_isnt_refused
 use Rattle.word_machine.specs.declared.runs.End.{End}
 use Rattle.word_machine.specs.Runs.{EndsShipped}
 use Rattle.htt_parser_trees.specs.Trees.{RawDeclTree}
-use Rattle.htt_top_one_form.specs.declared.form.Form.{WordsForm as TextForm}
+use Rattle.htt_top_one_form.specs.declared.form.Form.{Form as TextForm}
 use Rattle.htt_top_one_form.specs.Form.{IsForm}
 use Rattle.htt_top_words.specs.Forms.{WordsForm, go, run, HasForm, HasNoForm}
 use Rattle.htt_top_words.proofs.FormLemmas.{one_form_lem}
