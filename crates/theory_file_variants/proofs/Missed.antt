@@ -20,7 +20,7 @@ use Rattle.theory_typing.specs.Typing.{runs_step}
 use Rattle.theory_typing.specs.Typing.{moves_alloc, joined_step}
 use Rattle.theory_items.specs.Items.{derives_val}
 use Rattle.theory_logic_rules.specs.Rules.{proves_trivial, proves_block, block_end, block_intro}
-use Rattle.theory_file_derived.specs.Derived.{ProofItem, DerivesAll, derives_none, derives_more, owed_at, given_for, IsProvedOnce, IsDerived, texts_of}
+use Rattle.theory_file_derived.specs.Derived.{ProofItem, DerivesAll, derives_none, derives_more, owed_at, given_for, IsProvedOnce, texts_of}
 use Rattle.theory_file_variants.specs.Variants.{impossible, wrong_file, wrong_env, wrong_goal, left_to_provers, AutoIsNoProof, gives_place, place_file}
 use Rattle.theory_file_variants.specs.Variants.{place_env, place_proofs, ChoicesAreWords}
 
