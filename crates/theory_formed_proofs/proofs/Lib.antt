@@ -1,0 +1,4 @@
+pub mod Puts
+pub mod Instances
+pub mod Arguments
+pub mod Proofs

@@ -1,0 +1,3 @@
+pub mod Sequents
+pub mod Derivations
+pub mod Laws
