@@ -1,6 +1,6 @@
 //! Names that may be declared, and names that may not.
 
-use crate::{is_reserved, name_bytes};
+use crate::{Local, Sort, is_reserved, name_bytes};
 use htt_parser_trees::Span;
 use std::test::Fail;
 
@@ -22,5 +22,30 @@ fn a_name_is_its_bytes(rt: HostRuntime) -> Result<(), Fail> {
         name_bytes(text.as_bytes(), Span { from: 4, to: 7 }),
         "one".as_bytes()
     );
+    Ok(())
+}
+
+#[test]
+fn a_hypothesis_is_no_entry(rt: HostRuntime) -> Result<(), Fail> {
+    assert_eq!(rt; Sort::Hypothesis.one_more(3), 3);
+    assert_eq!(rt; Sort::TermOrHeap.one_more(3), 4);
+    assert_eq!(rt; Sort::Hypothesis.one_more_hypothesis(3), 4);
+    assert_eq!(rt; Sort::Mono.one_more_hypothesis(3), 3);
+    Ok(())
+}
+
+#[test]
+fn a_binder_without_a_name_has_no_name(rt: HostRuntime) -> Result<(), Fail> {
+    let named = Local {
+        name: Some("x".as_bytes()),
+        sort: Sort::Term,
+    };
+    let blank = Local {
+        name: None,
+        sort: Sort::Term,
+    };
+    assert!(rt; named.is_named("x".as_bytes()));
+    assert!(rt; !named.is_named("xy".as_bytes()));
+    assert!(rt; !blank.is_named("".as_bytes()));
     Ok(())
 }
