@@ -1,0 +1,73 @@
+//! The binders around a place.
+
+ghost use Rattle.std.specs.Prelude.{◌≡◌, ◌<◌};
+ghost use Rattle.theory_text_names.specs.Scopes.{one_more, one_more_hypothesis};
+ghost use Rattle.theory_text_names.specs.Uses.{is_named, is_init, is_mem};
+ghost use Rattle.htt_resolve_scopes.specs.Views.{sort_of, name_of};
+
+/// What a binder adds: an entry of a context, or a hypothesis of a proof. An entry that a proof adds is a term or a
+/// heap. The heaps `init` and `mem` have words in place of names.
+#[derive(Clone, Copy, Debug, PartialEq, Eq)]
+pub enum Sort {
+    Mono,
+    Term,
+    Heap,
+    TermOrHeap,
+    Init,
+    Mem,
+    Hypothesis,
+}
+
+/// A binder around a place: its name, if it has one, and what it adds.
+#[derive(Clone, Copy, Debug)]
+pub struct Local<'a> {
+    pub name: Option<&'a [u8]>,
+    pub sort: Sort,
+}
+
+impl Sort {
+    /// The count of entries, where what has this sort was added to so many.
+    pub(crate) fn one_more(self, entries: u64) -> u64
+        requires fits { entries < 18446744073709551615 }
+        ensures counted { result ≡ one_more (sort_of self) entries }
+    {
+        match self {
+            Sort::Hypothesis => entries,
+            _ => entries + 1,
+        }
+    }
+
+    /// The count of hypotheses likewise.
+    pub(crate) fn one_more_hypothesis(self, hypotheses: u64) -> u64
+        requires fits { hypotheses < 18446744073709551615 }
+        ensures counted { result ≡ one_more_hypothesis (sort_of self) hypotheses }
+    {
+        match self {
+            Sort::Hypothesis => hypotheses + 1,
+            _ => hypotheses,
+        }
+    }
+
+    pub(crate) fn is_init(self) -> bool
+        ensures init { result ≡ is_init (sort_of self) }
+    {
+        matches!(self, Sort::Init)
+    }
+
+    pub(crate) fn is_mem(self) -> bool
+        ensures mem { result ≡ is_mem (sort_of self) }
+    {
+        matches!(self, Sort::Mem)
+    }
+}
+
+impl Local<'_> {
+    pub(crate) fn is_named(&self, name: &[u8]) -> bool
+        ensures named { result ≡ is_named name.now (name_of self.now) }
+    {
+        match self.name {
+            Some(other) => other == name,
+            None => false,
+        }
+    }
+}
