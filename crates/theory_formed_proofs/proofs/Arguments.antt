@@ -29,7 +29,7 @@ use Rattle.theory_formed_states.proofs.Sent.{Sends, fills, heap_sent}
 use Rattle.theory_formed_typing.specs.Environments.{IsFormedContext, FormsEnvironment}
 use Rattle.theory_formed_typing.proofs.Typed.{mono_formed, given_formed}
 use Rattle.theory_formed_proofs.specs.Sequents.{AreFormedMonos, AreFormedArgs, formed_no_args, formed_heap_arg, formed_term_arg, with_sorts, AreClosedSorts}
-use Rattle.theory_formed_proofs.proofs.Puts.{puts_next, puts_heap}
+use Rattle.theory_formed_substitution.proofs.Put.{puts_next, puts_heap}
 
 -- what fits
 pub heap_formed_at : {g : Context} {n : ℕ} → IsHeapEntry g n → IsHeapAt (shapes_of g) n

@@ -1,4 +1,3 @@
-pub mod Puts
 pub mod Instances
 pub mod Arguments
 pub mod Proofs

@@ -79,7 +79,7 @@ next_gap : (x : ℕ) → next_filling (renaming_of (closing x)) ≡ renaming_of 
 unfolding closing lift
 next_gap x = next_renaming (closing x)
 
-puts_next : {file : FileShapes} {new : TermTree} {x : ℕ} {g h : Shapes}
+pub puts_next : {file : FileShapes} {new : TermTree} {x : ℕ} {g h : Shapes}
     → (a : Shape)
     → IsClosedFile file
     → PutsFormed file new x g h
@@ -155,7 +155,7 @@ puts_mono {file = file} {new = new} {x = x} {g = g} {h = h} c p = record { here 
     heaps : (n : ℕ) → IsHeapAt (in_mono ∷ g) n → IsHeapAt (in_mono ∷ h) (closing (suc x) n)
     heaps n (heap_further {n = i} d) = heap_further (p.heaps i d)
 
-puts_heap : {file : FileShapes} {new : TermTree} {x : ℕ} {g h : Shapes}
+pub puts_heap : {file : FileShapes} {new : TermTree} {x : ℕ} {g h : Shapes}
     → IsClosedFile file
     → PutsFormed file new x g h
     → PutsFormed file (up new) (suc x) (in_heap ∷ g) (in_heap ∷ h)
