@@ -19,6 +19,7 @@ use Rattle.theory_file_steps.proofs.Growing.{sound}
 use Rattle.theory_file_derived.specs.Derived.{DerivesAll, derives_none, derives_more, val_terms, def_terms}
 use Rattle.theory_file_obligations.proofs.True.{proved_goal}
 use Rattle.theory_file_sound.proofs.Values.{vals_of}
+use Rattle.theory_items_sound.proofs.Founded.{more_length}
 
 -- The second list is what follows so many elements of the first.
 abbrev pub Follows : {A : Type 0} → List A → ℕ → List A → Type 0
@@ -39,10 +40,6 @@ follows_next : {A : Type 0} (whole : List A) (k : ℕ) (x : A) (rest : List A) �
 follows_next whole zero x rest f = rest_of whole x rest f
 follows_next [] (suc k) x rest f = absurd f
 follows_next (y ∷ whole) (suc k) x rest f = follows_next whole k x rest f
-
-more_length : {A : Type 0} (xs : List A) (x : A) → length (xs ++ x ∷ []) ≡ suc (length xs)
-more_length [] x = refl
-more_length (y ∷ xs) x = ap suc (more_length xs x)
 
 follows_more : {A B : Type 0} (whole : List A) (known : List B) (y : B) (x : A) (rest : List A)
     → Follows whole (length known) (x ∷ rest)

@@ -64,7 +64,7 @@ both_met P Q R f (f_rec number heap place arguments) d p q = f d number place p 
 both_met P Q R f _ d p q = tt
 
 -- the number of an atom of one more predicate
-more_length : {A : Type 0} (xs : List A) (x : A) → length (xs ++ x ∷ []) ≡ suc (length xs)
+pub more_length : {A : Type 0} (xs : List A) (x : A) → length (xs ++ x ∷ []) ≡ suc (length xs)
 more_length [] x = refl
 more_length (y ∷ xs) x = ap suc (more_length xs x)
 

@@ -29,6 +29,7 @@ use Rattle.theory_denotation_substitution.proofs.Formulas.{formula_put}
 use Rattle.theory_logic_unfoldings_satisfied.proofs.Arguments.{agree_putting}
 use Rattle.theory_logic_unfoldings_satisfied.proofs.Unfolded.{op_denotes, literal_denotes}
 use Rattle.theory_logic_satisfied.proofs.Forms.{next_motive_formed, next_word_formed}
+use Rattle.theory_logic_true.proofs.Rules.{below_is_word}
 
 abbrev as_is : (A : Type 0) → Type 0
 as_is A = A
@@ -158,9 +159,6 @@ next_motive R {e = e} {g = g} {w = w} y C at_next z p d h =
     subst as_is (truth_renamed R e C (agree_next x (agree_suc (den_term sk_o (v_word y)) w)))
     (subst (λ (v : Value). Satisfies R e (den_term sk_o v ∷ den_term sk_o (v_word y) ∷ w) (rename_formula (lift suc) C))
     (next_denotes e y w) whole)
-
-below_is_word : (y : ℕ) → IsBelow y 18446744073709551615 → IsWord y
-below_is_word y l = let k = below y 18446744073709551615 l in omega (arith, k)
 
 pub by_induction : (R : Recs) {heads : Heads} {e : HeadEntries} {g : List Standing} {w : Valuation} (C at_zero at_next : FormulaTree)
     → Valued heads e g w

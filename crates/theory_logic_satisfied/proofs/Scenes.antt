@@ -21,19 +21,12 @@ use Rattle.theory_denotation_shapes.specs.Shapes.{InShape, shaped_heap, shaped_t
 use Rattle.theory_logic_unfoldings_satisfied.specs.Entries.{Setting}
 use Rattle.theory_logic_satisfied.specs.Laws.{AreCanonical, AreSatisfied}
 use Rattle.theory_logic_satisfied.proofs.Forms.{raised_formed}
+use Rattle.theory_logic_true.proofs.Scenes.{each_more, each_raised}
 
 pub record Scene (env : Environment) (e : HeadEntries) (g : Context) (hypotheses : List FormulaTree) (w : Valuation) : Type 0 where
   pub around : Setting env e g w
   pub formed : AreCanonical env g hypotheses
   pub true : AreSatisfied env e w hypotheses
-
-each_more : (P : FormulaTree → Type 0) (hs : List FormulaTree) (more : List FormulaTree) → Each P hs → Each P more → Each P (hs ++ more)
-each_more P [] more d e = e
-each_more P (G ∷ hs) more d e = (d.0, each_more P hs more d.1 e)
-
-each_raised : (P Q : FormulaTree → Type 0) → ((F : FormulaTree) → P F → Q (rename_formula suc F)) → (hs : List FormulaTree) → Each P hs → Each Q (raised hs)
-each_raised P Q f [] d = tt
-each_raised P Q f (G ∷ hs) d = (f G d.0, each_raised P Q f hs d.1)
 
 -- more hypotheses
 pub with_more : {env : Environment} {e : HeadEntries} {g : Context} {hs : List FormulaTree} {w : Valuation} (more : List FormulaTree)

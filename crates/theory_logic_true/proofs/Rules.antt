@@ -147,7 +147,7 @@ next_motive R g y w C at_next p d h =
     subst as_is (truth_renamed R C (agrees_next x (record { at = λ n. refl })))
     (subst (λ (v : Value). Holds R (th_value v ∷ th_value (v_word y) ∷ w) (rename_formula (lift suc) C)) (next_at y w) whole)
 
-below_is_word : (y : ℕ) → IsBelow y 18446744073709551615 → IsWord y
+pub below_is_word : (y : ℕ) → IsBelow y 18446744073709551615 → IsWord y
 below_is_word y l = let k = below y 18446744073709551615 l in omega (arith, k)
 
 pub by_induction : (R : Recs) (g : Sorts) (w : World) (C at_zero at_next : FormulaTree)

@@ -51,11 +51,11 @@ each_at P [] n F e d = absurd (no_element e)
 each_at P (G ∷ hs) zero F e d = subst P (same_element e) d.0
 each_at P (G ∷ hs) (suc n) F e d = each_at P hs n F e d.1
 
-each_more : (P : FormulaTree → Type 0) (hs : List FormulaTree) (more : List FormulaTree) → Each P hs → Each P more → Each P (hs ++ more)
+pub each_more : (P : FormulaTree → Type 0) (hs : List FormulaTree) (more : List FormulaTree) → Each P hs → Each P more → Each P (hs ++ more)
 each_more P [] more d e = e
 each_more P (G ∷ hs) more d e = (d.0, each_more P hs more d.1 e)
 
-each_raised : (P Q : FormulaTree → Type 0) → ((F : FormulaTree) → P F → Q (rename_formula suc F)) → (hs : List FormulaTree) → Each P hs → Each Q (raised hs)
+pub each_raised : (P Q : FormulaTree → Type 0) → ((F : FormulaTree) → P F → Q (rename_formula suc F)) → (hs : List FormulaTree) → Each P hs → Each Q (raised hs)
 each_raised P Q f [] d = tt
 each_raised P Q f (G ∷ hs) d = (f G d.0, each_raised P Q f hs d.1)
 
