@@ -1,11 +1,10 @@
 -- Truth in valuations is stable under double negation.
-use Rattle.std.proofs.Common.{ℕ, ◌∷◌}
+use Rattle.std.proofs.Common.{◌∷◌}
 use Rattle.htt_syntax.specs.Trees.{FormulaTree, f_tt, f_ff, f_and, f_or, f_imp, f_all_t, f_ex_t, f_all_h, f_ex_h, f_emp, f_cell, f_block, f_join, f_same, f_eq}
 use Rattle.htt_syntax.specs.Trees.{f_at, f_rec}
 use Rattle.theory_truth.specs.Truth.{Recs}
 use Rattle.theory_truth.specs.Predicates.{recs_of}
-use Rattle.theory_values.specs.Heaps.{Block, Heap, IsOnly}
-use Rattle.theory_truth.proofs.Stable.{Stable, StableRecs, block_stable, joins_stable, value_stable, classical as truth_classical, only_stable}
+use Rattle.theory_truth.proofs.Stable.{Stable, StableRecs, block_stable, joins_stable, value_stable, classical as truth_classical, only_stable, is_block_stable}
 use Rattle.theory_canonical.specs.Skeletons.{sk_o}
 use Rattle.theory_denotation.specs.Valuations.{den_heap, den_term, Valuation, HeadEntries}
 use Rattle.theory_denotation.specs.Satisfaction.{Satisfies}
@@ -24,7 +23,7 @@ stable R s e (f_all_h body) w h = λ g is. stable R s e body (den_heap g ∷ w) 
 stable R s e (f_ex_h body) w h = λ k. h (λ p. p k)
 stable R s e (f_emp heap) w h = record { each = λ l. block_stable _ _ (λ k. h (λ p. k (p.each l))) }
 stable R s e (f_cell mono heap place value) w h = only_stable _ _ _ h
-stable R s e (f_block mono heap place) w h = λ k. h (λ p. p k)
+stable R s e (f_block mono heap place) w h = is_block_stable _ _ _ h
 stable R s e (f_join whole left right) w h = record { each = λ l. joins_stable _ _ _ (λ k. h (λ p. k (p.each l))) }
 stable R s e (f_same left right) w h = record { each = λ l. block_stable _ _ (λ k. h (λ p. k (p.each l))) }
 stable R s e (f_eq mono left right) w h = value_stable _ _ h

@@ -1,12 +1,12 @@
 -- Where all term variables are of monotypes, denotation and truth are those of the world.
-use Rattle.std.proofs.Common.{◌≡◌, ℕ, zero, suc, List, [], ◌∷◌, length, refl, sym, ap, ◌∙◌, subst, ◌⊎◌}
+use Rattle.std.proofs.Common.{◌≡◌, ℕ, zero, suc, List, [], ◌∷◌, refl, sym, ap, ◌∙◌, subst, ◌⊎◌}
 use Rattle.htt_syntax.specs.Trees.{MonoTree, TermTree, TermTrees, FormulaTree, m_word, m_bool, m_loc, m_unit, m_pair, m_var, t_var}
 use Rattle.theory_values.specs.Values.{Value, v_pair, HasType, encoding, width, value_of_op, value_of_not, value_of_eq, value_of_sel, value_of_fst}
 use Rattle.theory_values.specs.Values.{value_of_snd}
-use Rattle.theory_values.specs.Heaps.{Block, Heap, IsHeap, IsEmpty, IsOnly, IsJoin, IsSame}
+use Rattle.theory_values.specs.Heaps.{Heap, IsHeap, IsEmpty, IsOnly, IsJoin, IsSame}
 use Rattle.theory_truth.specs.Worlds.{Thing, World, th_mono, th_value, th_heap, thing_at, mono_of, value_of, heap_of, mono_under, heap_at}
 use Rattle.theory_truth.specs.TermValue.{value_or_unit, term_value, term_values, word_of, loc_of}
-use Rattle.theory_truth.specs.Truth.{NotNot, Recs, Holds}
+use Rattle.theory_truth.specs.Truth.{NotNot, IsBlock, Recs, Holds}
 use Rattle.theory_truth.specs.Predicates.{recs_of}
 use Rattle.theory_truth.proofs.Renamed.{both_ways}
 use Rattle.theory_canonical.specs.Skeletons.{Skeleton, sk_o, sk_arrow, sk_all}
@@ -145,7 +145,7 @@ truth_first R e w h o (n_ex_h a) = λ j. NotNot ((k : Heap) × IsHeap k × truth
 truth_first R e w h o (n_emp {heap = heap} d) = λ j. IsEmpty (heap_first w heap j)
 truth_first R e w h o (n_cell {heap = heap} t d a b) = λ j. IsOnly (heap_first w heap j) (loc_of (value_first e w h o a j)) (encoding (value_first e w h o b j))
 truth_first R e w h o (n_block {mono = mono} {heap = heap} t d a) =
-    λ j. NotNot ((b : Block) × (length b ≡ width (mono_first w mono j)) × IsOnly (heap_first w heap j) (loc_of (value_first e w h o a j)) b)
+    λ j. IsBlock (heap_first w heap j) (loc_of (value_first e w h o a j)) (width (mono_first w mono j))
 truth_first R e w h o (n_join {whole = whole} {left = left} {right = right} a b c) =
     λ j. IsJoin (heap_first w whole j) (heap_first w left j) (heap_first w right j)
 truth_first R e w h o (n_same {left = left} {right = right} a b) = λ j. IsSame (heap_first w left j) (heap_first w right j)

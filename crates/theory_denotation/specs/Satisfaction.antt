@@ -1,12 +1,12 @@
 -- Truth of formulas in valuations, in which functions and computations may stand too, and what the
 -- formulas of a triple say. Truth is read classically, as in worlds.
-use Rattle.std.specs.Prelude.{◌≡◌, length, ◌∷◌, ◌⊎◌}
+use Rattle.std.specs.Prelude.{◌≡◌, ◌∷◌, ◌⊎◌}
 use Rattle.htt_syntax.specs.Trees.{MonoTree, TripleTree, FormulaTree, triple, f_tt, f_ff, f_and, f_or, f_imp, f_all_t}
 use Rattle.htt_syntax.specs.Trees.{f_ex_t, f_all_h, f_ex_h, f_emp, f_cell, f_block, f_join, f_same, f_eq, f_at, f_rec}
 use Rattle.theory_values.specs.Values.{Value, HasType, encoding, width}
-use Rattle.theory_values.specs.Heaps.{Block, Heap, IsHeap, IsEmpty, IsOnly, IsJoin, IsSame}
+use Rattle.theory_values.specs.Heaps.{Heap, IsHeap, IsEmpty, IsOnly, IsJoin, IsSame}
 use Rattle.theory_truth.specs.TermValue.{word_of, loc_of}
-use Rattle.theory_truth.specs.Truth.{NotNot, Recs}
+use Rattle.theory_truth.specs.Truth.{NotNot, IsBlock, Recs}
 use Rattle.theory_canonical.specs.Skeletons.{sk_o}
 use Rattle.theory_denotation.specs.Valuations.{den_heap, den_term, Valuation, mono_in, heap_in, HeadEntries}
 use Rattle.theory_denotation.specs.Denotation.{term_den, terms_den}
@@ -27,8 +27,7 @@ Satisfies R e w (f_emp heap) = IsEmpty (heap_in w heap)
 Satisfies R e w (f_cell mono heap place value) =
     IsOnly (heap_in w heap) (loc_of (term_den e w place sk_o)) (encoding (term_den e w value sk_o))
 Satisfies R e w (f_block mono heap place) =
-    NotNot
-    ((b : Block) × (length b ≡ width (mono_in w mono)) × IsOnly (heap_in w heap) (loc_of (term_den e w place sk_o)) b)
+    IsBlock (heap_in w heap) (loc_of (term_den e w place sk_o)) (width (mono_in w mono))
 Satisfies R e w (f_join whole left right) = IsJoin (heap_in w whole) (heap_in w left) (heap_in w right)
 Satisfies R e w (f_same left right) = IsSame (heap_in w left) (heap_in w right)
 Satisfies R e w (f_eq mono left right) = term_den e w left sk_o ≡ term_den e w right sk_o

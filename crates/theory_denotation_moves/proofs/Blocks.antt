@@ -1,10 +1,11 @@
 -- A write and a release are sound.
-use Rattle.std.proofs.Common.{◌≡◌, ℕ, List, ◌∷◌, length, refl, sym, ap, ◌∙◌, subst}
+use Rattle.std.proofs.Common.{ℕ, List, ◌∷◌, refl, sym, ap, ◌∙◌, subst}
 use Rattle.htt_syntax.specs.Trees.{MonoTree, TermTree, FormulaTree, m_loc, m_unit, s_set, s_free}
 use Rattle.theory_values.specs.Values.{Value, v_unit, HasType, is_unit, encoding, width}
-use Rattle.theory_values.specs.Heaps.{Block, Heap, IsHeap, IsOnly, IsJoin, single_block}
+use Rattle.theory_values.specs.Heaps.{Heap, IsHeap, IsOnly, IsJoin, single_block}
 use Rattle.theory_values.proofs.Joins.{part_is_heap, single_is_only}
 use Rattle.theory_truth.specs.TermValue.{loc_of}
+use Rattle.theory_truth.specs.Truth.{IsBlock}
 use Rattle.theory_truth.specs.Predicates.{RecTree, recs_of}
 use Rattle.theory_canonical.specs.Skeletons.{sk_o}
 use Rattle.theory_states.specs.States.{past, move_set, move_free, owes_block, owed, after}
@@ -22,23 +23,19 @@ use Rattle.theory_denotation_moves.proofs.Agreeing.{into, out_of, heaps_agree, p
 use Rattle.theory_denotation_moves.proofs.Cells.{next_stable}
 
 module _ (table : List RecTree) (e : HeadEntries) (w : Valuation) where
-  -- a block of the width at the place
-  IsBlock : MonoTree → TermTree → Heap → Block → Type 0
-  IsBlock t M g b = (length b ≡ width (mono_in w t)) × IsOnly g (loc_of (term_den e w M sk_o)) b
-
-  set_after : (t : MonoTree) (M N : TermTree) (R : FormulaTree) (init mem g n k own : Heap) (v : Value) (b : Block)
+  set_after : (t : MonoTree) (M N : TermTree) (R : FormulaTree) (init mem g n k own : Heap) (v : Value)
       → StateAt table e w R init mem
       → IsHeap mem
       → IsHeap g
       → IsHeap n
       → IsHeap k
-      → IsBlock t M g b
+      → IsBlock g (loc_of (term_den e w M sk_o)) (width (mono_in w t))
       → IsJoin mem g k
       → IsOnly n (loc_of (term_den e w M sk_o)) (encoding (term_den e w N sk_o))
       → IsJoin own n k
       → NextState table e w (after (move_set t M N) R) v init own
-  unfolding Satisfies after IsBlock past
-  set_after t M N R init mem g n k own v b r im ig in_ ik block join cell joins deny =
+  unfolding Satisfies after past
+  set_after t M N R init mem g n k own v r im ig in_ ik block join cell joins deny =
       let x = den_term sk_o v in
       let inside = past_7 (den_heap k) (den_heap n) (den_heap g) (den_heap mem) (den_heap own) (den_heap init) x w in
       let place = term_renamed e M inside sk_o in
@@ -59,7 +56,7 @@ module _ (table : List RecTree) (e : HeadEntries) (w : Valuation) where
                     (heaps_agree 3 5 7 (den_heap mem) (den_heap init) w
                     (den_heap k ∷ den_heap n ∷ den_heap g ∷ den_heap mem ∷ den_heap own ∷ den_heap init ∷ x ∷ w) refl refl (λ i. refl))) r,
                 (
-                  λ other. other (b, (into (λ j. length b ≡ width (mono_renamed inside t j)) block.0), into (λ j. IsOnly g (loc_of (place j)) b) block.1),
+                  into (λ j. IsBlock g (loc_of (place j)) (width (mono_renamed inside t j))) block,
                   (
                     join,
                     (
@@ -74,23 +71,22 @@ module _ (table : List RecTree) (e : HeadEntries) (w : Valuation) where
         ),
       )
 
-  set_here : (t : MonoTree) (M N : TermTree) (R : FormulaTree) (init mem frame whole g k : Heap) (b : Block) (cs : List ℕ)
+  set_here : (t : MonoTree) (M N : TermTree) (R : FormulaTree) (init mem frame whole g k : Heap) (cs : List ℕ)
       → InState table e w R init mem frame whole cs
       → HasType (term_den e w M sk_o) m_loc
       → HasType (term_den e w N sk_o) (mono_in w t)
       → IsHeap g
       → IsHeap k
-      → IsBlock t M g b
+      → IsBlock g (loc_of (term_den e w M sk_o)) (width (mono_in w t))
       → IsJoin mem g k
       → EndsWell m_unit (NextState table e w (after (move_set t M N) R)) init frame
       (set_outcome (mono_in w t) (term_den e w M sk_o) (term_den e w N sk_o) whole cs)
-  unfolding IsBlock
-  set_here t M N R init mem frame whole g k b cs s place typed ig ik block join =
+  set_here t M N R init mem frame whole g k cs s place typed ig ik block join =
       let p = place_of_loc place in
       let v = term_den e w N sk_o in
       let done =
-      local.set (mono_in w t) v p.place b whole mem frame g k cs s.is_heap s.parts join
-      (subst (λ x. IsOnly g (loc_of x) b) p.is_place block.1) block.0 typed in
+      local.set (mono_in w t) v p.place block.0 whole mem frame g k cs s.is_heap s.parts join
+      (subst (λ x. IsOnly g (loc_of x) block.0) p.is_place block.2) block.1 typed in
       let r = done.1 in
       let cell = subst (λ l. IsOnly (single_block p.place (encoding v)) l (encoding v)) (sym (ap loc_of p.is_place)) (single_is_only p.place (encoding v)) in
       subst (EndsWell m_unit (NextState table e w (after (move_set t M N) R)) init frame)
@@ -101,7 +97,7 @@ module _ (table : List RecTree) (e : HeadEntries) (w : Valuation) where
           is_heap = r.is_heap;
           typed = is_unit;
           holds =
-              set_after t M N R init mem g (single_block p.place (encoding v)) k r.own v_unit b s.state (part_is_heap s.parts s.is_heap).0
+              set_after t M N R init mem g (single_block p.place (encoding v)) k r.own v_unit s.state (part_is_heap s.parts s.is_heap).0
               ig r.block_is_heap ik block join cell r.has;
         },
         s.words,
@@ -113,25 +109,25 @@ module _ (table : List RecTree) (e : HeadEntries) (w : Valuation) where
       → HasType (term_den e w N sk_o) (mono_in w t)
       → OwedAt table e w (owed (move_set t M N) R) init mem
       → EndsWell m_unit (NextState table e w (after (move_set t M N) R)) init frame (step_den e w (s_set t M N) n whole cs)
-  unfolding term_den owed owes_block Satisfies IsBlock
+  unfolding term_den owed owes_block Satisfies
   set_sound t M N R n init mem frame whole cs s place typed owes =
       ends_stable m_unit (NextState table e w (after (move_set t M N) R)) init frame
       (set_outcome (mono_in w t) (term_den e w M sk_o) (term_den e w N sk_o) whole cs) (next_stable table e w (after (move_set t M N) R))
       (λ deny.
-      owes s.state (λ a. a.2 (λ c. c.2.0 (λ b. deny (
+      owes s.state (λ a. a.2 (λ c. deny (
       let inside = past_4 (den_heap c.0) (den_heap a.0) (den_heap mem) (den_heap init) w in
-      set_here t M N R init mem frame whole a.0 c.0 b.0 cs s place typed a.1 c.1
-      (b.1 ∙ ap width (mono_renamed inside t), out_of (λ j. IsOnly a.0 (loc_of (term_renamed e M inside sk_o j)) b.0) b.2) c.2.1)))))
+      set_here t M N R init mem frame whole a.0 c.0 cs s place typed a.1 c.1
+      (out_of (λ j. IsBlock a.0 (loc_of (term_renamed e M inside sk_o j)) (width (mono_renamed inside t j))) c.2.0) c.2.1))))
 
-  free_after : (t : MonoTree) (M : TermTree) (R : FormulaTree) (init mem g k : Heap) (v : Value) (b : Block)
+  free_after : (t : MonoTree) (M : TermTree) (R : FormulaTree) (init mem g k : Heap) (v : Value)
       → StateAt table e w R init mem
       → IsHeap mem
       → IsHeap g
-      → IsBlock t M g b
+      → IsBlock g (loc_of (term_den e w M sk_o)) (width (mono_in w t))
       → IsJoin mem g k
       → NextState table e w (after (move_free t M) R) v init k
-  unfolding Satisfies after IsBlock past
-  free_after t M R init mem g k v b r im ig block join deny =
+  unfolding Satisfies after past
+  free_after t M R init mem g k v r im ig block join deny =
       let x = den_term sk_o v in
       let inside = past_5 (den_heap g) (den_heap mem) (den_heap k) (den_heap init) x w in
       deny (
@@ -145,32 +141,26 @@ module _ (table : List RecTree) (e : HeadEntries) (w : Valuation) where
                 (heaps_agree 1 3 5 (den_heap mem) (den_heap init) w (den_heap g ∷ den_heap mem ∷ den_heap k ∷ den_heap init ∷ x ∷ w) refl
                 refl (λ i. refl))) r,
             (
-              λ other.
-                  other (
-                    b,
-                    (into (λ j. length b ≡ width (mono_renamed inside t j)) block.0),
-                    into (λ j. IsOnly g (loc_of (term_renamed e M inside sk_o j)) b) block.1,
-                  ),
+              into (λ j. IsBlock g (loc_of (term_renamed e M inside sk_o j)) (width (mono_renamed inside t j))) block,
               join,
             ),
           ),
         ),
       )
 
-  free_here : (t : MonoTree) (M : TermTree) (R : FormulaTree) (init mem frame whole g k : Heap) (b : Block) (cs : List ℕ)
+  free_here : (t : MonoTree) (M : TermTree) (R : FormulaTree) (init mem frame whole g k : Heap) (cs : List ℕ)
       → InState table e w R init mem frame whole cs
       → HasType (term_den e w M sk_o) m_loc
       → IsHeap g
-      → IsBlock t M g b
+      → IsBlock g (loc_of (term_den e w M sk_o)) (width (mono_in w t))
       → IsJoin mem g k
       → EndsWell m_unit (NextState table e w (after (move_free t M) R)) init frame
       (free_outcome (mono_in w t) (term_den e w M sk_o) whole cs)
-  unfolding IsBlock
-  free_here t M R init mem frame whole g k b cs s place ig block join =
+  free_here t M R init mem frame whole g k cs s place ig block join =
       let p = place_of_loc place in
       let done =
-      local.free (mono_in w t) p.place b whole mem frame g k cs s.is_heap s.parts join
-      (subst (λ x. IsOnly g (loc_of x) b) p.is_place block.1) block.0 in
+      local.free (mono_in w t) p.place block.0 whole mem frame g k cs s.is_heap s.parts join
+      (subst (λ x. IsOnly g (loc_of x) block.0) p.is_place block.2) block.1 in
       subst (EndsWell m_unit (NextState table e w (after (move_free t M) R)) init frame)
       (sym (ap (λ x. free_outcome (mono_in w t) x whole cs) p.is_place ∙ done.0)) (
         record {
@@ -178,7 +168,7 @@ module _ (table : List RecTree) (e : HeadEntries) (w : Valuation) where
           parts = done.1;
           is_heap = done.2;
           typed = is_unit;
-          holds = free_after t M R init mem g k v_unit b s.state (part_is_heap s.parts s.is_heap).0 ig block join;
+          holds = free_after t M R init mem g k v_unit s.state (part_is_heap s.parts s.is_heap).0 ig block join;
         },
         s.words,
       )
@@ -188,11 +178,11 @@ module _ (table : List RecTree) (e : HeadEntries) (w : Valuation) where
       → HasType (term_den e w M sk_o) m_loc
       → OwedAt table e w (owed (move_free t M) R) init mem
       → EndsWell m_unit (NextState table e w (after (move_free t M) R)) init frame (step_den e w (s_free t M) n whole cs)
-  unfolding term_den owed owes_block Satisfies IsBlock
+  unfolding term_den owed owes_block Satisfies
   free_sound t M R n init mem frame whole cs s place owes =
       ends_stable m_unit (NextState table e w (after (move_free t M) R)) init frame
       (free_outcome (mono_in w t) (term_den e w M sk_o) whole cs) (next_stable table e w (after (move_free t M) R)) (λ deny.
-      owes s.state (λ a. a.2 (λ c. c.2.0 (λ b. deny (
+      owes s.state (λ a. a.2 (λ c. deny (
       let inside = past_4 (den_heap c.0) (den_heap a.0) (den_heap mem) (den_heap init) w in
-      free_here t M R init mem frame whole a.0 c.0 b.0 cs s place a.1
-      (b.1 ∙ ap width (mono_renamed inside t), out_of (λ j. IsOnly a.0 (loc_of (term_renamed e M inside sk_o j)) b.0) b.2) c.2.1)))))
+      free_here t M R init mem frame whole a.0 c.0 cs s place a.1
+      (out_of (λ j. IsBlock a.0 (loc_of (term_renamed e M inside sk_o j)) (width (mono_renamed inside t j))) c.2.0) c.2.1))))

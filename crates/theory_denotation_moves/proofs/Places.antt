@@ -5,6 +5,7 @@ use Rattle.std.proofs.lemmas.Bool.{cases_eq}
 use Rattle.std.proofs.lemmas.Bool.Decides.{nat_tests}
 use Rattle.theory_values.specs.Values.{IsWord}
 use Rattle.theory_values.specs.Heaps.{Block, Heap, IsHeap, single_block, with_place, with_block, without_block, IsOnly, Joins, IsJoin}
+use Rattle.theory_truth.proofs.Stable.{some_is_one}
 
 pub at_place : (h : Heap) (l : ℕ) (o : Option Block) (m : ℕ) → m ≡ l → with_place h l o m ≡ o
 at_place h l o m q = grind (arith, nat_tests)
@@ -67,9 +68,6 @@ block_taken {own = own} {g = g} {k = k} l b j o m = ⊎_elim
     (cases_eq m l)
 
 -- a heap stays one where a block of words is put at a word that isn't 0, and where one is taken away
-pub some_is_one : {b c : Block} → Some b ≡ Some c → b ≡ c
-some_is_one e = cc
-
 none_is_not_some : {b : Block} → None ≡ Some b → ⊥
 none_is_not_some e = cc
 

@@ -1,11 +1,11 @@
 -- Positions say nothing in formulas and types.
-use Rattle.std.proofs.Common.{◌≡◌, ◌∷◌, length, refl, ◌⊎◌}
+use Rattle.std.proofs.Common.{◌≡◌, ◌∷◌, refl, ◌⊎◌}
 use Rattle.htt_syntax.specs.Trees.{MonoTree, TyTree, TripleTree, FormulaTree, triple, y_mono, y_fun, y_all, y_hoare, y_at, f_tt, f_ff, f_and, f_or, f_imp}
 use Rattle.htt_syntax.specs.Trees.{f_all_t, f_ex_t, f_all_h, f_ex_h, f_emp, f_cell, f_block, f_join, f_same, f_eq, f_at, f_rec}
 use Rattle.theory_values.specs.Values.{Value, HasType, IsClosed, encoding, width}
-use Rattle.theory_values.specs.Heaps.{Block, Heap, IsHeap, IsEmpty, IsOnly, IsJoin, IsSame}
+use Rattle.theory_values.specs.Heaps.{Heap, IsHeap, IsEmpty, IsOnly, IsJoin, IsSame}
 use Rattle.theory_truth.specs.TermValue.{word_of, loc_of}
-use Rattle.theory_truth.specs.Truth.{NotNot, Recs}
+use Rattle.theory_truth.specs.Truth.{NotNot, IsBlock, Recs}
 use Rattle.theory_truth.specs.Predicates.{recs_of}
 use Rattle.theory_truth.proofs.Renamed.{both_ways}
 use Rattle.theory_canonical.specs.Skeletons.{Skeleton, sk_o, sk_c, sk_arrow, sk_all}
@@ -32,7 +32,7 @@ truth_plain R e (f_ex_h body) w = λ j. NotNot ((h : Heap) × IsHeap h × truth_
 truth_plain R e (f_emp heap) w = λ j. IsEmpty (heap_in w heap)
 truth_plain R e (f_cell mono heap place value) w = λ j. IsOnly (heap_in w heap) (loc_of (term_plain e place w sk_o j)) (encoding (term_plain e value w sk_o j))
 truth_plain R e (f_block mono heap place) w =
-    λ j. NotNot ((b : Block) × (length b ≡ width (mono_in w mono)) × IsOnly (heap_in w heap) (loc_of (term_plain e place w sk_o j)) b)
+    λ j. IsBlock (heap_in w heap) (loc_of (term_plain e place w sk_o j)) (width (mono_in w mono))
 truth_plain R e (f_join whole left right) w = λ j. IsJoin (heap_in w whole) (heap_in w left) (heap_in w right)
 truth_plain R e (f_same left right) w = λ j. IsSame (heap_in w left) (heap_in w right)
 truth_plain R e (f_eq mono left right) w = λ j. term_plain e left w sk_o j ≡ term_plain e right w sk_o j

@@ -1,12 +1,12 @@
 -- A renamed formula says in one valuation what it says in the other.
-use Rattle.std.proofs.Common.{◌≡◌, length, refl, ◌⊎◌}
+use Rattle.std.proofs.Common.{◌≡◌, refl, ◌⊎◌}
 use Rattle.htt_syntax.specs.Trees.{TripleTree, FormulaTree, triple, f_tt, f_ff, f_and, f_or, f_imp, f_all_t, f_ex_t, f_all_h, f_ex_h, f_emp, f_cell, f_block}
 use Rattle.htt_syntax.specs.Trees.{f_join, f_same, f_eq, f_at, f_rec}
 use Rattle.theory_renaming.specs.Renaming.{Map, rename_triple, rename_formula}
 use Rattle.theory_values.specs.Values.{Value, HasType, encoding, width}
-use Rattle.theory_values.specs.Heaps.{Block, Heap, IsHeap, IsEmpty, IsOnly, IsJoin, IsSame}
+use Rattle.theory_values.specs.Heaps.{Heap, IsHeap, IsEmpty, IsOnly, IsJoin, IsSame}
 use Rattle.theory_truth.specs.TermValue.{word_of, loc_of}
-use Rattle.theory_truth.specs.Truth.{NotNot, Recs}
+use Rattle.theory_truth.specs.Truth.{NotNot, IsBlock, Recs}
 use Rattle.theory_truth.specs.Predicates.{recs_of}
 use Rattle.theory_truth.proofs.Renamed.{both_ways}
 use Rattle.theory_canonical.specs.Skeletons.{sk_o}
@@ -34,9 +34,7 @@ truth_renamed R e (f_emp heap) a = λ j. IsEmpty (heap_of_entry (a.at heap j))
 truth_renamed R e (f_cell mono heap place value) a =
     λ j. IsOnly (heap_of_entry (a.at heap j)) (loc_of (term_renamed e place a sk_o j)) (encoding (term_renamed e value a sk_o j))
 truth_renamed R e (f_block mono heap place) a = λ j.
-    NotNot ((b : Block)
-    × (length b ≡ width (mono_renamed a mono j))
-    × IsOnly (heap_of_entry (a.at heap j)) (loc_of (term_renamed e place a sk_o j)) b)
+    IsBlock (heap_of_entry (a.at heap j)) (loc_of (term_renamed e place a sk_o j)) (width (mono_renamed a mono j))
 truth_renamed R e (f_join whole left right) a = λ j. IsJoin (heap_of_entry (a.at whole j)) (heap_of_entry (a.at left j)) (heap_of_entry (a.at right j))
 truth_renamed R e (f_same left right) a = λ j. IsSame (heap_of_entry (a.at left j)) (heap_of_entry (a.at right j))
 truth_renamed R e (f_eq mono left right) a = λ j. term_renamed e left a sk_o j ≡ term_renamed e right a sk_o j

@@ -1,10 +1,10 @@
 -- Substitution in formulas is an equality of what they say.
-use Rattle.std.proofs.Common.{◌≡◌, ℕ, List, length, refl, sym, ◌⊎◌}
+use Rattle.std.proofs.Common.{◌≡◌, ℕ, List, refl, sym, ◌⊎◌}
 use Rattle.htt_syntax.specs.Trees.{TripleTree, TermTree, FormulaTree}
 use Rattle.theory_values.specs.Values.{Value, HasType, encoding, width}
-use Rattle.theory_values.specs.Heaps.{Block, Heap, IsHeap, IsEmpty, IsOnly, IsJoin, IsSame}
+use Rattle.theory_values.specs.Heaps.{Heap, IsHeap, IsEmpty, IsOnly, IsJoin, IsSame}
 use Rattle.theory_truth.specs.TermValue.{word_of, loc_of}
-use Rattle.theory_truth.specs.Truth.{NotNot, Recs}
+use Rattle.theory_truth.specs.Truth.{NotNot, IsBlock, Recs}
 use Rattle.theory_truth.specs.Predicates.{recs_of}
 use Rattle.theory_truth.proofs.Renamed.{both_ways}
 use Rattle.theory_canonical.specs.Skeletons.{Skeleton, sk_o, sk_arrow}
@@ -45,9 +45,8 @@ formula_put R u_f_emp (n_emp d) p = λ j. IsEmpty (heap_of_entry (heap_beside d 
 formula_put R (u_f_cell a b) (n_cell m d c f) p =
     λ j. IsOnly (heap_of_entry (heap_beside d p.may.inserted p.valuation j)) (loc_of (term_put a c p j)) (encoding (term_put b f p j))
 formula_put R (u_f_block a) (n_block m d c) p = λ j.
-    NotNot ((b : Block)
-    × (length b ≡ width (mono_beside m p.may.inserted p.valuation j))
-    × IsOnly (heap_of_entry (heap_beside d p.may.inserted p.valuation j)) (loc_of (term_put a c p j)) b)
+    IsBlock (heap_of_entry (heap_beside d p.may.inserted p.valuation j)) (loc_of (term_put a c p j))
+    (width (mono_beside m p.may.inserted p.valuation j))
 formula_put R u_f_join (n_join a b c) p = λ j.
     IsJoin (heap_of_entry (heap_beside a p.may.inserted p.valuation j)) (heap_of_entry (heap_beside b p.may.inserted p.valuation j))
     (heap_of_entry (heap_beside c p.may.inserted p.valuation j))

@@ -1,14 +1,14 @@
 -- The formula of an axiom says in a valuation what it says of literals in the first-order reading.
-use Rattle.std.proofs.Common.{◌≡◌, ℕ, suc, List, [], ◌∷◌, Option, Some, None, length, refl, ◌⊎◌}
+use Rattle.std.proofs.Common.{◌≡◌, ℕ, suc, List, [], ◌∷◌, Option, Some, None, refl, ◌⊎◌}
 use Rattle.std.specs.Prelude.{Bool, true, false}
 use Rattle.htt_syntax.specs.declared.mono.Op.{Op}
 use Rattle.htt_syntax.specs.declared.mono.Op.TheVariants.{Add, Sub, Mul, And, Or, Xor, Shl, Lt}
 use Rattle.htt_syntax.specs.Trees.{MonoTree, TermTree, FormulaTree, ArgTree, m_word, m_bool, m_loc, m_unit, m_pair, t_var, t_word, t_bool, t_loc, t_unit, f_emp}
 use Rattle.htt_syntax.specs.Trees.{f_cell, f_block, f_join, f_same, f_eq, a_heap, a_term}
 use Rattle.theory_values.specs.Values.{Value, HasType, encoding, width}
-use Rattle.theory_values.specs.Heaps.{Block, Heap, IsHeap, IsEmpty, IsOnly, IsJoin, IsSame}
+use Rattle.theory_values.specs.Heaps.{Heap, IsHeap, IsEmpty, IsOnly, IsJoin, IsSame}
 use Rattle.theory_truth.specs.TermValue.{term_value, loc_of}
-use Rattle.theory_truth.specs.Truth.{NotNot, Recs, Holds}
+use Rattle.theory_truth.specs.Truth.{NotNot, IsBlock, Recs, Holds}
 use Rattle.theory_canonical.specs.Skeletons.{sk_o}
 use Rattle.theory_logic_axioms.specs.Names.{AxiomName, emp_some, emp_one, join_emp, join_comm, join_assoc, join_fun, join_cancel, join_empty, join_cross}
 use Rattle.theory_logic_axioms.specs.Names.{cell_block, cell_one, cell_val, cell_make, block_part, block_sep, block_null, block_emp, block_word, block_place}
@@ -62,7 +62,7 @@ block_same : (R : Recs) {e : HeadEntries} {w : Valuation} (t : MonoTree) (h : �
     → Alike e w m m'
     → Satisfies R e w (f_block t h m) ≡ Holds R (world_of w) (f_block t h m')
 unfolding Satisfies Holds
-block_same R {w = w} t h p = λ j. NotNot ((b : Block) × (length b ≡ width (mono_read w t j)) × IsOnly (heap_read w h j) (loc_of (p.same j)) b)
+block_same R {w = w} t h p = λ j. IsBlock (heap_read w h j) (loc_of (p.same j)) (width (mono_read w t j))
 
 ex_heap_same : {A B : Heap → Type 0} → ((k : Heap) → A k ≡ B k) → NotNot ((k : Heap) × IsHeap k × A k) ≡ NotNot ((k : Heap) × IsHeap k × B k)
 ex_heap_same p = λ j. NotNot ((k : Heap) × IsHeap k × p k j)

@@ -1,14 +1,12 @@
 -- The axioms of cells are true, with heaps, locations and values in place of their variables.
-use Rattle.std.proofs.Common.{◌≡◌, ℕ, ◌<◌, Some, sym, ap, ◌∙◌, arith, ⊎_elim}
+use Rattle.std.proofs.Common.{◌≡◌, ℕ, ◌<◌, sym, ap, ◌∙◌, arith, ⊎_elim}
 use Rattle.std.proofs.lemmas.Bool.{cases_eq}
 use Rattle.htt_syntax.specs.Trees.{MonoTree}
 use Rattle.theory_values.specs.Values.{Value, IsWord, HasType, encoding}
 use Rattle.theory_values.specs.Heaps.{Block, Heap, IsHeap, IsOnly, IsSame, single_block}
 use Rattle.theory_values.proofs.Encoding.{encoding_is_words, encoding_tells}
 use Rattle.theory_values.proofs.Joins.{single_is_only, only_is_heap}
-
-pub some_is_one : {b c : Block} → Some b ≡ Some c → b ≡ c
-some_is_one e = cc
+use Rattle.theory_truth.proofs.Stable.{some_is_one}
 
 pub only_once : (g k : Heap) (l : ℕ) (b : Block) → IsOnly g l b → IsOnly k l b → IsSame g k
 only_once g k l b p q = record {

@@ -1,14 +1,14 @@
 -- Positions say nothing.
-use Rattle.std.proofs.Common.{◌≡◌, ◌∷◌, length, refl, sym, ap, ◌∙◌, subst, ◌⊎◌, ◌↔◌}
+use Rattle.std.proofs.Common.{◌≡◌, ◌∷◌, refl, sym, ap, ◌∙◌, subst, ◌⊎◌, ◌↔◌}
 use Rattle.htt_syntax.specs.Trees.{TermTree, FormulaTree, TermTrees, t_var, t_val, t_def, t_app, t_inst, t_lam, t_lam_t, t_do, t_fix, t_word, t_bool, t_loc}
 use Rattle.htt_syntax.specs.Trees.{t_unit, t_pair, t_fst, t_snd, t_not, t_bin, t_eq, t_sel, t_ann, t_made, t_at, f_tt, f_ff, f_and, f_or, f_imp, f_all_t}
 use Rattle.htt_syntax.specs.Trees.{f_ex_t, f_all_h, f_ex_h, f_emp, f_cell, f_block, f_join, f_same, f_eq, f_at, f_rec, no_terms, more_terms}
 use Rattle.theory_values.specs.Values.{Value, v_pair, HasType, encoding, width, value_of_op, value_of_not, value_of_eq, value_of_sel, value_of_fst}
 use Rattle.theory_values.specs.Values.{value_of_snd}
-use Rattle.theory_values.specs.Heaps.{Block, Heap, IsHeap, IsOnly}
+use Rattle.theory_values.specs.Heaps.{Heap, IsHeap, IsOnly}
 use Rattle.theory_truth.specs.Worlds.{World, th_value, th_heap, heap_at, mono_under}
 use Rattle.theory_truth.specs.TermValue.{value_or_unit, term_value, term_values, word_of, loc_of}
-use Rattle.theory_truth.specs.Truth.{NotNot, Recs, Holds}
+use Rattle.theory_truth.specs.Truth.{NotNot, IsBlock, Recs, Holds}
 use Rattle.theory_truth.specs.Predicates.{recs_of}
 use Rattle.theory_truth.proofs.Renamed.{both_ways}
 use Rattle.theory_typing.specs.Positions.{plain_term, plain_formula, plain_terms}
@@ -60,7 +60,7 @@ plain_truth R (f_ex_h body) w = λ j. NotNot ((h : Heap) × IsHeap h × plain_tr
 plain_truth R (f_emp heap) w = refl
 plain_truth R (f_cell mono heap place value) w = λ j. IsOnly (heap_at w heap) (loc_of (plain_value w place j)) (encoding (plain_value w value j))
 plain_truth R (f_block mono heap place) w =
-    λ j. NotNot ((b : Block) × (length b ≡ width (mono_under w mono)) × IsOnly (heap_at w heap) (loc_of (plain_value w place j)) b)
+    λ j. IsBlock (heap_at w heap) (loc_of (plain_value w place j)) (width (mono_under w mono))
 plain_truth R (f_join whole left right) w = refl
 plain_truth R (f_same left right) w = refl
 plain_truth R (f_eq mono left right) w = λ j. plain_value w left j ≡ plain_value w right j

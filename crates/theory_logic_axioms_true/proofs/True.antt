@@ -7,7 +7,7 @@ use Rattle.theory_values.proofs.Encoding.{encoding_is_as_wide}
 use Rattle.theory_values.proofs.Joins.{join_commutes, join_is_one, join_cancels}
 use Rattle.theory_truth.specs.Worlds.{Thing, World, th_value, th_heap, heap_at, mono_under}
 use Rattle.theory_truth.specs.TermValue.{term_value, loc_of}
-use Rattle.theory_truth.specs.Truth.{NotNot, Recs, Holds}
+use Rattle.theory_truth.specs.Truth.{NotNot, IsBlock, Recs, Holds}
 use Rattle.theory_truth.specs.Predicates.{recs_of}
 use Rattle.theory_truth.proofs.Renamed.{value_renamed}
 use Rattle.theory_logic_axioms.specs.Names.{AxiomName, emp_some, emp_one, join_emp, join_comm, join_assoc, join_fun, join_cancel, join_empty, join_cross}
@@ -25,7 +25,7 @@ use Rattle.theory_logic_axioms_true.proofs.WordAxioms.{total, below_next, nothin
 use Rattle.theory_logic_axioms_true.proofs.WordAxioms.{left_by_one}
 use Rattle.theory_logic_axioms_true.proofs.JoinAxioms.{some_empty, empty_once, join_with_empty, regrouped, empty_parts, crossed}
 use Rattle.theory_logic_axioms_true.proofs.CellAxioms.{only_once, one_value, cell_made}
-use Rattle.theory_logic_axioms_true.proofs.BlockAxioms.{IsBlock, same_parts, apart, not_at_zero, not_empty, word_held, one_place, other_width}
+use Rattle.theory_logic_axioms_true.proofs.BlockAxioms.{same_parts, apart, not_at_zero, not_empty, word_held, one_place, other_width}
 use Rattle.theory_logic_axioms_true.proofs.Widths.{same_width}
 use Rattle.theory_logic_axioms_true.proofs.ValueAxioms.{equal_where_yes, yes_where_equal, true_or_false, not_the_other, parts_of_pair}
 
@@ -37,7 +37,7 @@ cell_is_block : (w : World) (t : MonoTree) (h : ℕ) (m n : TermTree)
     → HasType (term_value w n) (mono_under w t)
     → IsOnly (heap_at w h) (loc_of (term_value w m)) (encoding (term_value w n))
     → IsBlock (heap_at w h) (loc_of (term_value w m)) (width (mono_under w t))
-cell_is_block w t h m n typed cell deny = deny (encoding (term_value w n), encoding_is_as_wide typed, cell)
+cell_is_block w t h m n typed cell = (encoding (term_value w n), encoding_is_as_wide typed, cell)
 
 -- a cell of a value at a place that isn't null
 cell_there : (w : World) (t : MonoTree) (m n : TermTree)

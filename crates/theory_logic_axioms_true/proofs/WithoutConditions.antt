@@ -14,7 +14,7 @@ use Rattle.theory_truth.specs.Predicates.{recs_of}
 use Rattle.theory_logic_axioms.specs.Names.{block_width}
 use Rattle.theory_logic_axioms.specs.Table.{count_of_words, SideCondition, formula_of}
 use Rattle.theory_logic_axioms_true.specs.WithoutConditions.{at_greatest, one_word_held, next_is_above, ConditionsAreNeeded}
-use Rattle.theory_logic_axioms_true.proofs.CellAxioms.{some_is_one}
+use Rattle.theory_truth.proofs.Stable.{some_is_one}
 
 not_true : v_bool false ≡ v_bool true → ⊥
 not_true e = cc
@@ -36,7 +36,7 @@ not_wider : (R : Recs) (F : FormulaTree)
 unfolding Holds formula_of term_value
 not_wider R F e h =
     let k = subst (Holds R one_word_held) (sym (row_of e)) h in
-    k (λ deny. deny (7 ∷ [], refl, single_is_only 5 (7 ∷ []))) (λ x. two_words x.0 x.1 x.2)
+    let x = k (7 ∷ [], refl, single_is_only 5 (7 ∷ [])) in two_words x.0 x.1 x.2
 
 not_as_wide : SideCondition block_width (m_word ∷ m_pair m_word m_word ∷ []) → ⊥
 unfolding SideCondition count_of_words

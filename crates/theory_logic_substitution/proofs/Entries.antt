@@ -1,14 +1,14 @@
 -- Worlds that agree on the entries of a formula's sorts make it true together.
-use Rattle.std.proofs.Common.{◌≡◌, ℕ, zero, suc, ◌∷◌, length, refl, ap, ◌⊎◌}
+use Rattle.std.proofs.Common.{◌≡◌, ℕ, zero, suc, ◌∷◌, refl, ap, ◌⊎◌}
 use Rattle.htt_syntax.specs.Trees.{MonoTree, TermTree, TermTrees, FormulaTree, m_word, m_bool, m_loc, m_unit, m_pair, m_var, t_var, t_pair, t_fst, t_snd, t_not}
 use Rattle.htt_syntax.specs.Trees.{t_bin, t_eq, t_sel, t_at, no_terms, more_terms, f_tt, f_ff, f_and, f_or, f_imp, f_all_t, f_ex_t, f_all_h, f_ex_h, f_emp}
 use Rattle.htt_syntax.specs.Trees.{f_cell, f_block, f_join, f_same, f_eq, f_at, f_rec}
 use Rattle.theory_values.specs.Values.{Value, v_pair, HasType, encoding, width, value_of_op, value_of_not, value_of_eq, value_of_sel, value_of_fst}
 use Rattle.theory_values.specs.Values.{value_of_snd}
-use Rattle.theory_values.specs.Heaps.{Block, Heap, IsHeap, IsEmpty, IsOnly, IsJoin, IsSame}
+use Rattle.theory_values.specs.Heaps.{Heap, IsHeap, IsEmpty, IsOnly, IsJoin, IsSame}
 use Rattle.theory_truth.specs.Worlds.{Thing, World, th_value, th_heap, thing_at, mono_of, value_of, heap_of, mono_under}
 use Rattle.theory_truth.specs.TermValue.{value_or_unit, term_value, term_values, word_of, loc_of}
-use Rattle.theory_truth.specs.Truth.{NotNot, Recs, Holds}
+use Rattle.theory_truth.specs.Truth.{NotNot, IsBlock, Recs, Holds}
 use Rattle.theory_truth.specs.Predicates.{recs_of}
 use Rattle.theory_truth.proofs.Renamed.{both_ways}
 use Rattle.theory_logic_sorts.specs.Sorts.{Sort, Sorts, for_mono, for_value, for_heap, HasSort, SortedMono, SortedTerm, SortedTerms, SortedFormula}
@@ -67,9 +67,7 @@ truth_agrees R (f_emp heap) a d = λ j. IsEmpty (heap_of (a.at heap for_heap d j
 truth_agrees R (f_cell mono heap place value) a d =
     λ j. IsOnly (heap_of (a.at heap for_heap d.1 j)) (loc_of (value_agrees a place d.2 j)) (encoding (value_agrees a value d.3 j))
 truth_agrees R (f_block mono heap place) a d = λ j.
-    NotNot ((b : Block)
-    × (length b ≡ width (mono_agrees a mono d.0 j))
-    × IsOnly (heap_of (a.at heap for_heap d.1 j)) (loc_of (value_agrees a place d.2 j)) b)
+    IsBlock (heap_of (a.at heap for_heap d.1 j)) (loc_of (value_agrees a place d.2 j)) (width (mono_agrees a mono d.0 j))
 truth_agrees R (f_join whole left right) a d =
     λ j. IsJoin (heap_of (a.at whole for_heap d.0 j)) (heap_of (a.at left for_heap d.1 j)) (heap_of (a.at right for_heap d.2 j))
 truth_agrees R (f_same left right) a d = λ j. IsSame (heap_of (a.at left for_heap d.0 j)) (heap_of (a.at right for_heap d.1 j))

@@ -1,5 +1,5 @@
 -- A monotype put for a monotype variable is reindexing of the world.
-use Rattle.std.proofs.Common.{◌≡◌, ℕ, zero, suc, ◌∷◌, Some, length, refl, sym, ap, ◌∙◌, ◌⊎◌}
+use Rattle.std.proofs.Common.{◌≡◌, ℕ, zero, suc, ◌∷◌, Some, refl, sym, ap, ◌∙◌, ◌⊎◌}
 use Rattle.std.specs.Prelude.{slice_get, nat_eq}
 use Rattle.htt_syntax.specs.Trees.{MonoTree, TermTree, TermTrees, FormulaTree, m_word, m_bool, m_loc, m_unit, m_pair, m_var, t_var, t_pair, t_fst, t_snd, t_not}
 use Rattle.htt_syntax.specs.Trees.{t_bin, t_eq, t_sel, t_at, no_terms, more_terms, f_tt, f_ff, f_and, f_or, f_imp, f_all_t, f_ex_t, f_all_h, f_ex_h, f_emp}
@@ -7,10 +7,10 @@ use Rattle.htt_syntax.specs.Trees.{f_cell, f_block, f_join, f_same, f_eq, f_at, 
 use Rattle.theory_renaming.specs.Renaming.{Map, lift}
 use Rattle.theory_values.specs.Values.{Value, v_pair, HasType, encoding, width, value_of_op, value_of_not, value_of_eq, value_of_sel, value_of_fst}
 use Rattle.theory_values.specs.Values.{value_of_snd}
-use Rattle.theory_values.specs.Heaps.{Block, Heap, IsHeap, IsEmpty, IsOnly, IsJoin, IsSame}
+use Rattle.theory_values.specs.Heaps.{Heap, IsHeap, IsEmpty, IsOnly, IsJoin, IsSame}
 use Rattle.theory_truth.specs.Worlds.{Thing, World, th_mono, th_value, th_heap, thing_at, mono_of, value_of, heap_of, mono_at, value_at, heap_at, mono_under}
 use Rattle.theory_truth.specs.TermValue.{value_or_unit, term_value, term_values, word_of, loc_of}
-use Rattle.theory_truth.specs.Truth.{NotNot, Recs, Holds}
+use Rattle.theory_truth.specs.Truth.{NotNot, IsBlock, Recs, Holds}
 use Rattle.theory_truth.specs.Predicates.{recs_of}
 use Rattle.theory_truth.proofs.Renamed.{mono_renamed, both_ways}
 use Rattle.theory_substitution.specs.Closing.{closing}
@@ -108,8 +108,7 @@ truth_filled R (f_emp heap) p d = λ j. IsEmpty (p.heap heap d j)
 truth_filled R (f_cell mono heap place value) p d =
     λ j. IsOnly (p.heap heap d.1 j) (loc_of (value_filled p place d.2 j)) (encoding (value_filled p value d.3 j))
 truth_filled R (f_block mono heap place) p d = λ j.
-    NotNot
-    ((b : Block) × (length b ≡ width (mono_filled p mono d.0 j)) × IsOnly (p.heap heap d.1 j) (loc_of (value_filled p place d.2 j)) b)
+    IsBlock (p.heap heap d.1 j) (loc_of (value_filled p place d.2 j)) (width (mono_filled p mono d.0 j))
 truth_filled R (f_join whole left right) p d = λ j. IsJoin (p.heap whole d.0 j) (p.heap left d.1 j) (p.heap right d.2 j)
 truth_filled R (f_same left right) p d = λ j. IsSame (p.heap left d.0 j) (p.heap right d.1 j)
 truth_filled R (f_eq mono left right) p d = λ j. value_filled p left d.1 j ≡ value_filled p right d.2 j

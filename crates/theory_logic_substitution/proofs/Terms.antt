@@ -1,15 +1,15 @@
 -- A term put for a value variable is reindexing of the world.
-use Rattle.std.proofs.Common.{◌≡◌, ◌≢◌, ℕ, zero, suc, ◌∷◌, Some, length, refl, sym, ap, ◌∙◌, ◌⊎◌}
+use Rattle.std.proofs.Common.{◌≡◌, ◌≢◌, ℕ, zero, suc, ◌∷◌, Some, refl, sym, ap, ◌∙◌, ◌⊎◌}
 use Rattle.std.specs.Prelude.{slice_get}
 use Rattle.htt_syntax.specs.Trees.{MonoTree, TermTree, TermTrees, FormulaTree, m_word, m_bool, m_loc, m_unit, m_pair, m_var, t_fst, t_snd, t_not, t_bin, t_eq}
 use Rattle.htt_syntax.specs.Trees.{t_sel}
 use Rattle.theory_renaming.specs.Renaming.{lift, rename_mono}
 use Rattle.theory_values.specs.Values.{Value, v_pair, HasType, encoding, width, value_of_op, value_of_not, value_of_eq, value_of_sel, value_of_fst}
 use Rattle.theory_values.specs.Values.{value_of_snd}
-use Rattle.theory_values.specs.Heaps.{Block, Heap, IsHeap, IsEmpty, IsOnly, IsJoin, IsSame}
+use Rattle.theory_values.specs.Heaps.{Heap, IsHeap, IsEmpty, IsOnly, IsJoin, IsSame}
 use Rattle.theory_truth.specs.Worlds.{Thing, World, th_value, th_heap, thing_at, mono_of, value_of, heap_of, value_at, heap_at, mono_under}
 use Rattle.theory_truth.specs.TermValue.{value_or_unit, term_value, term_values, word_of, loc_of}
-use Rattle.theory_truth.specs.Truth.{NotNot, Recs, Holds}
+use Rattle.theory_truth.specs.Truth.{NotNot, IsBlock, Recs, Holds}
 use Rattle.theory_truth.specs.Predicates.{recs_of}
 use Rattle.theory_truth.proofs.Renamed.{value_renamed, both_ways}
 use Rattle.theory_canonical.specs.Skeletons.{Skeleton, sk_o}
@@ -163,8 +163,7 @@ truth_put R (u_f_emp {heap = heap}) q p d = λ j. IsEmpty (heap_put heap p d j)
 truth_put R (u_f_cell {mono = mono} {heap = heap} a b) q p d =
     λ j. IsOnly (heap_put heap p d.1 j) (loc_of (value_put a q p d.2 j)) (encoding (value_put b q p d.3 j))
 truth_put R (u_f_block {mono = mono} {heap = heap} a) q p d =
-    λ j.
-    NotNot ((b : Block) × (length b ≡ width (mono_put p mono d.0 j)) × IsOnly (heap_put heap p d.1 j) (loc_of (value_put a q p d.2 j)) b)
+    λ j. IsBlock (heap_put heap p d.1 j) (loc_of (value_put a q p d.2 j)) (width (mono_put p mono d.0 j))
 truth_put R (u_f_join {whole = k} {left = left} {right = right}) q p d = λ j. IsJoin (heap_put k p d.0 j) (heap_put left p d.1 j) (heap_put right p d.2 j)
 truth_put R (u_f_same {left = left} {right = right}) q p d = λ j. IsSame (heap_put left p d.0 j) (heap_put right p d.1 j)
 truth_put R (u_f_eq {mono = mono} a b) q p d = λ j. value_put a q p d.1 j ≡ value_put b q p d.2 j

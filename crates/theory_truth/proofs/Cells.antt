@@ -33,6 +33,6 @@ formulas = record {
   emp_is_unused = λ table w h.
       (λ e l used. none_is_no_block (sym (e.each l) ∙ used.1), λ n. record { each = λ l. none_of (heap_at w h l) (λ b e. n l (b, e)) });
   cell_is_single = λ table w t h M N. (only_is_same, same_is_only);
-  block_is_single = λ table w t h M. (λ n deny. n (λ s. deny (s.0, s.1, only_is_same s.2)), λ n deny. n (λ s. deny (s.0, s.1, same_is_only s.2)));
-  cell_is_block = λ table w t h M N typed cell deny. deny (encoding (term_value w N), encoding_is_as_wide typed, cell);
+  block_is_single = λ table w t h M. (λ s. (s.0, s.1, only_is_same s.2), λ s. (s.0, s.1, same_is_only s.2));
+  cell_is_block = λ table w t h M N typed cell. (encoding (term_value w N), encoding_is_as_wide typed, cell);
 }

@@ -9,17 +9,15 @@ use Rattle.theory_truth.specs.TermValue.{term_value, term_values}
 use Rattle.theory_truth.specs.Truth.{Holds}
 use Rattle.theory_truth.specs.Atoms.{AtomsMeet, IsFounded, IsFoundedTable}
 use Rattle.theory_truth.specs.Predicates.{RecTree, recs_below}
+use Rattle.theory_truth.proofs.Stable.{some_is_one}
 use Rattle.theory_truth.proofs.Chain.{three_cells_chain}
 use Rattle.theory_truth.specs.Examples.{WorkedExamples, doubles, twice_one}
 
 some_is_not_none : (b : Block) → Some b ≡ None → ⊥
 some_is_not_none b e = cc
 
-some_is_one : (b c : Block) → Some b ≡ Some c → b ≡ c
-some_is_one b c e = cc
-
 other_block : IsOnly (single_block 5 (7 ∷ [])) 5 (8 ∷ []) → ⊥
-other_block o = let e : 7 ∷ [] ≡ 8 ∷ [] = some_is_one (7 ∷ []) (8 ∷ []) o.here in let f : 7 ≡ 8 = ap (λ (b : Block). get_or b 0 0) e in omega (arith, f)
+other_block o = let e : 7 ∷ [] ≡ 8 ∷ [] = some_is_one o.here in let f : 7 ≡ 8 = ap (λ (b : Block). get_or b 0 0) e in omega (arith, f)
 
 other_place : IsOnly (single_block 5 (7 ∷ [])) 6 (7 ∷ []) → ⊥
 other_place o = some_is_not_none (7 ∷ []) (sym o.here)
@@ -28,7 +26,7 @@ full : IsEmpty (single_block 5 (7 ∷ [])) → ⊥
 full o = some_is_not_none (7 ∷ []) (o.each 5)
 
 one_word : (b : Block) → length b ≡ 2 → IsOnly (single_block 5 (7 ∷ [])) 5 b → ⊥
-one_word b long o = let f : 7 ∷ [] ≡ b = some_is_one (7 ∷ []) b o.here in let g : 1 ≡ 2 = ap length f ∙ long in omega (arith, g)
+one_word b long o = let f : 7 ∷ [] ≡ b = some_is_one o.here in let g : 1 ≡ 2 = ap length f ∙ long in omega (arith, g)
 
 bool_is : (v : Value) → HasType v m_bool → (v ≡ v_bool true) ⊎ (v ≡ v_bool false)
 bool_is _ (is_bool {b = true}) = inl refl
@@ -80,8 +78,8 @@ worked = record {
   other_word = other_block;
   other_place = other_place;
   not_empty = full;
-  block_of_one_word = λ k. k (7 ∷ [], refl, single_is_only 5 (7 ∷ []));
-  block_of_two_words = λ k. k (λ b. one_word b.0 b.1 b.2);
+  block_of_one_word = (7 ∷ [], refl, single_is_only 5 (7 ∷ []));
+  block_of_two_words = λ b. one_word b.0 b.1 b.2;
   every_bool_is_one_of_two = λ v typed k. k (bool_is v typed);
   some_word_is_above = λ k. k (v_word 4, is_word four_is_word, refl);
   some_heap_is_empty = λ k. k (empty_heap, empty_is_heap, record { each = λ l. refl });

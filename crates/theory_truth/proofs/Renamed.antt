@@ -1,5 +1,5 @@
 -- A renamed phrase means in one world what the phrase means in the other.
-use Rattle.std.proofs.Common.{◌≡◌, ℕ, zero, suc, ◌∷◌, length, refl, sym, ap, subst, ◌⊎◌, ◌↔◌}
+use Rattle.std.proofs.Common.{◌≡◌, ℕ, zero, suc, ◌∷◌, refl, sym, ap, subst, ◌⊎◌, ◌↔◌}
 use Rattle.htt_syntax.specs.Trees.{MonoTree, TermTree, FormulaTree, TermTrees, m_word, m_bool, m_loc, m_unit, m_pair, m_var, t_var, t_val, t_def, t_app, t_inst}
 use Rattle.htt_syntax.specs.Trees.{t_lam, t_lam_t, t_do, t_fix, t_word, t_bool, t_loc, t_unit, t_pair, t_fst, t_snd, t_not, t_bin, t_eq, t_sel, t_ann, t_made}
 use Rattle.htt_syntax.specs.Trees.{t_at, f_tt, f_ff, f_and, f_or, f_imp, f_all_t, f_ex_t, f_all_h, f_ex_h, f_emp, f_cell, f_block, f_join, f_same, f_eq, f_at}
@@ -7,10 +7,10 @@ use Rattle.htt_syntax.specs.Trees.{f_rec, no_terms, more_terms}
 use Rattle.theory_renaming.specs.Renaming.{Map, lift, rename_mono, rename_term, rename_formula, rename_terms}
 use Rattle.theory_values.specs.Values.{Value, v_pair, HasType, encoding, width, value_of_op, value_of_not, value_of_eq, value_of_sel, value_of_fst}
 use Rattle.theory_values.specs.Values.{value_of_snd}
-use Rattle.theory_values.specs.Heaps.{Block, Heap, IsHeap, IsEmpty, IsOnly, IsJoin, IsSame}
+use Rattle.theory_values.specs.Heaps.{Heap, IsHeap, IsEmpty, IsOnly, IsJoin, IsSame}
 use Rattle.theory_truth.specs.Worlds.{Thing, World, th_value, th_heap, thing_at, mono_of, value_of, heap_of, mono_under}
 use Rattle.theory_truth.specs.TermValue.{value_or_unit, term_value, term_values, word_of, loc_of}
-use Rattle.theory_truth.specs.Truth.{NotNot, Recs, Holds}
+use Rattle.theory_truth.specs.Truth.{NotNot, IsBlock, Recs, Holds}
 use Rattle.theory_truth.specs.Predicates.{recs_of}
 use Rattle.theory_truth.specs.Laws.{Agrees, RenamingKeepsTruth}
 
@@ -78,7 +78,7 @@ truth_renamed R (f_ex_h body) a = λ j. NotNot ((h : Heap) × IsHeap h × truth_
 truth_renamed R (f_emp heap) a = λ j. IsEmpty (heap_of (a.at heap j))
 truth_renamed R (f_cell mono heap place value) a = λ j. IsOnly (heap_of (a.at heap j)) (loc_of (value_renamed a place j)) (encoding (value_renamed a value j))
 truth_renamed R (f_block mono heap place) a = λ j.
-    NotNot ((b : Block) × (length b ≡ width (mono_renamed a mono j)) × IsOnly (heap_of (a.at heap j)) (loc_of (value_renamed a place j)) b)
+    IsBlock (heap_of (a.at heap j)) (loc_of (value_renamed a place j)) (width (mono_renamed a mono j))
 truth_renamed R (f_join whole left right) a = λ j. IsJoin (heap_of (a.at whole j)) (heap_of (a.at left j)) (heap_of (a.at right j))
 truth_renamed R (f_same left right) a = λ j. IsSame (heap_of (a.at left j)) (heap_of (a.at right j))
 truth_renamed R (f_eq mono left right) a = λ j. value_renamed a left j ≡ value_renamed a right j

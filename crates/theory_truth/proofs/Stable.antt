@@ -1,5 +1,5 @@
 -- Truth is stable under double negation, so classical laws are true.
-use Rattle.std.proofs.Common.{◌≡◌, ℕ, zero, suc, List, [], ◌∷◌, length, Option, Some, None, refl, ap, ◌⊎◌, inl, inr}
+use Rattle.std.proofs.Common.{◌≡◌, ℕ, zero, suc, List, [], ◌∷◌, length, Option, Some, None, refl, sym, ap, ◌∙◌, subst, ◌⊎◌, inl, inr}
 use Rattle.std.specs.Prelude.{Bool, true, false, nat_eq, slice_get}
 use Rattle.std.proofs.lemmas.Bool.{cases_eq}
 use native.Mathlib.Decide.{ℕ_discrete}
@@ -9,7 +9,7 @@ use Rattle.htt_syntax.specs.Trees.{f_at, f_rec}
 use Rattle.theory_values.specs.Values.{Value, value_discrete}
 use Rattle.theory_values.specs.Heaps.{Block, Heap, IsOnly, Joins}
 use Rattle.theory_truth.specs.Worlds.{World, th_value, th_heap}
-use Rattle.theory_truth.specs.Truth.{NotNot, Recs, Holds}
+use Rattle.theory_truth.specs.Truth.{NotNot, IsBlock, Recs, Holds}
 use Rattle.theory_truth.specs.Predicates.{RecTree, Saying, type_if, recs_with, saying_of, saying_of_entry, recs_below, recs_of, zero_world, next_world}
 use Rattle.theory_truth.specs.Laws.{TruthIsClassical}
 
@@ -44,6 +44,28 @@ joins_stable x (Some a) (Some b) h = h (λ k. k)
 pub only_stable : (h : Heap) (l : ℕ) (b : Block) → Stable (IsOnly h l b)
 only_stable h l b n = record { here = block_stable _ _ (λ k. n (λ o. k o.here)); others = λ m ne. block_stable _ _ (λ k. n (λ o. k (o.others m ne))) }
 
+pub number_stable : (n k : ℕ) → Stable (n ≡ k)
+number_stable n k = by_cases (cases_eq n k)
+
+pub some_is_one : {b c : Block} → Some b ≡ Some c → b ≡ c
+some_is_one e = cc
+
+no_block : {h : Heap} {l n : ℕ} → h l ≡ None → IsBlock h l n → ⊥
+no_block e p = let f : None ≡ Some p.0 = sym e ∙ p.2.here in cc
+
+-- the block of a heap that is one is the block that stands there
+that_block : {h : Heap} {l n : ℕ} {b : Block} → h l ≡ Some b → IsBlock h l n → (length b ≡ n) × IsOnly h l b
+that_block {h = h} {l = l} {n = n} e p =
+    let f = some_is_one (sym p.2.here ∙ e) in (subst (λ (c : Block). length c ≡ n) f p.1, subst (IsOnly h l) f p.2)
+
+stands_stable : (h : Heap) (l n : ℕ) (there : Option Block) → h l ≡ there → Stable (IsBlock h l n)
+stands_stable h l n None e deny = absurd (deny (no_block e))
+stands_stable h l n (Some b) e deny =
+    (b, number_stable _ _ (λ k. deny (λ p. k (that_block e p).0)), only_stable _ _ _ (λ k. deny (λ p. k (that_block e p).1)))
+
+pub is_block_stable : (h : Heap) (l n : ℕ) → Stable (IsBlock h l n)
+is_block_stable h l n = stands_stable h l n (h l) refl
+
 pub value_stable : (x y : Value) → Stable (x ≡ y)
 value_stable x y h = elim (value_discrete ℕ_discrete Bool-discrete x y) [ yes p ↦ p | no p ↦ absurd (h p) ]
 
@@ -64,7 +86,7 @@ stable R s (f_all_h body) w h = λ g is. stable R s body (th_heap g ∷ w) (λ k
 stable R s (f_ex_h body) w h = λ k. h (λ p. p k)
 stable R s (f_emp heap) w h = record { each = λ l. block_stable _ _ (λ k. h (λ p. k (p.each l))) }
 stable R s (f_cell mono heap place value) w h = only_stable _ _ _ h
-stable R s (f_block mono heap place) w h = λ k. h (λ p. p k)
+stable R s (f_block mono heap place) w h = is_block_stable _ _ _ h
 stable R s (f_join whole left right) w h = record { each = λ l. joins_stable _ _ _ (λ k. h (λ p. k (p.each l))) }
 stable R s (f_same left right) w h = record { each = λ l. block_stable _ _ (λ k. h (λ p. k (p.each l))) }
 stable R s (f_eq mono left right) w h = value_stable _ _ h

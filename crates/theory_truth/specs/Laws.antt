@@ -99,7 +99,7 @@ pub record WorldsGive : Type 0 where
       → IsHeap (heap_at w n)
 
 -- The formulas of one heap, in other words: no location is in use; the heap is a single block, which
--- holds the value; it is absurd that it isn't a single block of the width. A cell is a block.
+-- holds the value; the heap is a single block of the width. A cell is a block.
 pub record HeapFormulas : Type 0 where
   pub emp_is_unused : (table : List RecTree) (w : World) (h : ℕ)
       → Holds (recs_of table) w (f_emp h) ↔ ((l : ℕ) → InUse (heap_at w h) l → ⊥)
@@ -108,7 +108,7 @@ pub record HeapFormulas : Type 0 where
       ↔ IsSame (heap_at w h) (single_block (loc_of (term_value w M)) (encoding (term_value w N)))
   pub block_is_single : (table : List RecTree) (w : World) (t : MonoTree) (h : ℕ) (M : TermTree)
       → Holds (recs_of table) w (f_block t h M)
-      ↔ NotNot ((b : Block)
+      ↔ ((b : Block)
       × (length b ≡ width (mono_under w t))
       × IsSame (heap_at w h) (single_block (loc_of (term_value w M)) b))
   pub cell_is_block : (table : List RecTree) (w : World) (t : MonoTree) (h : ℕ) (M N : TermTree)

@@ -15,6 +15,11 @@ NotNot A = (A → ⊥) → ⊥
 abbrev pub Recs : Type 1
 Recs = ℕ → ℕ → List Value → Heap → Type 0
 
+-- The heap is exactly one block, at this location and of this width. The heap tells which block it is, so
+-- "there is" needs no double negation here.
+abbrev pub IsBlock : Heap → ℕ → ℕ → Type 0
+IsBlock h l n = (b : Block) × (length b ≡ n) × IsOnly h l b
+
 unfoldable pub Holds : Recs → World → FormulaTree → Type 0
 Holds R w f_tt = Unit {0}
 Holds R w f_ff = ⊥
@@ -29,8 +34,7 @@ Holds R w (f_emp heap) = IsEmpty (heap_at w heap)
 Holds R w (f_cell mono heap place value) =
     IsOnly (heap_at w heap) (loc_of (term_value w place)) (encoding (term_value w value))
 Holds R w (f_block mono heap place) =
-    NotNot
-    ((b : Block) × (length b ≡ width (mono_under w mono)) × IsOnly (heap_at w heap) (loc_of (term_value w place)) b)
+    IsBlock (heap_at w heap) (loc_of (term_value w place)) (width (mono_under w mono))
 Holds R w (f_join whole left right) = IsJoin (heap_at w whole) (heap_at w left) (heap_at w right)
 Holds R w (f_same left right) = IsSame (heap_at w left) (heap_at w right)
 Holds R w (f_eq mono left right) = term_value w left ≡ term_value w right

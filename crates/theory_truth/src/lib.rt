@@ -24,7 +24,7 @@ pub fn worlds_give()
 {}
 
 /// `Emp` is true where no location is in use, a cell where the heap is the one block that holds the
-/// value, a block where it is absurd that the heap isn't one block of the width.
+/// value, a block where the heap is one block of the width.
 pub fn heap_formulas()
     ensures law { HeapFormulas }
 {}
