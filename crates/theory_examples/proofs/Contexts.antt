@@ -4,9 +4,10 @@ use Rattle.htt_syntax.specs.Trees.{TyTree, m_word, m_bool, m_var, y_mono}
 use Rattle.theory_renaming.specs.Renaming.{rename_mono, rename_ty}
 use Rattle.theory_values.specs.Values.{v_word, is_bool, closed_bool, IsClosed, HasType}
 use Rattle.theory_values.specs.Heaps.{IsHeap as IsWholeHeap, empty_heap}
-use Rattle.theory_truth.specs.Worlds.{o_mono, o_value, o_heap, IsWorld, th_mono, th_value, th_heap, world_none, world_mono, world_value, world_heap}
+use Rattle.theory_truth.specs.Worlds.{th_mono, th_value, th_heap}
 use Rattle.theory_typing.specs.Contexts.{en_mono, en_heap, en_term, IsHeapEntry, HasEntryType, FormsMono, heap_here, heap_there, type_here, type_there}
 use Rattle.theory_typing.specs.Contexts.{mono_here, mono_there, forms_unit, forms_pair, forms_var}
+use Rattle.theory_typing.specs.Worlds.{IsWorldOf, world_none, world_mono, world_value, world_heap}
 use Rattle.theory_typing.specs.Positions.{plain_ty}
 use Rattle.theory_logic_axioms.specs.Table.{argument_sorts, count_of_words, uses_of}
 use Rattle.theory_examples.specs.Contexts.{TheWorlds, TheContexts, TheAxiomSorts}
@@ -17,19 +18,19 @@ empty_is_heap = record { above_zero = λ l b e. cc; at_words = λ l b e. cc; of_
 no_word_for_bool : HasType (v_word 1) m_bool → ⊥
 no_word_for_bool d = elim d [ ]
 
-other_monotype : IsWorld (o_value (m_var 1) ∷ o_heap ∷ o_mono ∷ []) (th_value (v_word 1) ∷ th_heap empty_heap ∷ th_mono m_bool ∷ []) → ⊥
+other_monotype : IsWorldOf (en_term (y_mono (m_var 1)) ∷ en_heap ∷ en_mono ∷ []) (th_value (v_word 1) ∷ th_heap empty_heap ∷ th_mono m_bool ∷ []) → ⊥
 other_monotype (world_value d rest) = no_word_for_bool d
 
 no_closed_variable : IsClosed (m_var 0) → ⊥
 no_closed_variable d = elim d [ ]
 
-open_monotype : IsWorld (o_mono ∷ []) (th_mono (m_var 0) ∷ []) → ⊥
+open_monotype : IsWorldOf (en_mono ∷ []) (th_mono (m_var 0) ∷ []) → ⊥
 open_monotype (world_mono d rest) = no_closed_variable d
 
-no_second_entry : IsWorld (o_heap ∷ []) [] → ⊥
+no_second_entry : IsWorldOf (en_heap ∷ []) [] → ⊥
 no_second_entry d = elim d [ ]
 
-entry_too_few : IsWorld (o_heap ∷ o_heap ∷ []) (th_heap empty_heap ∷ []) → ⊥
+entry_too_few : IsWorldOf (en_heap ∷ en_heap ∷ []) (th_heap empty_heap ∷ []) → ⊥
 entry_too_few (world_heap h rest) = no_second_entry rest
 
 pub worlds : TheWorlds

@@ -6,8 +6,9 @@ use Rattle.htt_syntax.specs.Trees.{y_hoare, y_at, triple, t_var, t_fix, t_word, 
 use Rattle.htt_syntax.specs.Trees.{f_tt, f_eq, f_at, a_heap, a_term}
 use Rattle.theory_values.specs.Values.{v_word, v_bool}
 use Rattle.theory_values.specs.Heaps.{empty_heap}
-use Rattle.theory_truth.specs.Worlds.{o_mono, o_value, o_heap, IsWorld, th_mono, th_value, th_heap, mono_under}
+use Rattle.theory_truth.specs.Worlds.{th_mono, th_value, th_heap, mono_under}
 use Rattle.theory_typing.specs.Contexts.{en_mono, en_heap, en_term, IsHeapEntry, HasEntryType, FormsMono, EndsInHoare}
+use Rattle.theory_typing.specs.Worlds.{IsWorldOf}
 use Rattle.theory_typing.specs.Positions.{plain_ty, plain_term, plain_formula}
 use Rattle.theory_logic_axioms.specs.Names.{join_assoc, cell_val, block_width, pair_eta}
 use Rattle.theory_logic_axioms.specs.Table.{heap_sort, term_sort, place_sort, heaps, argument_sorts, fits_sorts}
@@ -16,14 +17,14 @@ use Rattle.theory_logic_axioms.specs.Table.{count_of_words, uses_of}
 pub record TheWorlds : Type 0 where
   -- a heap and a value of a under the monotype a, which is bool
   pub world :
-      IsWorld (o_value (m_var 1) ∷ o_heap ∷ o_mono ∷ [])
+      IsWorldOf (en_term (y_mono (m_var 1)) ∷ en_heap ∷ en_mono ∷ [])
       (th_value (v_bool true) ∷ th_heap empty_heap ∷ th_mono m_bool ∷ [])
   pub other_monotype :
-      IsWorld (o_value (m_var 1) ∷ o_heap ∷ o_mono ∷ [])
+      IsWorldOf (en_term (y_mono (m_var 1)) ∷ en_heap ∷ en_mono ∷ [])
       (th_value (v_word 1) ∷ th_heap empty_heap ∷ th_mono m_bool ∷ [])
       → ⊥
-  pub open_monotype : IsWorld (o_mono ∷ []) (th_mono (m_var 0) ∷ []) → ⊥
-  pub entry_too_few : IsWorld (o_heap ∷ o_heap ∷ []) (th_heap empty_heap ∷ []) → ⊥
+  pub open_monotype : IsWorldOf (en_mono ∷ []) (th_mono (m_var 0) ∷ []) → ⊥
+  pub entry_too_few : IsWorldOf (en_heap ∷ en_heap ∷ []) (th_heap empty_heap ∷ []) → ⊥
   pub monotype_in_it :
       mono_under (th_value (v_bool true) ∷ th_heap empty_heap ∷ th_mono m_bool ∷ []) (m_pair (m_var 2) m_word)
       ≡ m_pair m_bool m_word

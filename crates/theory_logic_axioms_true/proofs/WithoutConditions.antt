@@ -6,11 +6,11 @@ use Rattle.htt_syntax.specs.Trees.{FormulaTree, m_word, m_pair, t_var, a_heap, a
 use Rattle.theory_values.specs.Values.{v_bool, IsWord, is_word, is_loc}
 use Rattle.theory_values.specs.Heaps.{Block, IsOnly, single_block}
 use Rattle.theory_values.proofs.Joins.{single_is_only, only_is_heap}
-use Rattle.theory_truth.specs.Worlds.{world_none, world_value, world_heap}
 use Rattle.theory_canonical.specs.Folding.{contractum}
 use Rattle.theory_truth.specs.TermValue.{term_value}
 use Rattle.theory_truth.specs.Truth.{Recs, Holds}
 use Rattle.theory_truth.specs.Predicates.{recs_of}
+use Rattle.theory_typing.specs.Worlds.{world_none, world_value, world_heap}
 use Rattle.theory_logic_axioms.specs.Names.{block_width}
 use Rattle.theory_logic_axioms.specs.Table.{count_of_words, SideCondition, formula_of}
 use Rattle.theory_logic_axioms_true.specs.WithoutConditions.{at_greatest, one_word_held, next_is_above, ConditionsAreNeeded}

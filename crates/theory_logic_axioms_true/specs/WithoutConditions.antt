@@ -1,11 +1,13 @@
 -- What two axioms would say without their conditions, which is false in a world.
 use Rattle.std.specs.Prelude.{◌≡◌, [], ◌∷◌, List, true, Some}
-use Rattle.htt_syntax.specs.Trees.{TermTree, FormulaTree, m_word, m_loc, m_pair, t_var, t_word, a_heap, a_term}
+use Rattle.htt_syntax.specs.Trees.{TermTree, FormulaTree, m_word, m_loc, m_pair, y_mono, t_var, t_word, a_heap, a_term}
 use Rattle.theory_values.specs.Values.{v_word, v_loc}
 use Rattle.theory_values.specs.Heaps.{single_block}
-use Rattle.theory_truth.specs.Worlds.{World, th_value, th_heap, o_value, o_heap, IsWorld}
+use Rattle.theory_truth.specs.Worlds.{World, th_value, th_heap}
 use Rattle.theory_truth.specs.Truth.{Holds}
 use Rattle.theory_truth.specs.Predicates.{RecTree, recs_of}
+use Rattle.theory_typing.specs.Contexts.{en_heap, en_term}
+use Rattle.theory_typing.specs.Worlds.{IsWorldOf}
 use Rattle.theory_logic_axioms.specs.Names.{block_width, lt_step}
 use Rattle.theory_logic_axioms.specs.Table.{◌⇒◌, less, plus, SideCondition, formula_of}
 
@@ -25,9 +27,9 @@ pub record ConditionsAreNeeded : Type 0 where
   -- the row of the axiom is this conclusion behind its premise
   pub row_of_next_word : (y : TermTree)
       → formula_of lt_step [] (a_term (t_var 0) ∷ a_term y ∷ []) ≡ Some (less (t_var 0) y true ⇒ next_is_above)
-  pub greatest_is_a_word : IsWorld (o_value m_word ∷ []) at_greatest
+  pub greatest_is_a_word : IsWorldOf (en_term (y_mono m_word) ∷ []) at_greatest
   pub no_word_above_greatest : (table : List RecTree) → Holds (recs_of table) at_greatest next_is_above → ⊥
-  pub place_and_heap : IsWorld (o_value m_loc ∷ o_heap ∷ []) one_word_held
+  pub place_and_heap : IsWorldOf (en_term (y_mono m_loc) ∷ en_heap ∷ []) one_word_held
   pub other_width : SideCondition block_width (m_word ∷ m_pair m_word m_word ∷ []) → ⊥
   pub no_block_of_another_width : (table : List RecTree) (F : FormulaTree)
       → formula_of block_width (m_word ∷ m_pair m_word m_word ∷ []) (a_heap 1 ∷ a_term (t_var 0) ∷ []) ≡ Some F

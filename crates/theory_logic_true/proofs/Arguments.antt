@@ -2,8 +2,9 @@
 use Rattle.std.proofs.Common.{◌≡◌, ℕ, List, [], ◌∷◌, ◌++◌, Option, Some, IfSome, sym, subst}
 use Rattle.htt_syntax.specs.Trees.{MonoTree, TermTree, FormulaTree, ArgTree, y_mono, a_heap, a_term}
 use Rattle.theory_values.specs.Values.{HasType}
-use Rattle.theory_truth.specs.Worlds.{World, FirstOrder, IsWorld, mono_under}
+use Rattle.theory_truth.specs.Worlds.{World, mono_under}
 use Rattle.theory_truth.specs.TermValue.{term_value}
+use Rattle.theory_typing.specs.Worlds.{IsWorldOf}
 use Rattle.theory_typing.specs.Contexts.{Context, Environment, Obligation}
 use Rattle.theory_typing.specs.Typing.{Mode, Fits}
 use Rattle.theory_logic_axioms.specs.Names.{AxiomName}
@@ -22,24 +23,24 @@ use Rattle.theory_logic_true.specs.Laws.{InstancesAreTrue}
 use Rattle.theory_logic_true.proofs.Scenes.{heap_there, heap_entry}
 
 -- a term that fits a monotype has a value of it
-pub value_of_term : {env : Environment} {g : Context} {c : List FirstOrder} {w : World} {m : Mode} {M N : TermTree} {o : List Obligation}
+pub value_of_term : {env : Environment} {g : Context} {w : World} {m : Mode} {M N : TermTree} {o : List Obligation}
     (t : MonoTree)
     → IsFormedEnvironment env
-    → IsFirstOrder g c
-    → IsWorld c w
+    → IsFirstOrder g
+    → IsWorldOf g w
     → Fits env m g M (y_mono t) N o
     → HasType (term_value w N) (mono_under w t)
-value_of_term {env = env} {g = g} {c = c} {w = w} {m = m} {M = M} {N = N} {o = o} t f p q d = values.fitting env f g c p w q m M N t o d
+value_of_term {env = env} {g = g} {w = w} {m = m} {M = M} {N = N} {o = o} t f p q d = values.fitting env f g p w q m M N t o d
 
-pub args_valued : {env : Environment} {g : Context} {c : List FirstOrder} {w : World} {arguments values : List ArgTree}
+pub args_valued : {env : Environment} {g : Context} {w : World} {arguments values : List ArgTree}
     {sorts : List ArgSort}
     → FitsArgs env g arguments sorts values
     → IsFormedEnvironment env
-    → IsFirstOrder g c
-    → IsWorld c w
+    → IsFirstOrder g
+    → IsWorldOf g w
     → AreOfSorts w sorts values
 args_valued fits_no_args f p q = tt
-args_valued (fits_heap_arg {h = h} i rest) f p q = ((heap_there h (heap_entry i) p q).1, args_valued rest f p q)
+args_valued (fits_heap_arg {h = h} i rest) f p q = ((heap_there h (heap_entry i) q).1, args_valued rest f p q)
 args_valued (fits_term_arg {t = t} d rest) f p q = (value_of_term t f p q d, args_valued rest f p q)
 
 pub args_sorted : {env : Environment} {g : Context} {arguments values : List ArgTree} {sorts : List ArgSort}
@@ -62,7 +63,7 @@ of_shape : (w : World) (o : Option (List ArgSort)) (sorts : List ArgSort) (value
 of_shape w o sorts values e d = subst (λ (o : Option (List ArgSort)). AreOfShape w o values) (sym e) d
 
 pub instances : InstancesAreTrue
-instances env f g c p axiom_name monos sorts arguments values e d F i w q =
+instances env f g p axiom_name monos sorts arguments values e d F i w q =
     axioms env.recs w axiom_name monos values (of_shape w (argument_sorts axiom_name monos) sorts values e (args_valued d f p q)) F i
 
 given : (P : FormulaTree → Type 0) (o : Option FormulaTree) (F : FormulaTree) → o ≡ Some F → IfSome o P → P F

@@ -7,7 +7,7 @@ use Rattle.theory_renaming.specs.Renaming.{rename_mono, rename_ty}
 use Rattle.theory_values.specs.Values.{v_word, IsWord, is_word}
 use Rattle.theory_values.specs.Heaps.{IsHeap, single_block}
 use Rattle.theory_values.proofs.Joins.{single_is_only, only_is_heap}
-use Rattle.theory_truth.specs.Worlds.{World, th_value, o_value, o_heap, IsWorld, world_none, world_value, world_heap}
+use Rattle.theory_truth.specs.Worlds.{World, th_value}
 use Rattle.theory_truth.specs.Truth.{Recs, Holds}
 use Rattle.theory_truth.specs.Predicates.{RecTree, recs_of}
 use Rattle.theory_truth.specs.Atoms.{AtomsMeet, IsFounded, IsFoundedTable}
@@ -16,6 +16,7 @@ use Rattle.theory_canonical.specs.Folding.{contractum}
 use Rattle.theory_canonical.specs.Eta.{expansion}
 use Rattle.theory_substitution.specs.Closing.{closing}
 use Rattle.theory_substitution.specs.Substitution.{u_y_mono, u_bin, u_reduced, u_word, r_var, u_f_emp}
+use Rattle.theory_typing.specs.Worlds.{IsWorldOf, world_none, world_value, world_heap}
 use Rattle.theory_typing.specs.Positions.{plain_ty}
 use Rattle.theory_typing.specs.Contexts.{EndsInHoare, type_here, forms_word}
 use Rattle.theory_typing.specs.Typing.{forms_eq, gives_var, gives_word, gives_def, gives_app, gives_bin, fits_lam, fits_given}
@@ -111,10 +112,10 @@ definition_formed = record {
   recs_founded = λ n r e. absurd (no_element e);
 }
 
-words : IsFirstOrder with_word (o_value m_word ∷ [])
+words : IsFirstOrder with_word
 words = fo_value forms_word fo_none
 
-word_world : (n : ℕ) → IsWord n → IsWorld (o_value m_word ∷ []) (th_value (v_word n) ∷ [])
+word_world : (n : ℕ) → IsWord n → IsWorldOf with_word (th_value (v_word n) ∷ [])
 word_world n l = world_value (is_word l) world_none
 
 block_is_heap : IsHeap (single_block 5 (7 ∷ []))
@@ -136,10 +137,10 @@ worked = record {
   words_are_first_order = words;
   each_word_is_a_world = word_world;
   true_by_a_proof = λ n l.
-      proved.sorted env predicate_formed with_word (o_value m_word ∷ []) words [] _ tt implication_sorted _
+      proved.sorted env predicate_formed with_word words [] _ tt implication_sorted _
       derivations.statements.second_part (th_value (v_word n) ∷ []) (word_world n l) tt;
   true_by_unfolding =
-      (inferred env predicate_formed with_heap (o_heap ∷ []) (fo_heap fo_none) [] tt _ _ derivations.unfoldings.at_zero).1 one_block
+      (inferred env predicate_formed with_heap (fo_heap fo_none) [] tt _ _ derivations.unfoldings.at_zero).1 one_block
       (world_heap block_is_heap world_none) tt;
 }
 

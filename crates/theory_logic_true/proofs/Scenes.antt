@@ -5,11 +5,12 @@ use Rattle.htt_syntax.specs.Trees.{MonoTree, FormulaTree, m_word, m_bool, m_loc,
 use Rattle.theory_renaming.specs.Renaming.{rename_formula}
 use Rattle.theory_values.specs.Values.{Value, HasType}
 use Rattle.theory_values.specs.Heaps.{Heap, IsHeap}
-use Rattle.theory_truth.specs.Worlds.{Thing, World, th_value, th_heap, FirstOrder, o_value, o_heap, IsWorld, world_none, world_mono, world_value, world_heap}
+use Rattle.theory_truth.specs.Worlds.{Thing, World, th_value, th_heap}
 use Rattle.theory_truth.specs.Worlds.{thing_at, heap_at, mono_under}
 use Rattle.theory_truth.specs.Truth.{Holds, Recs}
 use Rattle.theory_truth.specs.Predicates.{recs_of}
 use Rattle.theory_truth.proofs.Renamed.{truth_renamed}
+use Rattle.theory_typing.specs.Worlds.{IsWorldOf, world_none, world_mono, world_value, world_heap}
 use Rattle.theory_typing.specs.Contexts as contexts
 use Rattle.theory_typing.specs.Contexts.{en_heap, en_term, Context, Environment, IsMonoEntry, mono_here, mono_there, FormsMono, forms_word, forms_bool}
 use Rattle.theory_typing.specs.Contexts.{forms_loc, forms_unit, forms_pair, forms_var}
@@ -22,9 +23,8 @@ use Rattle.theory_typing_values.proofs.Sorted.{context_sorted}
 use Rattle.theory_logic_true.specs.Sequents.{Each, AreSorted, AreTrue}
 
 pub record Scene (env : Environment) (g : Context) (hypotheses : List FormulaTree) (w : World) : Type 0 where
-  pub entries : List FirstOrder
-  pub first_order : IsFirstOrder g entries
-  pub world : IsWorld entries w
+  pub first_order : IsFirstOrder g
+  pub world : IsWorldOf g w
   pub sorted : AreSorted (sorts_of g) hypotheses
   pub true : AreTrue env w hypotheses
 
@@ -66,7 +66,6 @@ pub with_more : {env : Environment} {g : Context} {hs : List FormulaTree} {w : W
     → AreTrue env w more
     → Scene env g (hs ++ more) w
 with_more {env = env} {g = g} {hs = hs} {w = w} more s d t = record {
-  entries = s.entries;
   first_order = s.first_order;
   world = s.world;
   sorted = each_more (SortedFormula (sorts_of g)) hs more s.sorted d;
@@ -117,7 +116,6 @@ pub with_value : {env : Environment} {g : Context} {hs : List FormulaTree} {w : 
     → HasType v (mono_under w t)
     → Scene env (en_term (y_mono t) ∷ g) (raised hs) (th_value v ∷ w)
 with_value {env = env} {g = g} {hs = hs} {w = w} t v s d typed = record {
-  entries = o_value t ∷ s.entries;
   first_order = fo_value (sorted_is_formed g t d) s.first_order;
   world = world_value typed s.world;
   sorted =
@@ -131,7 +129,6 @@ pub with_heap : {env : Environment} {g : Context} {hs : List FormulaTree} {w : W
     → IsHeap h
     → Scene env (en_heap ∷ g) (raised hs) (th_heap h ∷ w)
 with_heap {env = env} {g = g} {hs = hs} {w = w} h s is = record {
-  entries = o_heap ∷ s.entries;
   first_order = fo_heap s.first_order;
   world = world_heap is s.world;
   sorted =
@@ -141,18 +138,17 @@ with_heap {env = env} {g = g} {hs = hs} {w = w} h s is = record {
 }
 
 -- the thing of a heap variable is a heap
-pub heap_there : {g : Context} {c : List FirstOrder} {w : World} (n : ℕ)
+pub heap_there : {g : Context} {w : World} (n : ℕ)
     → HasSort (sorts_of g) n for_heap
-    → IsFirstOrder g c
-    → IsWorld c w
+    → IsWorldOf g w
     → (thing_at w n ≡ th_heap (heap_at w n)) × IsHeap (heap_at w n)
-heap_there n e fo_none world_none = absurd (no_element e)
-heap_there zero e (fo_heap p) (world_heap is q) = (refl, is)
-heap_there zero e (fo_mono p) (world_mono closed q) = absurd (mono_no_heap e)
-heap_there zero e (fo_value f p) (world_value typed q) = absurd (value_no_heap e)
-heap_there (suc n) e (fo_heap p) (world_heap is q) = heap_there n e p q
-heap_there (suc n) e (fo_mono p) (world_mono closed q) = heap_there n e p q
-heap_there (suc n) e (fo_value f p) (world_value typed q) = heap_there n e p q
+heap_there n e world_none = absurd (no_element e)
+heap_there zero e (world_heap is q) = (refl, is)
+heap_there zero e (world_mono closed q) = absurd (mono_no_heap e)
+heap_there zero e (world_value typed q) = absurd (value_no_heap e)
+heap_there (suc n) e (world_heap is q) = heap_there n e q
+heap_there (suc n) e (world_mono closed q) = heap_there n e q
+heap_there (suc n) e (world_value typed q) = heap_there n e q
 
 pub heap_entry : {g : Context} {n : ℕ} → contexts.IsHeapEntry g n → HasSort (sorts_of g) n for_heap
 heap_entry contexts.heap_here = refl

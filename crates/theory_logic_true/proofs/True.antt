@@ -4,7 +4,7 @@ use Rattle.std.specs.Prelude.{Bool, true, false}
 use Rattle.htt_syntax.specs.declared.mono.Op.TheVariants.{Add}
 use Rattle.htt_syntax.specs.Trees.{TermTree, FormulaTree, ProofTree, BlockTree, m_word, m_bool, t_var, t_word, t_bool, t_bin}
 use Rattle.theory_values.specs.Values.{Value, v_word, is_word, IsWord}
-use Rattle.theory_truth.specs.Worlds.{World, th_value, th_heap, FirstOrder, IsWorld, heap_at}
+use Rattle.theory_truth.specs.Worlds.{World, th_value, th_heap, heap_at}
 use Rattle.theory_truth.specs.TermValue.{term_value}
 use Rattle.theory_truth.specs.Truth.{NotNot, Recs, Holds}
 use Rattle.theory_truth.specs.Predicates.{recs_of}
@@ -12,6 +12,7 @@ use Rattle.theory_truth.proofs.Stable.{classical}
 use Rattle.theory_substitution.specs.Substitution.{SubFormula}
 use Rattle.theory_canonical.specs.Skeletons.{sk_o}
 use Rattle.theory_canonical.specs.Canonical.{IsCanonicalFormula}
+use Rattle.theory_typing.specs.Worlds.{IsWorldOf}
 use Rattle.theory_typing.specs.Contexts as contexts
 use Rattle.theory_typing.specs.Contexts.{en_heap, en_term, Context, Environment}
 use Rattle.theory_typing.specs.Typing.{FormsFormula}
@@ -54,14 +55,14 @@ heap_put : {env : Environment} {g : Context} {hs : List FormulaTree} {w : World}
     → contexts.IsHeapEntry g h
     → Holds (recs_of env.recs) (th_heap (heap_at w h) ∷ w) F
     → Holds (recs_of env.recs) w (put_heap h F)
-heap_put {env = env} {w = w} h F s i t = (heaps env.recs w h (heap_at w h) (heap_there h (heap_entry i) s.first_order s.world).0 F).1 t
+heap_put {env = env} {w = w} h F s i t = (heaps env.recs w h (heap_at w h) (heap_there h (heap_entry i) s.world).0 F).1 t
 
 heap_taken : {env : Environment} {g : Context} {hs : List FormulaTree} {w : World} (h : ℕ) (F : FormulaTree)
     → Scene env g hs w
     → contexts.IsHeapEntry g h
     → Holds (recs_of env.recs) w (put_heap h F)
     → Holds (recs_of env.recs) (th_heap (heap_at w h) ∷ w) F
-heap_taken {env = env} {w = w} h F s i t = (heaps env.recs w h (heap_at w h) (heap_there h (heap_entry i) s.first_order s.world).0 F).0 t
+heap_taken {env = env} {w = w} h F s i t = (heaps env.recs w h (heap_at w h) (heap_there h (heap_entry i) s.world).0 F).0 t
 
 sorted_in : {env : Environment} {g : Context} {hs : List FormulaTree} {w : World} {p : ProofTree} {F : FormulaTree}
     → Infers env g hs p F
@@ -120,7 +121,7 @@ mutual
       put_in (recs_of env.recs) m' (sorts_of g) w u (sorted_in p f s).1
       (infers_true p f s (term_value w m') (arguments.value_of_term t f s.first_order s.world d))
   infers_true (infers_inst_heap {h = h} {F = F} p i) f {w = w} s =
-      heap_put h F s i (infers_true p f s (heap_at w h) (heap_there h (heap_entry i) s.first_order s.world).1)
+      heap_put h F s i (infers_true p f s (heap_at w h) (heap_there h (heap_entry i) s.world).1)
   infers_true {env = env} {g = g}
       (infers_axiom axiom_name {monos = monos} {sorts = sorts} {arguments = args} {arguments' = values} {F = F} text m shaped side sorted
       fits row) f {w = w} s =
@@ -158,7 +159,7 @@ mutual
       λ deny.
       deny (
         heap_at w h,
-        (heap_there h (heap_entry i) s.first_order s.world).1,
+        (heap_there h (heap_entry i) s.world).1,
         heap_taken h F s i (proves_true p f s (sorting.heap_sorted h (sorts_of g) (heap_entry i) F d)),
       )
   proves_true proves_trivial f s d = tt
@@ -176,8 +177,8 @@ mutual
       rewritten (recs_of env.recs) (sorts_of g) w m n G (infers_true p f s) u same v motive (proves_true q f s (put_sorted m (sorts_of g) v sorts.1 motive))
   proves_true {env = env} {g = g} (proves_rewrite_heap {h = h} {k = k} {C' = C'} {G = G} p c same q) f {w = w} s d =
       let sorts = sorted_in p f s in
-      rewritten_heap env w h k C' G (infers_true p f s) (heap_there h sorts.0 s.first_order s.world).0
-      (heap_there k sorts.1 s.first_order s.world).0 same
+      rewritten_heap env w h k C' G (infers_true p f s) (heap_there h sorts.0 s.world).0
+      (heap_there k sorts.1 s.world).0 same
       (proves_true q f s (sorting.heap_sorted h (sorts_of g) sorts.0 C' (formula_sorted c (sound env f) (context_of s))))
   proves_true {env = env} {g = g}
       (proves_induct {m' = m'} {C' = C'} {at_word = at_word} {at_zero = at_zero} {at_next = at_next} {G = G} c m u same z p n q) f {w = w} s
@@ -237,16 +238,16 @@ mutual
       (sorting.formula_sorted G (sorting.keeps_suc for_heap (sorts_of g)) d)))))
   block_true (block_at p) f s d = block_true p f s d
 
-scene : {env : Environment} {g : Context} {c : List FirstOrder} {hs : List FormulaTree} {w : World}
-    → IsFirstOrder g c
-    → IsWorld c w
+scene : {env : Environment} {g : Context} {hs : List FormulaTree} {w : World}
+    → IsFirstOrder g
+    → IsWorldOf g w
     → AreSorted (sorts_of g) hs
     → AreTrue env w hs
     → Scene env g hs w
-scene {c = c} p q d t = record { entries = c; first_order = p; world = q; sorted = d; true = t }
+scene p q d t = record { first_order = p; world = q; sorted = d; true = t }
 
 pub inferred : InferredIsTrue
-inferred env f g c p hs d proof F i = (infers_sorted i f (context_sorted p) d, λ w q t. infers_true i f (scene p q d t))
+inferred env f g p hs d proof F i = (infers_sorted i f (context_sorted p) d, λ w q t. infers_true i f (scene p q d t))
 
 each_to : (P Q : FormulaTree → Type 0) → ((F : FormulaTree) → P F → Q F) → (hs : List FormulaTree) → Each P hs → Each Q hs
 each_to P Q h [] d = tt
@@ -254,38 +255,38 @@ each_to P Q h (F ∷ hs) d = (h F d.0, each_to P Q h hs d.1)
 
 formed_to_sorted : (env : Environment)
     → IsFormedEnvironment env
-    → (g : Context) (c : List FirstOrder)
-    → IsFirstOrder g c
+    → (g : Context)
+    → IsFirstOrder g
     → (F : FormulaTree)
     → IsFormedFormula (file_shapes env) (context_shape g) F
     → SortedFormula (sorts_of g) F
-formed_to_sorted env f g c p F d = formed_sorted (file_shapes env) g F (first_order_alike p) d
+formed_to_sorted env f g p F d = formed_sorted (file_shapes env) g F (first_order_alike p) d
 
 proved_sorted : (env : Environment)
     → IsFormedEnvironment env
-    → (g : Context) (c : List FirstOrder)
-    → IsFirstOrder g c
+    → (g : Context)
+    → IsFirstOrder g
     → (hs : List FormulaTree) (G : FormulaTree)
     → AreSorted (sorts_of g) hs
     → SortedFormula (sorts_of g) G
     → (p : ProofTree)
     → Proves env g hs p G
     → (w : World)
-    → IsWorld c w
+    → IsWorldOf g w
     → AreTrue env w hs
     → Holds (recs_of env.recs) w G
-proved_sorted env f g c p hs G d e proof i w q t = proves_true i f (scene p q d t) e
+proved_sorted env f g p hs G d e proof i w q t = proves_true i f (scene p q d t) e
 
 pub proved : ProvedIsTrue
 proved = record {
   sorted = proved_sorted;
-  formed = λ env f g c p hs G d e proof i w q t.
-      proved_sorted env f g c p hs G
-      (each_to (IsFormedFormula (file_shapes env) (context_shape g)) (SortedFormula (sorts_of g)) (formed_to_sorted env f g c p) hs d)
-      (formed_to_sorted env f g c p G e) proof i w q t;
-  canonical = λ env f g c p heads hs G d e proof i w q t.
-      proved_sorted env f g c p hs G
+  formed = λ env f g p hs G d e proof i w q t.
+      proved_sorted env f g p hs G
+      (each_to (IsFormedFormula (file_shapes env) (context_shape g)) (SortedFormula (sorts_of g)) (formed_to_sorted env f g p) hs d)
+      (formed_to_sorted env f g p G e) proof i w q t;
+  canonical = λ env f g p heads hs G d e proof i w q t.
+      proved_sorted env f g p hs G
       (each_to (IsCanonicalFormula heads (standings_of_sorts (sorts_of g))) (SortedFormula (sorts_of g))
       (canonicity.canonical.formulas heads (sorts_of g)) hs d) (canonicity.canonical.formulas heads (sorts_of g) G e) proof i w q t;
-  alone = λ env f g c p G e proof i w q. proved_sorted env f g c p [] G tt (formed_to_sorted env f g c p G e) proof i w q tt;
+  alone = λ env f g p G e proof i w q. proved_sorted env f g p [] G tt (formed_to_sorted env f g p G e) proof i w q tt;
 }

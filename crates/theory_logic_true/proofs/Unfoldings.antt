@@ -5,12 +5,13 @@ use Rattle.htt_syntax.specs.declared.mono.Op.TheVariants.{Add, Lt}
 use Rattle.htt_syntax.specs.Trees.{MonoTree, TermTree, FormulaTree, ArgTree, m_word, y_mono, t_word, t_bool, t_bin, f_rec, f_imp, a_heap, a_term}
 use Rattle.theory_renaming.proofs.Identity.{formula_stays}
 use Rattle.theory_values.specs.Values.{Value, v_word}
-use Rattle.theory_truth.specs.Worlds.{World, th_value, th_heap, FirstOrder, IsWorld, thing_at, heap_at}
+use Rattle.theory_truth.specs.Worlds.{World, th_value, th_heap, thing_at, heap_at}
 use Rattle.theory_truth.specs.TermValue.{term_value, term_values, word_of}
 use Rattle.theory_truth.specs.Truth.{Holds}
 use Rattle.theory_truth.specs.Predicates.{RecTree, recs_of, world_of_values, zero_world, next_world}
 use Rattle.theory_truth.proofs.Unfolding.{unfolds}
 use Rattle.theory_canonical.specs.Folding.{folding}
+use Rattle.theory_typing.specs.Worlds.{IsWorldOf}
 use Rattle.theory_typing.specs.Contexts.{en_term, Context, Environment}
 use Rattle.theory_logic_axioms.specs.Table.{ArgSort, heap_sort, term_sort}
 use Rattle.theory_logic_rules.specs.Sequents.{PutArgs, terms_of, FitsArgs, fits_no_args, fits_heap_arg, fits_term_arg, below_greatest, both_ways}
@@ -225,8 +226,8 @@ through i e = ((λ a. subst as_is (sym e) (i.0 a)), (λ c. i.1 (subst as_is e c)
 
 pub unfolds_at_zero : (env : Environment)
     → IsFormedEnvironment env
-    → (g : Context) (c : List FirstOrder)
-    → IsFirstOrder g c
+    → (g : Context)
+    → IsFirstOrder g
     → (number : ℕ) (r : RecTree)
     → slice_get env.recs number ≡ Some r
     → (h : ℕ) (arguments values : List ArgTree)
@@ -234,15 +235,15 @@ pub unfolds_at_zero : (env : Environment)
     → (F : FormulaTree)
     → PutArgs (values ++ a_heap h ∷ []) r.at_zero F
     → (w : World)
-    → IsWorld c w
+    → IsWorldOf g w
     → Holds (recs_of env.recs) w (both_ways (f_rec number h (t_word 0) (terms_of values)) F)
 unfolding Holds term_value
-unfolds_at_zero env f g c p number r e h arguments values (fits_heap_arg i rest) F put w q =
+unfolds_at_zero env f g p number r e h arguments values (fits_heap_arg i rest) F put w q =
     let t = fits_terms rest r.params refl in
     let entry = heap_entry i in
     let sorted = more_sorted (sorts_of g) values h (args_sorted rest (sound env f) (context_sorted p)) entry in
     through (unfolds.at_zero env.recs f.recs_founded number r e (term_values w (terms_of values)) (heap_at w h))
-    (zero_body env f number r e (sorts_of g) w values h t.0 t.1 sorted (heap_there h entry p q).0 F put)
+    (zero_body env f number r e (sorts_of g) w values h t.0 t.1 sorted (heap_there h entry q).0 F put)
 
 -- the word after a word that isn't the greatest
 next_place : (w : World) (m : TermTree) (a : WordTerm w m)
@@ -257,8 +258,8 @@ next_place w m a e =
 
 pub unfolds_at_next : (env : Environment)
     → IsFormedEnvironment env
-    → (g : Context) (c : List FirstOrder)
-    → IsFirstOrder g c
+    → (g : Context)
+    → IsFirstOrder g
     → (number : ℕ) (r : RecTree)
     → slice_get env.recs number ≡ Some r
     → (h : ℕ) (m : TermTree) (arguments values : List ArgTree)
@@ -266,11 +267,11 @@ pub unfolds_at_next : (env : Environment)
     → (F : FormulaTree)
     → PutArgs (a_term m ∷ values ++ a_heap h ∷ []) r.at_next F
     → (w : World)
-    → IsWorld c w
+    → IsWorldOf g w
     → Holds (recs_of env.recs) w
     (f_imp (below_greatest m) (both_ways (f_rec number h (folding (t_bin Add m (t_word 1))) (terms_of values)) F))
 unfolding Holds
-unfolds_at_next env f g c p number r e h m arguments values (fits_heap_arg i (fits_term_arg d rest)) F put w q = λ isb.
+unfolds_at_next env f g p number r e h m arguments values (fits_heap_arg i (fits_term_arg d rest)) F put w q = λ isb.
     let t = fits_terms rest r.params refl in
     let entry = heap_entry i in
     let a = as_word w m (value_of_term m_word f p q d) in
@@ -281,7 +282,7 @@ unfolds_at_next env f g c p number r e h m arguments values (fits_heap_arg i (fi
     let vs = term_values w (terms_of values) in
     let law = unfolds.at_next env.recs f.recs_founded number r e a.number vs (as_many w values t.0 ∙ t.1) (heap_at w h) in
     let said = ap (λ (n : ℕ). recs_of env.recs number n vs (heap_at w h)) (next_place w m a isb) in
-    let body = next_body env f number r e (sorts_of g) w m a.number a.at.same values h t.0 t.1 sorted (heap_there h entry p q).0 F put in
+    let body = next_body env f number r e (sorts_of g) w m a.number a.at.same values h t.0 t.1 sorted (heap_there h entry q).0 F put in
     through ((λ x. law.0 (subst as_is said x)), (λ y. subst as_is (sym said) (law.1 y))) body
 
 pub unfoldings : UnfoldingsAreTrue

@@ -7,9 +7,10 @@ use Rattle.htt_syntax.specs.Trees.{t_app, t_def, t_lam, t_bin, f_tt, f_and, f_im
 use Rattle.htt_syntax.specs.Trees.{more_terms, no_terms, a_term, p_hyp, p_inst}
 use Rattle.theory_values.specs.Values.{v_word, IsWord}
 use Rattle.theory_values.specs.Heaps.{single_block}
-use Rattle.theory_truth.specs.Worlds.{World, th_value, th_heap, o_value, o_heap, IsWorld}
+use Rattle.theory_truth.specs.Worlds.{World, th_value, th_heap}
 use Rattle.theory_truth.specs.Truth.{Holds}
 use Rattle.theory_truth.specs.Predicates.{recs_of}
+use Rattle.theory_typing.specs.Worlds.{IsWorldOf}
 use Rattle.theory_typing.specs.Contexts.{Environment}
 use Rattle.theory_typing.specs.Typing.{FormsFormula}
 use Rattle.theory_logic_rules.specs.Sequents.{both_ways}
@@ -47,8 +48,8 @@ pub record WorkedExamples : Type 0 where
   pub successor_of_two :
       FormsFormula with_definition [] (f_eq m_word (t_app (t_def 0) (t_word 2)) (t_word 3))
       (f_eq m_word (t_word 3) (t_word 3))
-  pub words_are_first_order : IsFirstOrder with_word (o_value m_word ∷ [])
-  pub each_word_is_a_world : (n : ℕ) → IsWord n → IsWorld (o_value m_word ∷ []) (th_value (v_word n) ∷ [])
+  pub words_are_first_order : IsFirstOrder with_word
+  pub each_word_is_a_world : (n : ℕ) → IsWord n → IsWorldOf with_word (th_value (v_word n) ∷ [])
   -- by the proof: intro u; second(u)
   pub true_by_a_proof : (n : ℕ)
       → IsWord n
@@ -61,7 +62,7 @@ pub record WorkedExamples : Type 0 where
 -- The premise that hypotheses use variables by their sorts can't be left out: this hypothesis is true,
 -- and inst(u, 0) infers from it that h is empty.
 pub record SortsAreNeeded : Type 0 where
-  pub is_world : IsWorld (o_heap ∷ []) one_block
+  pub is_world : IsWorldOf with_heap one_block
   pub is_true : AreTrue env one_block (against_its_sort ∷ [])
   pub infers : Infers env with_heap (against_its_sort ∷ []) (p_inst (p_hyp 0) (a_term (t_word 0))) (f_emp 0)
   pub is_false : Holds (recs_of env.recs) one_block (f_emp 0) → ⊥

@@ -1,6 +1,5 @@
 pub mod Stable
 pub mod Renamed
-pub mod Given
 pub mod Cells
 pub mod Stars
 pub mod Unfolding

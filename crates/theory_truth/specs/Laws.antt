@@ -1,12 +1,11 @@
 -- The laws of truth.
-use Rattle.std.specs.Prelude.{◌≡◌, ◌↔◌, ℕ, zero, suc, List, length, Some, slice_get, drop, ◌∷◌}
+use Rattle.std.specs.Prelude.{◌≡◌, ◌↔◌, ℕ, zero, suc, List, length, Some, slice_get, ◌∷◌}
 use Rattle.htt_syntax.specs.Trees.{MonoTree, TermTree, FormulaTree, f_ff, f_and, f_or, f_imp, f_ex_h, f_emp, f_cell}
 use Rattle.htt_syntax.specs.Trees.{f_block, f_join}
 use Rattle.theory_renaming.specs.Renaming.{Map, rename_mono, rename_term, rename_formula}
-use Rattle.theory_values.specs.Values.{Value, HasType, IsClosed, encoding, width}
+use Rattle.theory_values.specs.Values.{Value, HasType, encoding, width}
 use Rattle.theory_values.specs.Heaps.{Block, Heap, InUse, IsHeap, IsJoin, IsSame, single_block}
-use Rattle.theory_truth.specs.Worlds.{World, FirstOrder, o_mono, o_value, o_heap, IsWorld, thing_at, th_heap, mono_at}
-use Rattle.theory_truth.specs.Worlds.{value_at, heap_at, mono_under}
+use Rattle.theory_truth.specs.Worlds.{World, thing_at, th_heap, heap_at, mono_under}
 use Rattle.theory_truth.specs.TermValue.{term_value, loc_of}
 use Rattle.theory_truth.specs.Truth.{NotNot, Recs, Holds}
 use Rattle.theory_truth.specs.Predicates.{RecTree, recs_of, zero_world, next_world}
@@ -78,25 +77,6 @@ pub record PredicatesUnfold : Type 0 where
       → length vs ≡ length r.params
       → (h : Heap)
       → recs_of table p (suc j) vs h ↔ Holds (recs_of table) (next_world j vs h) r.at_next
-
--- A world of a first-order context gives each entry a thing of its sort; a value's monotype stands
--- under the entries further out.
-pub record WorldsGive : Type 0 where
-  pub mono_given : {c : List FirstOrder} {w : World}
-      → IsWorld c w
-      → (n : ℕ)
-      → slice_get c n ≡ Some o_mono
-      → IsClosed (mono_at w n)
-  pub value_given : {c : List FirstOrder} {w : World}
-      → IsWorld c w
-      → (n : ℕ) (t : MonoTree)
-      → slice_get c n ≡ Some (o_value t)
-      → HasType (value_at w n) (mono_under (drop (suc n) w) t)
-  pub heap_given : {c : List FirstOrder} {w : World}
-      → IsWorld c w
-      → (n : ℕ)
-      → slice_get c n ≡ Some o_heap
-      → IsHeap (heap_at w n)
 
 -- The formulas of one heap, in other words: no location is in use; the heap is a single block, which
 -- holds the value; the heap is a single block of the width. A cell is a block.

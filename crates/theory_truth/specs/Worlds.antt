@@ -1,8 +1,8 @@
--- A world gives each entry of a context a thing: a closed monotype, a value or a heap.
+-- A world is a list of things: closed monotypes, values and heaps.
 use Rattle.std.specs.Prelude.{ℕ, zero, suc, List, [], ◌∷◌}
 use Rattle.htt_syntax.specs.Trees.{MonoTree, m_word, m_bool, m_loc, m_unit, m_pair, m_var}
-use Rattle.theory_values.specs.Values.{Value, v_unit, HasType, IsClosed}
-use Rattle.theory_values.specs.Heaps.{Heap, IsHeap, empty_heap}
+use Rattle.theory_values.specs.Values.{Value, v_unit}
+use Rattle.theory_values.specs.Heaps.{Heap, empty_heap}
 
 pub data Thing : Type 0 where
   th_mono : MonoTree → Thing
@@ -49,25 +49,3 @@ mono_under w m_loc = m_loc
 mono_under w m_unit = m_unit
 mono_under w (m_pair t u) = m_pair (mono_under w t) (mono_under w u)
 mono_under w (m_var index) = mono_at w index
-
--- An entry of a first-order context: a monotype variable, a variable of a monotype, a heap variable.
-pub data FirstOrder : Type 0 where
-  o_mono : FirstOrder
-  o_value : MonoTree → FirstOrder
-  o_heap : FirstOrder
-
--- A world of a first-order context, the innermost entry first.
-pub data IsWorld : List FirstOrder → World → Type 0 where
-  world_none : IsWorld [] []
-  world_mono : {c : List FirstOrder} {w : World} {t : MonoTree}
-      → IsClosed t
-      → IsWorld c w
-      → IsWorld (o_mono ∷ c) (th_mono t ∷ w)
-  world_value : {c : List FirstOrder} {w : World} {t : MonoTree} {v : Value}
-      → HasType v (mono_under w t)
-      → IsWorld c w
-      → IsWorld (o_value t ∷ c) (th_value v ∷ w)
-  world_heap : {c : List FirstOrder} {w : World} {h : Heap}
-      → IsHeap h
-      → IsWorld c w
-      → IsWorld (o_heap ∷ c) (th_heap h ∷ w)

@@ -1,11 +1,11 @@
-//! Truth of formulas in worlds: what a world gives, the value of a canonical term, when a formula is
+//! Truth of formulas in worlds: the thing of an index, the value of a canonical term, when a formula is
 //! true, and what recursive predicates say. Truth is read classically and speaks of any reading of
 //! the recursive atoms; the predicates then give one, by recursion on their number and the index. A
 //! function without a body states a law by its contract.
 #![tactic(auto)]
 
 ghost use Rattle.theory_truth.specs.Examples.{WorkedExamples};
-ghost use Rattle.theory_truth.specs.Laws.{HeapFormulas, PredicatesUnfold, RenamingKeepsTruth, StarIsSplit, TruthIsClassical, WorldsGive};
+ghost use Rattle.theory_truth.specs.Laws.{HeapFormulas, PredicatesUnfold, RenamingKeepsTruth, StarIsSplit, TruthIsClassical};
 
 /// Truth is stable under double negation, so the excluded middle holds in every world.
 pub fn truth_is_classical()
@@ -16,11 +16,6 @@ pub fn truth_is_classical()
 /// thing of the one stands where the map sends it.
 pub fn renaming_keeps_truth()
     ensures law { RenamingKeepsTruth }
-{}
-
-/// A world of a first-order context gives each entry a thing of its sort.
-pub fn worlds_give()
-    ensures law { WorldsGive }
 {}
 
 /// `Emp` is true where no location is in use, a cell where the heap is the one block that holds the

@@ -1,11 +1,27 @@
 -- The laws of typing, and small derivations.
-use Rattle.std.specs.Prelude.{◌≡◌, List, [], ◌∷◌, true}
+use Rattle.std.specs.Prelude.{◌≡◌, ℕ, List, [], ◌∷◌, true}
 use Rattle.htt_syntax.specs.declared.mono.Op.TheVariants.{Add, Lt}
-use Rattle.htt_syntax.specs.Trees.{TyTree, TripleTree, TermTree, CompTree, FormulaTree, m_word, m_bool, m_pair, y_mono}
+use Rattle.htt_syntax.specs.Trees.{MonoTree, TyTree, TripleTree, TermTree, CompTree, FormulaTree, m_word, m_bool, m_pair, y_mono}
 use Rattle.htt_syntax.specs.Trees.{y_fun, triple, t_var, t_app, t_lam, t_do, t_word, t_bool, t_pair, t_bin, t_eq, t_ann}
 use Rattle.htt_syntax.specs.Trees.{t_at, c_ret, f_tt, f_and, f_imp, f_ex_t, f_same, f_eq, f_at}
-use Rattle.theory_typing.specs.Contexts.{en_term, en_heap, Context, Environment, Obligation}
+use Rattle.theory_values.specs.Values.{HasType, IsClosed}
+use Rattle.theory_values.specs.Heaps.{IsHeap}
+use Rattle.theory_truth.specs.Worlds.{World, mono_at, value_at, heap_at, mono_under}
+use Rattle.theory_typing.specs.Contexts.{en_term, en_heap, Context, IsMonoEntry, IsHeapEntry, HasEntryType, Environment}
+use Rattle.theory_typing.specs.Contexts.{Obligation}
+use Rattle.theory_typing.specs.Worlds.{IsWorldOf}
 use Rattle.theory_typing.specs.Typing.{Mode, in_program, in_formula, FormsTy, FormsFormula, Gives, Fits, FitsBody}
+
+-- A world gives each variable of its context a thing of its sort: a closed monotype, a heap, or a value
+-- of the variable's monotype.
+pub record WorldsGive : Type 0 where
+  pub monos : (g : Context) (w : World) → IsWorldOf g w → (n : ℕ) → IsMonoEntry g n → IsClosed (mono_at w n)
+  pub heaps : (g : Context) (w : World) → IsWorldOf g w → (n : ℕ) → IsHeapEntry g n → IsHeap (heap_at w n)
+  pub values : (g : Context) (w : World)
+      → IsWorldOf g w
+      → (n : ℕ) (t : MonoTree)
+      → HasEntryType g n (y_mono t)
+      → HasType (value_at w n) (mono_under w t)
 
 -- a phrase has at most one type, one canonical form and one list of obligations
 pub record TypingGivesOne : Type 0 where

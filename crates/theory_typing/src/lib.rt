@@ -3,7 +3,13 @@
 #![tactic(auto)]
 
 ghost use Rattle.theory_typing.specs.Examples.{TheBodies, TheItems};
-ghost use Rattle.theory_typing.specs.Laws.{TypingGivesOne, WorkedTyping};
+ghost use Rattle.theory_typing.specs.Laws.{TypingGivesOne, WorkedTyping, WorldsGive};
+
+/// A world of a context gives each variable a thing of its sort: a closed monotype, a heap, or a value
+/// of the variable's monotype.
+pub fn worlds_give()
+    ensures law { WorldsGive }
+{}
 
 /// A phrase has at most one type, one canonical form and one list of obligations.
 pub fn typing_gives_one()

@@ -1,7 +1,6 @@
 -- Formed trees use each variable by its sort.
 use Rattle.std.proofs.Common.{◌≡◌, ℕ, List, [], ◌∷◌, map, refl, ap, subst}
 use Rattle.htt_syntax.specs.Trees.{MonoTree, TyTree, FormulaTree, y_mono}
-use Rattle.theory_truth.specs.Worlds.{FirstOrder}
 use Rattle.theory_canonical.specs.Skeletons.{sk_o}
 use Rattle.theory_canonical.specs.Contexts.{Standing, as_mono, as_heap, as_term}
 use Rattle.theory_canonical.specs.Canonical.{IsCanonicalFormula}
@@ -22,7 +21,7 @@ use Rattle.theory_typing_values.proofs.Formed.{SortedTy}
 abbrev pub IsAlike : Context → Type 0
 IsAlike g = bare_context (context_shape g) ≡ standings_of_sorts (sorts_of g)
 
-pub first_order_alike : {g : Context} {c : List FirstOrder} → IsFirstOrder g c → IsAlike g
+pub first_order_alike : {g : Context} → IsFirstOrder g → IsAlike g
 unfolding bare shape
 first_order_alike fo_none = refl
 first_order_alike (fo_mono p) = ap (λ (s : List Standing). as_mono ∷ s) (first_order_alike p)

@@ -2,11 +2,12 @@
 use Rattle.std.proofs.Common.{◌≡◌, ℕ, List, [], ◌∷◌, refl, sym, ap, ◌∙◌, subst}
 use Rattle.htt_syntax.specs.Trees.{MonoTree, TyTree, TermTree, TermTrees, FormulaTree, m_pair, y_mono, y_fun, y_all, y_hoare, y_at}
 use Rattle.theory_values.specs.Values.{HasType}
-use Rattle.theory_truth.specs.Worlds.{World, FirstOrder, IsWorld, mono_under}
+use Rattle.theory_truth.specs.Worlds.{World, mono_under}
 use Rattle.theory_truth.specs.TermValue.{term_value}
 use Rattle.theory_typing.specs.Positions.{plain_ty}
 use Rattle.theory_typing.specs.Contexts.{EntryTree, en_mono, en_heap, en_term, Context, Environment, IsHeapEntry, heap_here, heap_there, Obligation}
 use Rattle.theory_typing.specs.Contexts.{IsComparable, compares_word, compares_bool, compares_loc}
+use Rattle.theory_typing.specs.Worlds.{IsWorldOf}
 use Rattle.theory_typing.specs.Typing.{Mode, Gives, Fits, FitsAll, fits_none, fits_more, FormsFormula, fits_lam, fits_lam_t, fits_pair, fits_do, fits_given}
 use Rattle.theory_typing.specs.Typing.{fits_at, forms_tt, forms_ff, forms_and, forms_or, forms_imp, forms_all_t, forms_ex_t, forms_all_h, forms_ex_h, forms_emp}
 use Rattle.theory_typing.specs.Typing.{forms_cell, forms_block, forms_join, forms_same, forms_eq, forms_rec, forms_formula_at}
@@ -110,7 +111,7 @@ fits_sorted {g = g} (fits_given {ty' = ty'} i p q) t e s c =
     subst (SortedTy (sorts_of g)) (q ∙ ap plain_ty e) (plain_sorted ty' (sorts_of g) (gives_typed p s c).0)
 fits_sorted (fits_at p) t e s c = fits_sorted p t e s c
 
-pub context_sorted : {g : Context} {c : List FirstOrder} → IsFirstOrder g c → SortedContext g
+pub context_sorted : {g : Context} → IsFirstOrder g → SortedContext g
 unfolding SortedTy
 context_sorted fo_none = tt
 context_sorted (fo_mono p) = context_sorted p
@@ -169,33 +170,33 @@ formula_sorted (forms_eq m p q) s c = (mono_formed m, term_sorted s c p, term_so
 formula_sorted (forms_rec l h p many ps) s c = (heap_sort h, term_sorted s c p, terms_sorted ps s c)
 formula_sorted (forms_formula_at p) s c = formula_sorted p s c
 
-fitting_value : {env : Environment} {g : Context} {c : List FirstOrder} {w : World} {m : Mode} {M N : TermTree} (t : MonoTree)
+fitting_value : {env : Environment} {g : Context} {w : World} {m : Mode} {M N : TermTree} (t : MonoTree)
     {o : List Obligation}
     → IsFormedEnvironment env
-    → IsFirstOrder g c
-    → IsWorld c w
+    → IsFirstOrder g
+    → IsWorldOf g w
     → Fits env m g M (y_mono t) N o
     → HasType (term_value w N) (mono_under w t)
-fitting_value {env = env} t f p q d = value_typed (term_typed t (sound env f) (context_sorted p) d) (shapes_world p q)
+fitting_value {env = env} t f p q d = value_typed (term_typed t (sound env f) (context_sorted p) d) (shapes_world q)
 
-given_value : {env : Environment} {g : Context} {c : List FirstOrder} {w : World} {m : Mode} {M N : TermTree} (t : MonoTree)
+given_value : {env : Environment} {g : Context} {w : World} {m : Mode} {M N : TermTree} (t : MonoTree)
     {o : List Obligation}
     → IsFormedEnvironment env
-    → IsFirstOrder g c
-    → IsWorld c w
+    → IsFirstOrder g
+    → IsWorldOf g w
     → Gives env m g M (y_mono t) N o
     → HasType (term_value w N) (mono_under w t)
 unfolding shape_of
-given_value {env = env} t f p q d = value_typed (gives_typed d (sound env f) (context_sorted p)).1 (shapes_world p q)
+given_value {env = env} t f p q d = value_typed (gives_typed d (sound env f) (context_sorted p)).1 (shapes_world q)
 
 pub values : TypedValues
 values = record {
-  fitting = λ env f g c p w q m M N t o d. fitting_value t f p q d;
-  given = λ env f g c p w q m M N t o d. given_value t f p q d;
+  fitting = λ env f g p w q m M N t o d. fitting_value t f p q d;
+  given = λ env f g p w q m M N t o d. given_value t f p q d;
 }
 
 pub sorted_forms : FormedIsSorted
 sorted_forms = record {
-  terms = λ env f g c p m M N t o d. term_sorted (sound env f) (context_sorted p) d;
-  formulas = λ env f g c p F G d. formula_sorted d (sound env f) (context_sorted p);
+  terms = λ env f g p m M N t o d. term_sorted (sound env f) (context_sorted p) d;
+  formulas = λ env f g p F G d. formula_sorted d (sound env f) (context_sorted p);
 }

@@ -7,17 +7,17 @@ use Rattle.htt_syntax.specs.Trees.{MonoTree, TermTree, m_word, m_bool, m_loc, m_
 use Rattle.theory_values.specs.Values.{Value, HasType, is_word, is_bool, is_loc, is_unit, is_pair, op_mono, value_of_op, value_of_not, value_of_eq}
 use Rattle.theory_values.specs.Values.{value_of_sel, value_of_fst, value_of_snd}
 use Rattle.theory_values.proofs.Operations.{op_is_typed}
-use Rattle.theory_truth.specs.Worlds.{Thing, World, FirstOrder, th_mono, th_value, IsWorld, world_none, world_mono, world_value, world_heap, value_at}
+use Rattle.theory_truth.specs.Worlds.{Thing, World, th_mono, th_value, value_at}
 use Rattle.theory_truth.specs.Worlds.{mono_under}
 use Rattle.theory_truth.specs.TermValue.{value_or_unit, term_value}
 use Rattle.theory_truth.proofs.Renamed as truth
 use Rattle.theory_typing.specs.Contexts.{Context, IsComparable, compares_word, compares_bool, compares_loc}
+use Rattle.theory_typing.specs.Worlds.{IsWorldOf, world_none, world_mono, world_value, world_heap}
 use Rattle.theory_typing_shapes.specs.Shapes.{Shape, sh_mono, sh_fun, sh_all, sh_comp, fill_shape, up_shape, first_filled, shape_of, EndsInComp}
 use Rattle.theory_typing_shapes.specs.Typed.{in_mono, in_heap, in_term, Shapes, HasShape, shape_here, shape_there, Typed, TypedHead, typed_word, typed_bool}
 use Rattle.theory_typing_shapes.specs.Typed.{typed_loc, typed_unit, typed_pair, typed_fst, typed_snd, typed_not, typed_bin, typed_eq, typed_sel, typed_lam}
 use Rattle.theory_typing_shapes.specs.Typed.{typed_lam_t, typed_do, typed_head, head_var, head_val, head_fix, head_app, head_inst}
 use Rattle.theory_typing_shapes.proofs.Fillings.{mono_renamed, ends_filled}
-use Rattle.theory_typing_values.specs.FirstOrder.{IsFirstOrder, fo_none, fo_mono, fo_heap, fo_value}
 use Rattle.theory_typing_values.proofs.ShapesOf.{shapes_of}
 
 -- A world of first-order shapes.
@@ -30,12 +30,12 @@ pub data ShapesWorld : Shapes → World → Type 0 where
       → ShapesWorld g w
       → ShapesWorld (in_term (sh_mono t) ∷ g) (th_value v ∷ w)
 
-pub shapes_world : {g : Context} {c : List FirstOrder} {w : World} → IsFirstOrder g c → IsWorld c w → ShapesWorld (shapes_of g) w
+pub shapes_world : {g : Context} {w : World} → IsWorldOf g w → ShapesWorld (shapes_of g) w
 unfolding shape_of
-shapes_world fo_none world_none = sw_none
-shapes_world (fo_mono p) (world_mono closed q) = sw_mono (shapes_world p q)
-shapes_world (fo_heap p) (world_heap is q) = sw_heap (shapes_world p q)
-shapes_world (fo_value f p) (world_value typed q) = sw_value typed (shapes_world p q)
+shapes_world world_none = sw_none
+shapes_world (world_mono closed q) = sw_mono (shapes_world q)
+shapes_world (world_heap is q) = sw_heap (shapes_world q)
+shapes_world (world_value typed q) = sw_value typed (shapes_world q)
 
 -- Of a value at a monotype's shape it is said that it is of the monotype; of others nothing.
 abbrev pub ValueOf : World → Shape → Value → Type 0

@@ -4,8 +4,7 @@
 
 ghost use Rattle.theory_typing_values.specs.Laws.{FirstOrderContexts, FormedIsSorted, TypedValues};
 
-/// A first-order context has one list of first-order entries, with the same variables of each sort, and
-/// each world of it gives a term variable a value of its monotype.
+/// In a first-order context no variable has another type than a monotype.
 pub fn first_order_contexts()
     ensures law { FirstOrderContexts }
 {}
