@@ -38,69 +38,6 @@ abbrev pub words : ℕ → List ArgSort
 words zero = []
 words (suc n) = term_sort m_word ∷ words n
 
--- The sorts of an axiom's arguments at these monotypes, if they are as many as it takes.
-unfoldable pub argument_sorts : AxiomName → List MonoTree → Option (List ArgSort)
-argument_sorts emp_some [] = Some []
-argument_sorts emp_one [] = Some (heaps 2)
-argument_sorts join_emp [] = Some (heaps 2)
-argument_sorts join_comm [] = Some (heaps 3)
-argument_sorts join_assoc [] = Some (heaps 5)
-argument_sorts join_fun [] = Some (heaps 4)
-argument_sorts join_cancel [] = Some (heaps 4)
-argument_sorts join_empty [] = Some (heaps 3)
-argument_sorts join_cross [] = Some (heaps 5)
-argument_sorts cell_block (t ∷ []) = Some (heap_sort ∷ place_sort ∷ term_sort t ∷ [])
-argument_sorts cell_one (t ∷ []) = Some (heap_sort ∷ heap_sort ∷ place_sort ∷ term_sort t ∷ [])
-argument_sorts cell_val (t ∷ []) = Some (heap_sort ∷ place_sort ∷ term_sort t ∷ term_sort t ∷ [])
-argument_sorts cell_make (t ∷ []) = Some (place_sort ∷ term_sort t ∷ [])
-argument_sorts block_part (t ∷ s ∷ []) =
-    Some (heap_sort ∷ heap_sort ∷ heap_sort ∷ heap_sort ∷ heap_sort ∷ place_sort ∷ [])
-argument_sorts block_sep (t ∷ s ∷ []) = Some (heap_sort ∷ heap_sort ∷ heap_sort ∷ place_sort ∷ [])
-argument_sorts block_null (t ∷ []) = Some (heaps 1)
-argument_sorts block_emp (t ∷ []) = Some (heap_sort ∷ place_sort ∷ [])
-argument_sorts block_word [] = Some (heap_sort ∷ place_sort ∷ [])
-argument_sorts block_place (t ∷ s ∷ []) = Some (heap_sort ∷ place_sort ∷ place_sort ∷ [])
-argument_sorts block_width (t ∷ s ∷ []) = Some (heap_sort ∷ place_sort ∷ [])
-argument_sorts add_comm [] = Some (words 2)
-argument_sorts mul_comm [] = Some (words 2)
-argument_sorts add_assoc [] = Some (words 3)
-argument_sorts mul_assoc [] = Some (words 3)
-argument_sorts add_zero [] = Some (words 1)
-argument_sorts mul_one [] = Some (words 1)
-argument_sorts mul_zero [] = Some (words 1)
-argument_sorts mul_add [] = Some (words 3)
-argument_sorts sub_add [] = Some (words 2)
-argument_sorts add_sub [] = Some (words 2)
-argument_sorts lt_irrefl [] = Some (words 1)
-argument_sorts lt_zero [] = Some (words 1)
-argument_sorts lt_trans [] = Some (words 3)
-argument_sorts lt_total [] = Some (words 2)
-argument_sorts lt_step [] = Some (words 2)
-argument_sorts lt_gap [] = Some (words 2)
-argument_sorts lt_pred [] = Some (words 1)
-argument_sorts eq_yes (t ∷ []) = Some (term_sort t ∷ term_sort t ∷ [])
-argument_sorts eq_no (t ∷ []) = Some (term_sort t ∷ term_sort t ∷ [])
-argument_sorts bool_or [] = Some (term_sort m_bool ∷ [])
-argument_sorts bool_ne [] = Some []
-argument_sorts pair_eta (t ∷ s ∷ []) = Some (term_sort (m_pair t s) ∷ [])
-argument_sorts unit_eta [] = Some (term_sort m_unit ∷ [])
-argument_sorts and_zero [] = Some (words 1)
-argument_sorts or_zero [] = Some (words 1)
-argument_sorts xor_self [] = Some (words 1)
-argument_sorts shl_one [] = Some (words 1)
-argument_sorts _ _ = None
-
--- Each argument is a heap where a heap is meant, and a term where a term is.
-abbrev pub fits_sorts : List ArgSort → List ArgTree → Bool
-fits_sorts [] [] = true
-fits_sorts (heap_sort ∷ sorts) (a_heap h ∷ others) = fits_sorts sorts others
-fits_sorts (term_sort t ∷ sorts) (a_term m ∷ others) = fits_sorts sorts others
-fits_sorts _ _ = false
-
-abbrev pub fits_shape : Option (List ArgSort) → List ArgTree → Bool
-fits_shape (Some sorts) arguments = fits_sorts sorts arguments
-fits_shape None arguments = false
-
 -- How many words, truth values and places a monotype has, and how often it has a variable.
 unfoldable pub count_of_words : MonoTree → ℕ
 count_of_words m_word = 1
@@ -119,11 +56,96 @@ pub record SameWidth (t s : MonoTree) : Type 0 where
   pub same_words : count_of_words t ≡ count_of_words s
   pub same_variables : (index : ℕ) → uses_of index t ≡ uses_of index s
 
+-- What an axiom takes: no monotype, one or two, and arguments whose sorts these may decide. With two of the
+-- forms goes a side condition on the monotypes.
+pub data Signature : Type 0 where
+  no_mono : List ArgSort → Signature
+  one_mono : (MonoTree → List ArgSort) → Signature
+  -- one at which `eq` compares
+  one_comparable : (MonoTree → List ArgSort) → Signature
+  two_monos : (MonoTree → MonoTree → List ArgSort) → Signature
+  -- two that are as wide as each other
+  two_as_wide : (MonoTree → MonoTree → List ArgSort) → Signature
+
+abbrev pub signature : AxiomName → Signature
+signature emp_some = no_mono []
+signature emp_one = no_mono (heaps 2)
+signature join_emp = no_mono (heaps 2)
+signature join_comm = no_mono (heaps 3)
+signature join_assoc = no_mono (heaps 5)
+signature join_fun = no_mono (heaps 4)
+signature join_cancel = no_mono (heaps 4)
+signature join_empty = no_mono (heaps 3)
+signature join_cross = no_mono (heaps 5)
+signature cell_block = one_mono (λ t. heap_sort ∷ place_sort ∷ term_sort t ∷ [])
+signature cell_one = one_mono (λ t. heap_sort ∷ heap_sort ∷ place_sort ∷ term_sort t ∷ [])
+signature cell_val = one_mono (λ t. heap_sort ∷ place_sort ∷ term_sort t ∷ term_sort t ∷ [])
+signature cell_make = one_mono (λ t. place_sort ∷ term_sort t ∷ [])
+signature block_part = two_monos (λ t s. heap_sort ∷ heap_sort ∷ heap_sort ∷ heap_sort ∷ heap_sort ∷ place_sort ∷ [])
+signature block_sep = two_monos (λ t s. heap_sort ∷ heap_sort ∷ heap_sort ∷ place_sort ∷ [])
+signature block_null = one_mono (λ t. heaps 1)
+signature block_emp = one_mono (λ t. heap_sort ∷ place_sort ∷ [])
+signature block_word = no_mono (heap_sort ∷ place_sort ∷ [])
+signature block_place = two_monos (λ t s. heap_sort ∷ place_sort ∷ place_sort ∷ [])
+signature block_width = two_as_wide (λ t s. heap_sort ∷ place_sort ∷ [])
+signature add_comm = no_mono (words 2)
+signature mul_comm = no_mono (words 2)
+signature add_assoc = no_mono (words 3)
+signature mul_assoc = no_mono (words 3)
+signature add_zero = no_mono (words 1)
+signature mul_one = no_mono (words 1)
+signature mul_zero = no_mono (words 1)
+signature mul_add = no_mono (words 3)
+signature sub_add = no_mono (words 2)
+signature add_sub = no_mono (words 2)
+signature lt_irrefl = no_mono (words 1)
+signature lt_zero = no_mono (words 1)
+signature lt_trans = no_mono (words 3)
+signature lt_total = no_mono (words 2)
+signature lt_step = no_mono (words 2)
+signature lt_gap = no_mono (words 2)
+signature lt_pred = no_mono (words 1)
+signature eq_yes = one_comparable (λ t. term_sort t ∷ term_sort t ∷ [])
+signature eq_no = one_comparable (λ t. term_sort t ∷ term_sort t ∷ [])
+signature bool_or = no_mono (term_sort m_bool ∷ [])
+signature bool_ne = no_mono []
+signature pair_eta = two_monos (λ t s. term_sort (m_pair t s) ∷ [])
+signature unit_eta = no_mono (term_sort m_unit ∷ [])
+signature and_zero = no_mono (words 1)
+signature or_zero = no_mono (words 1)
+signature xor_self = no_mono (words 1)
+signature shl_one = no_mono (words 1)
+
+abbrev pub sorts_at : Signature → List MonoTree → Option (List ArgSort)
+sorts_at (no_mono sorts) [] = Some sorts
+sorts_at (one_mono sorts) (t ∷ []) = Some (sorts t)
+sorts_at (one_comparable sorts) (t ∷ []) = Some (sorts t)
+sorts_at (two_monos sorts) (t ∷ s ∷ []) = Some (sorts t s)
+sorts_at (two_as_wide sorts) (t ∷ s ∷ []) = Some (sorts t s)
+sorts_at _ _ = None
+
+abbrev pub condition_at : Signature → List MonoTree → Type 0
+condition_at (one_comparable sorts) (t ∷ []) = IsComparable t
+condition_at (two_as_wide sorts) (t ∷ s ∷ []) = SameWidth t s
+condition_at _ _ = Unit {0}
+
+-- The sorts of an axiom's arguments at these monotypes, if they are as many as it takes.
+unfoldable pub argument_sorts : AxiomName → List MonoTree → Option (List ArgSort)
+argument_sorts axiom_name monos = sorts_at (signature axiom_name) monos
+
 unfoldable pub SideCondition : AxiomName → List MonoTree → Type 0
-SideCondition block_width (t ∷ s ∷ []) = SameWidth t s
-SideCondition eq_yes (t ∷ []) = IsComparable t
-SideCondition eq_no (t ∷ []) = IsComparable t
-SideCondition _ _ = Unit {0}
+SideCondition axiom_name monos = condition_at (signature axiom_name) monos
+
+-- Each argument is a heap where a heap is meant, and a term where a term is.
+abbrev pub fits_sorts : List ArgSort → List ArgTree → Bool
+fits_sorts [] [] = true
+fits_sorts (heap_sort ∷ sorts) (a_heap h ∷ others) = fits_sorts sorts others
+fits_sorts (term_sort t ∷ sorts) (a_term m ∷ others) = fits_sorts sorts others
+fits_sorts _ _ = false
+
+abbrev pub fits_shape : Option (List ArgSort) → List ArgTree → Bool
+fits_shape (Some sorts) arguments = fits_sorts sorts arguments
+fits_shape None arguments = false
 
 abbrev pub ◌⇒◌ : FormulaTree → FormulaTree → FormulaTree
 F ⇒ G = f_imp F G
