@@ -1,7 +1,8 @@
 -- The laws of typing, and small derivations.
 use Rattle.std.specs.Prelude.{◌≡◌, ℕ, List, [], ◌∷◌, true}
 use Rattle.htt_syntax.specs.declared.mono.Op.TheVariants.{Add, Lt}
-use Rattle.htt_syntax.specs.Trees.{MonoTree, TyTree, TripleTree, TermTree, CompTree, FormulaTree, m_word, m_bool, m_pair, y_mono}
+use Rattle.htt_syntax.specs.Trees.{MonoTree, TyTree, TripleTree, TermTree, CompTree, FormulaTree, m_word, m_bool}
+use Rattle.htt_syntax.specs.Trees.{m_pair, y_mono}
 use Rattle.htt_syntax.specs.Trees.{y_fun, triple, t_var, t_app, t_lam, t_do, t_word, t_bool, t_pair, t_bin, t_eq, t_ann}
 use Rattle.htt_syntax.specs.Trees.{t_at, c_ret, f_tt, f_and, f_imp, f_ex_t, f_same, f_eq, f_at}
 use Rattle.theory_values.specs.Values.{HasType, IsClosed}
