@@ -7,7 +7,7 @@ use Rattle.theory_renaming.proofs.Identity.{formula_stays}
 use Rattle.theory_substitution.specs.Monotypes.{Filling, fill_mono}
 use Rattle.theory_typing.specs.Contexts.{en_term, Context, Environment, IsHeapEntry, heap_here, heap_there, Obligation}
 use Rattle.theory_typing.specs.Typing.{Mode, Fits, fits_pair, fits_given, fits_at}
-use Rattle.theory_formed.specs.Environments.{with_params}
+use Rattle.theory_items.specs.Items.{with_params}
 use Rattle.theory_logic_axioms.specs.Table.{ArgSort, heap_sort, term_sort}
 use Rattle.theory_logic_rules.specs.Sequents.{putting, put_heap, raised_term, PutArgs, put_none, put_term_first, put_heap_first, terms_of, FitsArgs}
 use Rattle.theory_logic_rules.specs.Sequents.{fits_no_args, fits_heap_arg, fits_term_arg, FormsMonos, forms_no_monos, forms_more_monos}
@@ -26,8 +26,9 @@ use Rattle.theory_substitution.specs.Closing.{closing}
 use Rattle.theory_formed_substitution.specs.Laws.{PutsFormed}
 use Rattle.theory_formed_substitution.proofs.Put.{puts_first, formula_put}
 use Rattle.theory_formed_states.proofs.Sent.{Sends, fills, heap_sent}
-use Rattle.theory_formed_typing.specs.Environments.{IsFormedContext, FormsEnvironment}
-use Rattle.theory_formed_typing.proofs.Typed.{mono_formed, given_formed}
+use Rattle.theory_formed_shapes.specs.Environments.{IsFormedContext, FormsEnvironment}
+use Rattle.theory_formed_typing.proofs.Terms.{mono_formed}
+use Rattle.theory_formed_typing.proofs.Typed.{given_formed}
 use Rattle.theory_formed_proofs.specs.Sequents.{AreFormedMonos, AreFormedArgs, formed_no_args, formed_heap_arg, formed_term_arg, with_sorts, AreClosedSorts}
 use Rattle.theory_formed_substitution.proofs.Put.{puts_next, puts_heap}
 
