@@ -1,6 +1,5 @@
 -- A formed environment is sound.
-use Rattle.std.proofs.Common.{◌≡◌, ℕ, List, Some, subst}
-use Rattle.std.specs.Prelude.{slice_get}
+use Rattle.std.proofs.Common.{List, subst}
 use Rattle.htt_syntax.specs.Trees.{FormulaTree}
 use Rattle.theory_truth.specs.Predicates.{RecTree}
 use Rattle.theory_canonical.specs.Contexts.{Standing, Heads}

@@ -2,15 +2,14 @@
 use Rattle.std.proofs.Common.{◌≡◌, inl, inr, ℕ, zero, suc, [], ◌∷◌, Some, None, slice_get, refl, subst, arith, true}
 use Rattle.std.proofs.lemmas.List.Elements.{All-nil, All-cons}
 use Rattle.std.proofs.lemmas.Option.{same_Some}
-use Rattle.htt_syntax.specs.Trees.{MonoTree, TyTree, TermTree, m_word, y_mono, t_bool, t_do, t_word, c_ret}
+use Rattle.htt_syntax.specs.Trees.{TyTree, TermTree, m_word, y_mono, t_bool, t_do, t_word, c_ret}
 use Rattle.theory_renaming.specs.Renaming.{rename_mono}
-use Rattle.theory_truth.specs.Predicates.{RecTree}
 use Rattle.theory_truth.specs.Atoms.{AtomsMeet, IsFounded, IsFoundedTable}
 use Rattle.theory_canonical.specs.Folding.{contractum}
 use Rattle.theory_substitution.specs.Monotypes.{fill_mono}
 use Rattle.theory_typing.specs.Contexts.{EndsInHoare, en_term}
 use Rattle.theory_items.specs.Examples.{gives_five, doubles, not_less}
-use Rattle.theory_formed_shapes.specs.Shapes.{Shape, sh_mono, fill_shape, shape_of, heap_at_zero, shape_here, shape_there}
+use Rattle.theory_formed_shapes.specs.Shapes.{fill_shape, shape_of, heap_at_zero, shape_here, shape_there}
 use Rattle.theory_formed_shapes.specs.Formed.{FileShapes, file_shapes, IsFormedMono, z_m_word, IsFormedTerm, z_word, z_bin, z_neutral, w_var, z_no_terms}
 use Rattle.theory_formed_shapes.specs.Formed.{z_more_terms, IsFormedTy, z_mono, z_hoare, z_triple, z_tt, z_equal, z_rec}
 use Rattle.theory_formed_shapes.specs.Environments.{formed_none, formed_term}

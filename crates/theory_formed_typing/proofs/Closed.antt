@@ -13,7 +13,7 @@ use Rattle.theory_typing.specs.Contexts.{Environment}
 use Rattle.theory_formed_shapes.specs.Shapes.{Shape, sh_mono, sh_fun, sh_all, sh_comp, fill_shape, renaming_of, up_shape, dropping, shape_of, in_mono, in_term}
 use Rattle.theory_formed_shapes.specs.Shapes.{Shapes, IsMonoAt, mono_further}
 use Rattle.theory_formed_shapes.specs.Formed.{FileShapes, file_shapes, IsFormedMono, z_m_word, z_m_bool, z_m_loc, z_m_unit, z_m_pair, z_m_var, IsFormedTerm}
-use Rattle.theory_formed_shapes.specs.Formed.{IsFormedTy, z_mono, z_fun, z_all, z_hoare, z_triple, fill_monos, IsClosedFile}
+use Rattle.theory_formed_shapes.specs.Formed.{IsFormedTy, fill_monos, IsClosedFile}
 use Rattle.theory_formed_shapes.specs.Laws.{FillsFormed}
 use Rattle.theory_formed_shapes.proofs.Fillings.{shape_after, shape_kept, mono_kept}
 use Rattle.theory_formed_shapes.proofs.Renamed.{term_renamed, ty_renamed}

@@ -1,5 +1,5 @@
 -- Shapes that end in a computation, and heads that have them.
-use Rattle.std.proofs.Common.{◌≡◌, ℕ, zero, suc, Some, None, subst}
+use Rattle.std.proofs.Common.{◌≡◌, ℕ, suc, Some, None, subst}
 use Rattle.std.specs.Prelude.{slice_get}
 use Rattle.htt_syntax.specs.Trees.{TyTree, FixTree, triple, y_mono, y_fun, y_all, y_hoare, y_at}
 use Rattle.theory_substitution.specs.Monotypes.{Filling, next_filling}

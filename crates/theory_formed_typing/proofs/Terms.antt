@@ -1,13 +1,10 @@
 -- What the typing rules make of a text is formed in a canonical environment and context, by the derivation.
 use Rattle.std.proofs.Common.{◌≡◌, ℕ, zero, suc, List, [], ◌∷◌, All, refl, sym, ap, ◌∙◌, subst}
 use Rattle.std.proofs.lemmas.List.Elements.{All-head, All-tail}
-use Rattle.htt_syntax.specs.declared.mono.Op.{Op}
-use Rattle.htt_syntax.specs.declared.mono.Op.TheVariants.{Lt}
-use Rattle.htt_syntax.specs.Trees.{MonoTree, TyTree, TripleTree, TermTree, FixTree, CompTree, StepTree, FormulaTree, TermTrees, m_unit, m_pair, y_mono, y_fun}
+use Rattle.htt_syntax.specs.Trees.{MonoTree, TyTree, TripleTree, TermTree, FixTree, CompTree, StepTree, FormulaTree, TermTrees, m_unit, y_fun}
 use Rattle.htt_syntax.specs.Trees.{y_all, y_hoare, triple, t_unit, t_lam, t_lam_t}
 use Rattle.theory_renaming.specs.Renaming.{rename_mono, rename_ty}
 use Rattle.theory_truth.specs.Predicates.{RecTree}
-use Rattle.theory_values.specs.Values.{op_mono}
 use Rattle.theory_canonical.specs.Skeletons.{Skeleton, sk_o, skeleton}
 use Rattle.theory_canonical.specs.Contexts.{as_term}
 use Rattle.theory_canonical.specs.Canonical.{IsCanonicalMono, n_m_word, n_m_bool, n_m_loc, n_m_unit, IsCanonicalTy, n_mono}
@@ -15,8 +12,8 @@ use Rattle.theory_canonical.proofs.Renamed.{keeps_suc, mono_renamed, ty_renamed}
 use Rattle.theory_substitution.specs.Closing.{closing}
 use Rattle.theory_substitution.specs.Monotypes.{Filling, put_mono, put_mono_ty, put_mono_term}
 use Rattle.theory_substitution.specs.Substitution.{SubTy, SubTerm}
-use Rattle.theory_typing.specs.Contexts.{Context, Environment, Obligation, IsMonoEntry, mono_here, mono_there, IsHeapEntry, heap_here, heap_there, HasEntryType}
-use Rattle.theory_typing.specs.Contexts.{type_here, type_there, FormsMono, forms_word, forms_bool, forms_loc, forms_unit, forms_pair, forms_var}
+use Rattle.theory_typing.specs.Contexts.{Context, Environment, Obligation, IsMonoEntry, mono_here, mono_there, IsHeapEntry, heap_here, heap_there}
+use Rattle.theory_typing.specs.Contexts.{FormsMono, forms_word, forms_bool, forms_loc, forms_unit, forms_pair, forms_var}
 use Rattle.theory_typing.specs.Typing.{Mode, Part, part_step, part_comp, part_unit, Joined, joined_step, joined_comp, joined_unit, FormsTy, forms_mono}
 use Rattle.theory_typing.specs.Typing.{forms_fun, forms_all, forms_hoare, forms_ty_at, FormsTriple, forms_triple, FormsFormula, forms_tt, forms_ff, forms_and}
 use Rattle.theory_typing.specs.Typing.{forms_or, forms_imp, forms_all_t, forms_ex_t, forms_all_h, forms_ex_h, forms_emp, forms_cell, forms_block, forms_join}
@@ -25,7 +22,7 @@ use Rattle.theory_typing.specs.Typing.{gives_word, gives_bool, gives_loc, gives_
 use Rattle.theory_typing.specs.Typing.{gives_bin, gives_not, gives_eq, gives_sel, gives_fix, gives_at, Fits, fits_lam, fits_lam_t, fits_pair, fits_do}
 use Rattle.theory_typing.specs.Typing.{fits_given, fits_at, FormsHeader, header_param, header_body, FitsFix, fix_param, fix_body, FitsBody, fits_body, Runs}
 use Rattle.theory_typing.specs.Typing.{runs_ret, runs_step, Moves, moves_alloc, moves_get, moves_set, moves_free, moves_run, moves_if, moves_claim}
-use Rattle.theory_formed_shapes.specs.Shapes.{Shape, sh_mono, fill_shape, renaming_of, up_shape, shape_of, in_mono, in_heap, in_term, Shapes, shapes_of}
+use Rattle.theory_formed_shapes.specs.Shapes.{Shape, sh_mono, fill_shape, renaming_of, up_shape, shape_of, in_term, Shapes, shapes_of}
 use Rattle.theory_formed_shapes.specs.Shapes.{IsMonoAt, mono_at_zero, mono_further, IsHeapAt, heap_at_zero, heap_further}
 use Rattle.theory_formed_shapes.specs.Formed.{FileShapes, file_shapes, IsFormedMono, z_m_word, z_m_bool, z_m_loc, z_m_unit, z_m_pair, z_m_var, IsFormedTerm}
 use Rattle.theory_formed_shapes.specs.Formed.{z_word, z_bool, z_loc, z_unit, z_pair, z_lam, z_lam_t, z_do, w_var, w_val, w_fix, IsFormedTerms, z_no_terms}
@@ -36,7 +33,7 @@ use Rattle.theory_formed_shapes.specs.Formed.{IsClosedFile}
 use Rattle.theory_formed_shapes.proofs.Fillings.{put_is_first, up_mono_closed}
 use Rattle.theory_formed_shapes.proofs.ShapesOf.{shape_filled, shape_renamed, shape_put, shape_plain, entry_has_shape}
 use Rattle.theory_formed_shapes.proofs.Folded.{fst_folded, snd_folded, not_folded, bin_folded, eq_folded, sel_folded}
-use Rattle.theory_formed_substitution.proofs.Put.{puts_first, fills_first, lam_body, do_comp, instance_formed, term_put, ty_put, comp_put, bind_formed}
+use Rattle.theory_formed_substitution.proofs.Put.{puts_first, lam_body, do_comp, instance_formed, term_put, comp_put, bind_formed}
 use Rattle.theory_formed_shapes.specs.Environments.{DefinitionsFormed}
 use Rattle.theory_formed_shapes.proofs.Monos.{answer_monos, formed_monos}
 use Rattle.theory_typing_canonical.specs.Environments.{standings, heads_of, IsCanonicalEnvironment, IsCanonicalContext, mono_entry, heap_entry, term_entry}

@@ -1,45 +1,28 @@
 -- A type that is given is formed in a formed environment and context; and the same of what the rules make there.
-use Rattle.std.proofs.Common.{◌≡◌, ℕ, zero, suc, List, [], ◌∷◌, All, refl, sym, ap, ◌∙◌, subst}
-use Rattle.std.proofs.lemmas.List.Elements.{All-head, All-tail}
+use Rattle.std.proofs.Common.{ℕ, List, ◌∷◌}
 use Rattle.htt_syntax.specs.declared.mono.Op.{Op}
 use Rattle.htt_syntax.specs.declared.mono.Op.TheVariants.{Lt}
-use Rattle.htt_syntax.specs.Trees.{MonoTree, TyTree, TripleTree, TermTree, FixTree, CompTree, StepTree, FormulaTree, TermTrees, m_unit, m_pair, y_mono, y_fun}
-use Rattle.htt_syntax.specs.Trees.{y_all, y_hoare, triple, t_unit, t_lam, t_lam_t}
-use Rattle.theory_renaming.specs.Renaming.{rename_mono, rename_ty}
-use Rattle.theory_truth.specs.Predicates.{RecTree}
+use Rattle.htt_syntax.specs.Trees.{MonoTree, TyTree, TermTree, FixTree, FormulaTree, m_pair, y_mono, y_fun}
+use Rattle.htt_syntax.specs.Trees.{y_all}
 use Rattle.theory_values.specs.Values.{op_mono}
-use Rattle.theory_canonical.specs.Skeletons.{Skeleton}
-use Rattle.theory_substitution.specs.Closing.{closing}
-use Rattle.theory_substitution.specs.Monotypes.{Filling, put_mono, put_mono_ty, put_mono_term}
-use Rattle.theory_substitution.specs.Substitution.{SubTy, SubTerm}
-use Rattle.theory_typing.specs.Contexts.{Context, Environment, Obligation, IsMonoEntry, mono_here, mono_there, IsHeapEntry, heap_here, heap_there, HasEntryType}
-use Rattle.theory_typing.specs.Contexts.{type_here, type_there, FormsMono, forms_word, forms_bool, forms_loc, forms_unit, forms_pair, forms_var}
-use Rattle.theory_typing.specs.Typing.{Mode, Part, part_step, part_comp, part_unit, Joined, joined_step, joined_comp, joined_unit, FormsTy, forms_mono}
-use Rattle.theory_typing.specs.Typing.{forms_fun, forms_all, forms_hoare, forms_ty_at, FormsTriple, forms_triple, FormsFormula, forms_tt, forms_ff, forms_and}
-use Rattle.theory_typing.specs.Typing.{forms_or, forms_imp, forms_all_t, forms_ex_t, forms_all_h, forms_ex_h, forms_emp, forms_cell, forms_block, forms_join}
-use Rattle.theory_typing.specs.Typing.{forms_same, forms_eq, forms_rec, forms_formula_at, FitsAll, fits_none, fits_more, Gives, gives_var, gives_val, gives_def}
+use Rattle.theory_typing.specs.Contexts.{Context, Environment, Obligation, HasEntryType}
+use Rattle.theory_typing.specs.Contexts.{type_here, type_there}
+use Rattle.theory_typing.specs.Typing.{Mode, FormsTy}
+use Rattle.theory_typing.specs.Typing.{FormsFormula}
+use Rattle.theory_typing.specs.Typing.{Gives, gives_var, gives_val, gives_def}
 use Rattle.theory_typing.specs.Typing.{gives_word, gives_bool, gives_loc, gives_unit, gives_app, gives_inst, gives_ann, gives_pair, gives_fst, gives_snd}
-use Rattle.theory_typing.specs.Typing.{gives_bin, gives_not, gives_eq, gives_sel, gives_fix, gives_at, Fits, fits_lam, fits_lam_t, fits_pair, fits_do}
-use Rattle.theory_typing.specs.Typing.{fits_given, fits_at, FormsHeader, header_param, header_body, FitsFix, fix_param, fix_body, FitsBody, fits_body, Runs}
-use Rattle.theory_typing.specs.Typing.{runs_ret, runs_step, Moves, moves_alloc, moves_get, moves_set, moves_free, moves_run, moves_if, moves_claim}
-use Rattle.theory_formed_shapes.specs.Shapes.{Shape, sh_mono, fill_shape, renaming_of, up_shape, shape_of, in_mono, in_heap, in_term, Shapes, shapes_of}
-use Rattle.theory_formed_shapes.specs.Shapes.{IsMonoAt, mono_at_zero, mono_further, IsHeapAt, heap_at_zero, heap_further}
-use Rattle.theory_formed_shapes.specs.Formed.{FileShapes, file_shapes, IsFormedMono, z_m_word, z_m_bool, z_m_loc, z_m_unit, z_m_pair, z_m_var, IsFormedTerm}
-use Rattle.theory_formed_shapes.specs.Formed.{z_word, z_bool, z_loc, z_unit, z_pair, z_lam, z_lam_t, z_do, w_var, w_val, w_fix, IsFormedTerms, z_no_terms}
-use Rattle.theory_formed_shapes.specs.Formed.{z_more_terms, IsFormedFix, z_param, z_body, IsFormedComp, z_ret, z_step, IsFormedStep, z_alloc, z_get, z_set}
-use Rattle.theory_formed_shapes.specs.Formed.{z_free, z_if, IsFormedTy, z_mono, z_fun, z_all, z_hoare, IsFormedTriple, z_triple, IsFormedFormula, z_tt, z_ff}
-use Rattle.theory_formed_shapes.specs.Formed.{z_and, z_or, z_imp, z_all_t, z_ex_t, z_all_h, z_ex_h, z_emp, z_cell, z_block, z_join, z_same, z_equal, z_rec}
+use Rattle.theory_typing.specs.Typing.{gives_bin, gives_not, gives_eq, gives_sel, gives_fix, gives_at, Fits}
+use Rattle.theory_typing.specs.Typing.{FormsHeader}
+use Rattle.theory_formed_shapes.specs.Shapes.{shape_of, in_mono, in_heap, in_term, Shapes, shapes_of}
+use Rattle.theory_formed_shapes.specs.Formed.{FileShapes, file_shapes, IsFormedMono, z_m_word, z_m_bool, z_m_loc, z_m_unit, z_m_pair, IsFormedTerm}
+use Rattle.theory_formed_shapes.specs.Formed.{IsFormedTy, z_mono, z_fun, z_all, IsFormedFormula}
 use Rattle.theory_formed_shapes.specs.Formed.{IsClosedFile}
-use Rattle.theory_formed_shapes.proofs.Fillings.{put_is_first, up_mono_closed}
-use Rattle.theory_formed_shapes.proofs.ShapesOf.{shape_filled, shape_renamed, shape_put, shape_plain, entry_has_shape}
-use Rattle.theory_formed_shapes.proofs.Folded.{fst_folded, snd_folded, not_folded, bin_folded, eq_folded, sel_folded}
-use Rattle.theory_formed_shapes.proofs.Filled.{mono_raised, ty_filled}
+use Rattle.theory_formed_shapes.proofs.Filled.{ty_filled}
 use Rattle.theory_formed_shapes.proofs.Renamed.{ty_renamed, fills_suc}
-use Rattle.theory_formed_substitution.proofs.Put.{puts_first, fills_first, lam_body, do_comp, instance_formed, term_put, ty_put, comp_put, bind_formed}
+use Rattle.theory_formed_substitution.proofs.Put.{puts_first, fills_first, ty_put}
 use Rattle.theory_formed_shapes.specs.Environments.{IsFormedContext, formed_mono, formed_heap, formed_term, FormsEnvironment}
 use Rattle.theory_formed_typing.specs.Laws.{TypingGivesFormed}
-use Rattle.theory_canonical.specs.Canonical.{IsCanonicalMono}
-use Rattle.theory_typing_canonical.specs.Environments.{standings, heads_of, IsCanonicalEnvironment, IsCanonicalContext}
+use Rattle.theory_typing_canonical.specs.Environments.{IsCanonicalEnvironment}
 use Rattle.theory_formed_canonical.proofs.Bare.{type_bare, environment_bare, entries_bare}
 use Rattle.theory_formed_typing.proofs.Closed.{file_closed, closed_ty}
 use Rattle.theory_formed_typing.proofs.Terms as terms
@@ -120,7 +103,7 @@ module _ (env : Environment) (known : FormsEnvironment env) where
   given_type gives_bool k = z_mono z_m_bool
   given_type (gives_loc l) k = z_mono z_m_loc
   given_type gives_unit k = z_mono z_m_unit
-  given_type (gives_app p q types terms) k =
+  given_type (gives_app p q types _) k =
       let parts = fun_parts (given_type p k) in ty_put types parts.1 closed (puts_first (fit_formed q k parts.0))
   given_type (gives_inst p f) k = ty_filled (all_part (given_type p k)) closed (fills_first (mono_formed f))
   given_type (gives_ann f p) k = formed_ty f k

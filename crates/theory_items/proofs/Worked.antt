@@ -1,15 +1,14 @@
 -- The worked examples hold.
-use Rattle.std.proofs.Common.{◌≡◌, inl, inr, ℕ, zero, suc, List, [], ◌∷◌, Some, slice_get, refl, subst, arith}
+use Rattle.std.proofs.Common.{List, [], ◌∷◌, refl, subst, arith}
 use Rattle.std.proofs.lemmas.List.Elements.{All-nil, All-cons}
-use Rattle.std.proofs.lemmas.Option.{same_Some}
-use Rattle.htt_syntax.specs.Trees.{TyTree, TermTree, m_word, m_var, y_mono, y_fun, t_var, t_lam, t_word, f_tt}
+use Rattle.htt_syntax.specs.Trees.{m_word, m_var, y_mono, y_fun, t_var, t_lam, f_tt}
 use Rattle.theory_renaming.specs.Renaming.{rename_mono, rename_ty}
-use Rattle.theory_truth.specs.Atoms.{AtomsMeet, IsFounded, IsFoundedTable}
+use Rattle.theory_truth.specs.Atoms.{AtomsMeet}
 use Rattle.theory_canonical.specs.Folding.{contractum}
 use Rattle.theory_canonical.specs.Eta.{expansion}
 use Rattle.theory_typing.specs.Positions.{plain_ty}
-use Rattle.theory_typing.specs.Contexts.{Environment, Obligation, count_of, en_term, mono_here, mono_there, heap_here, type_here, type_there, FormsMono}
-use Rattle.theory_typing.specs.Contexts.{forms_word, forms_var, EndsInHoare}
+use Rattle.theory_typing.specs.Contexts.{Environment, Obligation, count_of, mono_here, mono_there, heap_here, type_here, type_there, FormsMono}
+use Rattle.theory_typing.specs.Contexts.{forms_word, forms_var}
 use Rattle.theory_typing.specs.Typing.{FormsFormula, forms_mono, forms_fun, forms_hoare, forms_triple, forms_tt, forms_eq, forms_rec, fits_none, fits_more}
 use Rattle.theory_typing.specs.Typing.{gives_var, gives_word, gives_bin, fits_do, fits_given}
 use Rattle.theory_typing.specs.Laws.{none}

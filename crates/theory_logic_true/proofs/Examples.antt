@@ -18,8 +18,8 @@ use Rattle.theory_substitution.specs.Closing.{closing}
 use Rattle.theory_substitution.specs.Monotypes.{fill_mono}
 use Rattle.theory_substitution.specs.Substitution.{u_y_mono, u_bin, u_reduced, u_word, r_var, u_f_emp}
 use Rattle.theory_typing.specs.Positions.{plain_ty}
-use Rattle.theory_typing.specs.Contexts.{EndsInHoare, type_here, forms_word}
-use Rattle.theory_typing.specs.Typing.{forms_eq, gives_var, gives_word, gives_def, gives_app, gives_bin, fits_lam, fits_given}
+use Rattle.theory_typing.specs.Contexts.{EndsInHoare, forms_word}
+use Rattle.theory_typing.specs.Typing.{forms_eq, gives_word, gives_def, gives_app, fits_given}
 use Rattle.theory_logic_rules.specs.Rules.{infers_hyp, infers_inst_term}
 use Rattle.theory_logic_rules.specs.Examples.{env, with_word, with_heap, is_five}
 use Rattle.theory_truth.specs.Examples.{doubles}

@@ -13,7 +13,7 @@ use Rattle.theory_substitution.specs.Substitution.{SubFormula}
 use Rattle.theory_canonical.specs.Skeletons.{sk_o}
 use Rattle.theory_canonical.specs.Canonical.{IsCanonicalFormula}
 use Rattle.theory_typing.specs.Contexts as contexts
-use Rattle.theory_typing.specs.Contexts.{en_heap, en_term, Context, Environment}
+use Rattle.theory_typing.specs.Contexts.{Context, Environment}
 use Rattle.theory_typing.specs.Typing.{FormsFormula}
 use Rattle.theory_logic_rules.specs.Sequents.{SameFormula, put_heap, below_greatest}
 use Rattle.theory_logic_rules.specs.Rules.{Infers, Proves, ProvesBlock, infers_hyp, infers_first, infers_second, infers_app, infers_inst_term, infers_inst_heap}

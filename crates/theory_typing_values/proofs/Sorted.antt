@@ -14,7 +14,6 @@ use Rattle.theory_formed_typing.proofs.Terms.{given_term}
 use Rattle.theory_formed_typing.proofs.Fitted.{mono_fitted, mono_formed}
 use Rattle.theory_formed_typing.proofs.Ends.{environment_ends}
 use Rattle.theory_items_sound.specs.Environments.{SoundEnvironment}
-use Rattle.theory_formed_items.specs.Environments.{IsFormedEnvironment}
 use Rattle.theory_formed_items.proofs.Sound.{formed_sound}
 use Rattle.theory_typing_values.specs.FirstOrder.{IsFirstOrder, fo_none, fo_mono, fo_heap, fo_value, sorts_of}
 use Rattle.theory_typing_values.specs.Laws.{TypedValues, FormedIsSorted}
