@@ -1,5 +1,5 @@
 -- An item gives at most one environment and one list of obligations, and keeps the environment canonical.
-use Rattle.std.proofs.Common.{◌≡◌, ℕ, zero, suc, ◌⊎◌, inl, inr, List, [], ◌∷◌, ◌++◌, All, map, Some, slice_get, refl, sym, subst}
+use Rattle.std.proofs.Common.{◌≡◌, ℕ, zero, suc, ◌⊎◌, inl, inr, List, [], ◌∷◌, ◌++◌, All, map, Some, None, slice_get, refl, sym, subst}
 use Rattle.std.proofs.lemmas.List.{map-append}
 use Rattle.std.proofs.lemmas.Option.{same_Some}
 use Rattle.htt_syntax.specs.Trees.{TyTree, TermTree}
@@ -15,8 +15,10 @@ use Rattle.theory_typing_canonical.proofs.Entries.{none_owed, mono_canonical}
 use Rattle.theory_typing_canonical.proofs.Typed.{formed_ty, fitted}
 use Rattle.theory_items.specs.Items.{ItemTree, with_def, with_val, with_rec, Derives, derives_abbreviation, derives_pred, derives_def, derives_val, derives_rec}
 use Rattle.theory_items.specs.Laws.{ItemsGiveOne, ItemsKeepCanonical}
-use Rattle.theory_items.proofs.Environments.{none_is_some}
 use Rattle.theory_items.proofs.MoreHeads.{has_more, ty_more, term_more}
+
+none_is_some : {A : Type 0} {x : A} → None ≡ Some x → ⊥
+none_is_some e = cc
 
 items_once : (env : Environment) (item : ItemTree) (next other : Environment) (o p : List Obligation)
     → Derives env item next o

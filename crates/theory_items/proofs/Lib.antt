@@ -1,4 +1,3 @@
 pub mod MoreHeads
-pub mod Environments
 pub mod Derived
 pub mod Worked

@@ -1,13 +1,12 @@
 -- The declarations of a file but for its proofs, each in the environment of those before it: what it
 -- adds to the environment, and what it owes. Premises have the written order.
 use Rattle.std.specs.Prelude.{◌≡◌, ℕ, zero, suc, ◌+◌, List, [], ◌∷◌, ◌++◌, length, All}
-use Rattle.htt_syntax.specs.Trees.{MonoTree, TyTree, TermTree, FormulaTree, y_mono, t_var}
+use Rattle.htt_syntax.specs.Trees.{MonoTree, TyTree, TermTree, FormulaTree, y_mono, m_word, t_var}
 use Rattle.theory_truth.specs.Predicates.{RecTree}
 use Rattle.theory_truth.specs.Atoms.{AtomsMeet}
 use Rattle.theory_typing.specs.Contexts.{en_mono, en_heap, en_term, Context, Environment, FormsMono, Obligation}
 use Rattle.theory_typing.specs.Contexts.{EndsInHoare}
 use Rattle.theory_typing.specs.Typing.{in_program, FormsTy, FormsFormula, Fits}
-use Rattle.theory_formed.specs.Environments.{zero_context, next_context}
 
 -- An abbreviation of a monotype; a predicate with so many monotypes, its parameters, each under the
 -- monotypes and the parameters before it, and its body under all and the heap; a definition; a value; a
@@ -31,6 +30,19 @@ pub data FormsParams : Context → List MonoTree → Context → Type 0 where
       → FormsMono g t
       → FormsParams (en_term (y_mono t) ∷ g) ts h
       → FormsParams g (t ∷ ts) h
+
+-- a context with entries of these monotypes more, the first of them outermost
+abbrev pub with_params : Context → List MonoTree → Context
+with_params g [] = g
+with_params g (t ∷ ts) = with_params (en_term (y_mono t) ∷ g) ts
+
+-- what the two bodies of a recursive predicate stand under: its parameters and then the heap; and above
+-- 0 the index less one before them
+abbrev pub zero_context : List MonoTree → Context
+zero_context params = en_heap ∷ with_params [] params
+
+abbrev pub next_context : List MonoTree → Context
+next_context params = en_heap ∷ with_params (en_term (y_mono m_word) ∷ []) params
 
 abbrev pub with_def : Environment → TyTree → TermTree → Environment
 with_def env ty term = record { vals = env.vals; defs = env.defs ++ (ty, term) ∷ []; recs = env.recs }

@@ -1,18 +1,9 @@
 -- The laws of environments and items.
 use Rattle.std.specs.Prelude.{◌≡◌, List}
-use Rattle.theory_typing.specs.Contexts.{Context, Environment, Obligation}
-use Rattle.theory_typing_canonical.specs.Environments.{heads_of, IsCanonicalEnvironment, IsCanonicalContext}
+use Rattle.theory_typing.specs.Contexts.{Environment, Obligation}
+use Rattle.theory_typing_canonical.specs.Environments.{heads_of, IsCanonicalEnvironment}
 use Rattle.theory_typing_canonical.specs.Laws.{AreCanonical}
-use Rattle.theory_formed.specs.Formed.{file_shapes}
-use Rattle.theory_formed.specs.Environments.{IsFormedContext, IsFormedEnvironment}
 use Rattle.theory_items.specs.Items.{ItemTree, Derives}
-
--- a formed environment and a formed context are canonical, so what the typing rules give in it is canonical
-pub record FormedGivesCanonical : Type 0 where
-  pub environment : (env : Environment) → IsFormedEnvironment env → IsCanonicalEnvironment env
-  pub context : (env : Environment) (g : Context)
-      → IsFormedContext (file_shapes env) g
-      → IsCanonicalContext (heads_of env) g
 
 -- an item gives at most one environment and at most one list of obligations
 abbrev pub ItemsGiveOne : Type 0

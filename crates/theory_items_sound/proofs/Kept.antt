@@ -10,20 +10,20 @@ use Rattle.theory_truth.specs.Atoms.{IsFounded}
 use Rattle.theory_canonical.specs.Skeletons.{skeleton}
 use Rattle.theory_canonical.specs.Contexts.{Standing, Heads}
 use Rattle.theory_canonical.specs.Canonical.{IsCanonicalMono, n_m_word, n_mono, IsCanonicalFormula}
-use Rattle.theory_typing_shapes.specs.Shapes.{shape_of}
-use Rattle.theory_typing_shapes.specs.Typed.{Typed}
+use Rattle.theory_formed_shapes.specs.Shapes.{shape_of}
+use Rattle.theory_formed_shapes.specs.Formed.{file_shapes, IsFormedTerm}
+use Rattle.theory_formed_shapes.proofs.More.{term_more}
+use Rattle.theory_formed_typing.proofs.Terms.{fit_term}
 use Rattle.theory_typing.specs.Contexts.{Context, Environment, FormsMono, Obligation, EndsInHoare, en_term}
-use Rattle.theory_formed.specs.Environments.{with_params, zero_context, next_context}
 use Rattle.theory_typing_canonical.specs.Environments.{standings, heads_of, IsCanonicalEnvironment, IsCanonicalContext, no_entry, heap_entry, term_entry}
 use Rattle.theory_typing_canonical.proofs.Entries.{closed_mono, mono_canonical}
 use Rattle.theory_typing_canonical.proofs.Typed.{formed_ty, formed_formula}
-use Rattle.theory_typing_values.proofs.TypedForms.{fits_typed}
-use Rattle.theory_items.specs.Items.{ItemTree, with_def, with_val, with_rec, Derives, derives_abbreviation, derives_pred, derives_def, derives_val, derives_rec}
+use Rattle.theory_items.specs.Items.{with_params, zero_context, next_context, ItemTree, with_def, with_val, with_rec, Derives, derives_abbreviation, derives_pred, derives_def, derives_val, derives_rec}
 use Rattle.theory_items.proofs.Derived.{items_keep_canonical}
 use Rattle.theory_items.proofs.MoreHeads.{has_more, formula_more}
 use Rattle.theory_items_sound.specs.Environments.{IsSoundRec, SoundEnvironment}
 use Rattle.theory_items_sound.specs.Laws.{ItemsKeepSound}
-use Rattle.theory_items_sound.proofs.Sorts.{type_sorted, shapes_sound}
+use Rattle.theory_items_sound.proofs.Files.{val_file, rec_file}
 use Rattle.theory_items_sound.proofs.Founded.{no_element, earlier_atoms, next_atoms}
 
 -- what is found in a list with one more at the end
@@ -55,14 +55,14 @@ module _ (env : Environment) (sound : SoundEnvironment env) where
   -- one definition more
   def_kept : (ty' : TyTree) (term' : TermTree)
       → IsCanonicalEnvironment (with_def env ty' term')
-      → Typed [] term' (shape_of ty')
+      → IsFormedTerm (file_shapes env) [] term' (shape_of ty')
       → SoundEnvironment (with_def env ty' term')
-  def_kept ty' term' known typed = record {
+  def_kept ty' term' known formed = record {
     canonical = known;
     vals_end = sound.vals_end;
-    defs_typed = λ number definition e. elim (found_in env.defs (ty', term') number definition e) [
-      | inl f ↦ sound.defs_typed number definition f
-      | inr (p, f) ↦ subst (λ (d : TyTree × TermTree). Typed [] (d.1) (shape_of (d.0))) f typed
+    defs_formed = λ number definition e. elim (found_in env.defs (ty', term') number definition e) [
+      | inl f ↦ sound.defs_formed number definition f
+      | inr (p, f) ↦ subst (λ (d : TyTree × TermTree). IsFormedTerm (file_shapes env) [] (d.1) (shape_of (d.0))) f formed
     ];
     recs_sound = sound.recs_sound;
     recs_founded = sound.recs_founded;
@@ -81,7 +81,7 @@ module _ (env : Environment) (sound : SoundEnvironment env) where
   val_kept ty known ends = record {
     canonical = known;
     vals_end = λ number other e. elim (found_in env.vals ty number other e) [ inl f ↦ sound.vals_end number other f | inr (p, f) ↦ subst EndsInHoare f ends ];
-    defs_typed = sound.defs_typed;
+    defs_formed = λ number definition e. term_more (val_file env ty) (sound.defs_formed number definition e);
     recs_sound = λ number r e.
         let s = sound.recs_sound number r e in
         record {
@@ -100,7 +100,7 @@ module _ (env : Environment) (sound : SoundEnvironment env) where
   rec_kept r known s founded = record {
     canonical = known;
     vals_end = sound.vals_end;
-    defs_typed = sound.defs_typed;
+    defs_formed = λ number definition e. term_more (rec_file env r) (sound.defs_formed number definition e);
     recs_sound = λ number other e. elim (found_in env.recs r number other e) [
       | inl f ↦ sound.recs_sound number other f
       | inr (p, f) ↦ subst (IsSoundRec (heads_of env)) f s
@@ -131,7 +131,7 @@ module _ (env : Environment) (sound : SoundEnvironment env) where
   kept (derives_pred a b) = sound
   kept {next = next} {item = item} {o = o} (derives_def {ty' = ty'} {term' = term'} a b) =
       def_kept ty' term' (items_keep_canonical.environment env next item o sound.canonical (derives_def a b))
-      (fits_typed b (shapes_sound sound) tt (type_sorted [] (formed_ty env sound.canonical no_entry a)))
+      (fit_term env sound.canonical sound.defs_formed b no_entry (formed_ty env sound.canonical no_entry a))
   kept {next = next} {item = item} {o = o} (derives_val {ty' = ty'} a ends b) =
       val_kept ty' (items_keep_canonical.environment env next item o sound.canonical (derives_val a ends b)) ends
   kept (derives_rec {r = r} {at_zero = at_zero} {at_next = at_next} f a b i) =
@@ -157,7 +157,7 @@ items_keep_sound = record {
       rec_params = λ n r q. absurd (nothing_there n q);
     };
     vals_end = λ n ty q. absurd (nothing_there n q);
-    defs_typed = λ n d q. absurd (nothing_there n q);
+    defs_formed = λ n d q. absurd (nothing_there n q);
     recs_sound = λ n r q. absurd (nothing_there n q);
     recs_founded = λ n r q. absurd (nothing_there n q);
   };

@@ -11,8 +11,8 @@ use Rattle.theory_canonical.specs.Canonical.{IsCanonicalFormula}
 use Rattle.theory_canonical.specs.Folding.{folding}
 use Rattle.theory_typing.specs.Worlds.{IsWorldOf}
 use Rattle.theory_typing.specs.Contexts.{Context, Environment}
-use Rattle.theory_formed.specs.Shapes.{context_shape}
-use Rattle.theory_formed.specs.Formed.{file_shapes, IsFormedFormula}
+use Rattle.theory_formed_shapes.specs.Shapes.{shapes_of}
+use Rattle.theory_formed_shapes.specs.Formed.{file_shapes, IsFormedFormula}
 use Rattle.theory_logic_axioms.specs.Names.{AxiomName}
 use Rattle.theory_logic_axioms.specs.Table.{ArgSort, heap_sort, term_sort, argument_sorts, IsInstance}
 use Rattle.theory_logic_rules.specs.Sequents.{PutArgs, terms_of, FitsArgs, below_greatest, both_ways}
@@ -20,7 +20,7 @@ use Rattle.theory_logic_rules.specs.Rules.{Infers, Proves}
 use Rattle.theory_logic_sorts.specs.Sorts.{SortedFormula}
 use Rattle.theory_logic_sorts.specs.Laws.{standings_of_sorts}
 use Rattle.theory_typing_values.specs.FirstOrder.{IsFirstOrder, sorts_of}
-use Rattle.theory_formed.specs.Environments.{IsFormedEnvironment}
+use Rattle.theory_formed_items.specs.Environments.{IsFormedEnvironment}
 use Rattle.theory_logic_true.specs.Sequents.{Each, AreSorted, AreFormed, AreTrue}
 
 -- An instance of an axiom at the canonical forms of arguments that fit its sorts.
@@ -105,7 +105,7 @@ pub record ProvedIsTrue : Type 0 where
       → IsFirstOrder g
       → (hypotheses : List FormulaTree) (goal : FormulaTree)
       → AreFormed env g hypotheses
-      → IsFormedFormula (file_shapes env) (context_shape g) goal
+      → IsFormedFormula (file_shapes env) (shapes_of g) goal
       → (p : ProofTree)
       → Proves env g hypotheses p goal
       → (w : World)
@@ -130,7 +130,7 @@ pub record ProvedIsTrue : Type 0 where
       → (g : Context)
       → IsFirstOrder g
       → (goal : FormulaTree)
-      → IsFormedFormula (file_shapes env) (context_shape g) goal
+      → IsFormedFormula (file_shapes env) (shapes_of g) goal
       → (p : ProofTree)
       → Proves env g [] p goal
       → (w : World)

@@ -9,7 +9,7 @@ use Rattle.theory_typing.specs.Worlds.{IsWorldOf}
 use Rattle.theory_typing.specs.Typing.{Mode, FormsFormula, Gives, Fits}
 use Rattle.theory_logic_sorts.specs.Sorts.{SortedTerm, SortedFormula}
 use Rattle.theory_typing_values.specs.FirstOrder.{IsFirstOrder, sorts_of}
-use Rattle.theory_formed.specs.Environments.{IsFormedEnvironment}
+use Rattle.theory_formed_items.specs.Environments.{IsFormedEnvironment}
 
 -- In a first-order context no variable has another type than a monotype.
 pub record FirstOrderContexts : Type 0 where

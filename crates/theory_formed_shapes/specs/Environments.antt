@@ -16,6 +16,13 @@ pub data IsFormedContext (file : FileShapes) : Context → Type 0 where
       → IsFormedTy file (shapes_of g) ty
       → IsFormedContext file (en_term ty ∷ g)
 
+-- the terms of definitions have the shapes of their types
+abbrev pub DefinitionsFormed : Environment → Type 0
+DefinitionsFormed env =
+    (number : ℕ) (definition : TyTree × TermTree)
+    → slice_get env.defs number ≡ Some definition
+    → IsFormedTerm (file_shapes env) [] (definition.1) (shape_of (definition.0))
+
 -- The types of values and definitions are formed without entries, terms of definitions have the shapes of
 -- their types, and the parameters of recursive predicates are closed.
 pub record FormsEnvironment (env : Environment) : Type 0 where
@@ -23,7 +30,5 @@ pub record FormsEnvironment (env : Environment) : Type 0 where
   pub def_types : (number : ℕ) (definition : TyTree × TermTree)
       → slice_get env.defs number ≡ Some definition
       → IsFormedTy (file_shapes env) [] (definition.0)
-  pub def_terms : (number : ℕ) (definition : TyTree × TermTree)
-      → slice_get env.defs number ≡ Some definition
-      → IsFormedTerm (file_shapes env) [] (definition.1) (shape_of (definition.0))
+  pub def_terms : DefinitionsFormed env
   pub rec_params : (number : ℕ) (r : RecTree) → slice_get env.recs number ≡ Some r → All (IsFormedMono []) r.params
