@@ -53,7 +53,7 @@ set_forgets = record {
           (
             single_is_only 5 (7 ∷ []),
             (
-              λ d. d (7 ∷ [], refl, single_is_only 5 (7 ∷ [])),
+              (7 ∷ [], refl, single_is_only 5 (7 ∷ [])),
               (with_nothing seven_at_five, (single_is_only 5 (8 ∷ []), with_nothing eight)),
             ),
           ),

@@ -2,7 +2,7 @@
 use Rattle.std.proofs.Common.{[], ◌∷◌}
 use Rattle.htt_syntax.specs.Trees.{MonoTree, m_unit, f_ff}
 use Rattle.theory_values.specs.Values.{IsClosed, closed_word, closed_bool, closed_loc, closed_unit, closed_pair}
-use Rattle.theory_values.specs.Heaps.{IsHeap, empty_heap}
+use Rattle.theory_values.specs.Heaps.{empty_heap}
 use Rattle.theory_values.proofs.Encoding.{closed_has_value}
 use Rattle.theory_truth.specs.Worlds.{World, th_mono, th_value, th_heap, mono_under}
 use Rattle.theory_truth.specs.Truth.{Holds}

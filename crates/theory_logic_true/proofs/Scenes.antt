@@ -17,7 +17,7 @@ use Rattle.theory_typing.specs.Contexts.{forms_loc, forms_unit, forms_pair, form
 use Rattle.theory_logic_rules.specs.Sequents.{raised}
 use Rattle.theory_logic_sorts.specs.Sorts.{for_mono, for_value, for_heap, HasSort, SortedMono, SortedFormula}
 use Rattle.theory_logic_sorts.proofs.Renamed as sorting
-use Rattle.theory_typing_values.specs.FirstOrder.{IsFirstOrder, fo_none, fo_mono, fo_heap, fo_value, sorts_of}
+use Rattle.theory_typing_values.specs.FirstOrder.{IsFirstOrder, fo_heap, fo_value, sorts_of}
 use Rattle.theory_typing_values.proofs.Formed.{SortedContext}
 use Rattle.theory_typing_values.proofs.Sorted.{context_sorted}
 use Rattle.theory_logic_true.specs.Sequents.{Each, AreSorted, AreTrue}

@@ -125,16 +125,16 @@ mutual
   infers_true {env = env} {g = g}
       (infers_axiom axiom_name {monos = monos} {sorts = sorts} {arguments = args} {arguments' = values} {F = F} text m shaped side sorted
       fits row) f {w = w} s =
-      arguments.instances env f g s.entries s.first_order axiom_name monos sorts args values shaped fits F
+      arguments.instances env f g s.first_order axiom_name monos sorts args values shaped fits F
       (record { side_condition = side; row = row }) w s.world
   infers_true {env = env} (infers_lem {F' = F'} p) f {w = w} s = classical.excluded_middle env.recs w F'
   infers_true (infers_the p q) f s = proves_true q f s (formed_in p f s)
   infers_true {env = env} {g = g}
       (infers_at_zero {number = number} {r = r} {h = h} {arguments = args} {values = values} {F = F} e sorted fits put) f {w = w} s =
-      unfolds_at_zero env f g s.entries s.first_order number r e h args values fits F put w s.world
+      unfolds_at_zero env f g s.first_order number r e h args values fits F put w s.world
   infers_true {env = env} {g = g}
       (infers_at_next {number = number} {r = r} {h = h} {m = m} {arguments = args} {values = values} {F = F} e sorted fits put) f {w = w} s
-      = unfolds_at_next env f g s.entries s.first_order number r e h m args values fits F put w s.world
+      = unfolds_at_next env f g s.first_order number r e h m args values fits F put w s.world
   infers_true (infers_at p) f s = infers_true p f s
 
   pub proves_true : {env : Environment} {g : Context} {hs : List FormulaTree} {p : ProofTree} {G : FormulaTree}
