@@ -16,8 +16,8 @@ use Rattle.theory_logic_axioms.specs.Names.{block_width, add_comm, mul_comm, add
 use Rattle.theory_logic_axioms.specs.Names.{lt_irrefl, lt_zero, lt_trans, lt_total, lt_step, lt_gap, lt_pred, eq_yes, eq_no, bool_or, bool_ne, pair_eta}
 use Rattle.theory_logic_axioms.specs.Names.{unit_eta, and_zero, or_zero, xor_self, shl_one}
 use Rattle.theory_substitution.specs.Closing.{up}
-use Rattle.theory_logic_axioms.specs.Table.{argument_sorts, SideCondition, formula_of}
-use Rattle.theory_logic_axioms_true.specs.Laws.{AreOfShape, AxiomsAreTrue}
+use Rattle.theory_logic_axioms.specs.Table.{ArgSort, argument_sorts, SideCondition, formula_of}
+use Rattle.theory_logic_axioms_true.specs.Laws.{AreOfSorts, AreOfShape, AxiomsAreTrue}
 use Rattle.theory_logic_axioms_true.proofs.Values.{as_loc, as_unit}
 use Rattle.theory_logic_axioms_true.proofs.WordAxioms.{sum_commutes, product_commutes, sum_regroups, product_regroups, zero_added, times_one, times_zero}
 use Rattle.theory_logic_axioms_true.proofs.WordAxioms.{product_of_sum, difference_and_sum, sum_and_difference, not_below_itself, not_below_zero, transitive}
@@ -144,6 +144,12 @@ true_at R w _ _ _ _ _ = tt
 given : (P : FormulaTree → Type 0) (o : Option FormulaTree) (F : FormulaTree) → o ≡ Some F → IfSome o P → P F
 given P None F e p = let f : None ≡ Some F = e in cc
 given P (Some G) F e p = subst P (let f : Some G ≡ Some F = e in cc) p
+
+pub of_shape : (w : World) (o : Option (List ArgSort)) (sorts : List ArgSort) (values : List ArgTree)
+    → o ≡ Some sorts
+    → AreOfSorts w sorts values
+    → AreOfShape w o values
+of_shape w o sorts values e d = subst (λ (o : Option (List ArgSort)). AreOfShape w o values) (sym e) d
 
 pub axioms : AxiomsAreTrue
 axioms table w axiom_name monos arguments shaped F i =

@@ -1,25 +1,26 @@
 -- Arguments that fit sorts: their values, their sorts, and instances of axioms at them.
-use Rattle.std.proofs.Common.{◌≡◌, ℕ, List, [], ◌∷◌, ◌++◌, Option, Some, IfSome, sym, subst}
+use Rattle.std.proofs.Common.{◌≡◌, ℕ, List, [], ◌∷◌, ◌++◌, Option, Some, IfSome, subst}
 use Rattle.htt_syntax.specs.Trees.{MonoTree, TermTree, FormulaTree, ArgTree, y_mono, a_heap, a_term}
 use Rattle.theory_values.specs.Values.{HasType}
 use Rattle.theory_truth.specs.Worlds.{World, mono_under}
 use Rattle.theory_truth.specs.TermValue.{term_value}
+use Rattle.theory_truth.specs.Truth.{Holds}
+use Rattle.theory_truth.specs.Predicates.{recs_of}
 use Rattle.theory_typing.specs.Worlds.{IsWorldOf}
 use Rattle.theory_typing.specs.Contexts.{Context, Environment, Obligation}
 use Rattle.theory_typing.specs.Typing.{Mode, Fits}
 use Rattle.theory_logic_axioms.specs.Names.{AxiomName}
-use Rattle.theory_logic_axioms.specs.Table.{ArgSort, argument_sorts, formula_of}
+use Rattle.theory_logic_axioms.specs.Table.{ArgSort, argument_sorts, formula_of, IsInstance}
 use Rattle.theory_logic_rules.specs.Sequents.{terms_of, FormsMonos, forms_no_monos, forms_more_monos, FitsArgs, fits_no_args, fits_heap_arg, fits_term_arg}
 use Rattle.theory_logic_sorts.specs.Sorts.{Sorts, for_heap, HasSort, SortedTerms, SortedFormula, AreSortedMonos, AreSortedArgs}
 use Rattle.theory_logic_sorts.proofs.Instances.{instance_sorted}
-use Rattle.theory_logic_axioms_true.specs.Laws.{AreOfSorts, AreOfShape}
-use Rattle.theory_logic_axioms_true.proofs.True.{axioms}
+use Rattle.theory_logic_axioms_true.specs.Laws.{AreOfSorts}
+use Rattle.theory_logic_axioms_true.proofs.True.{axioms, of_shape}
 use Rattle.theory_typing_values.specs.FirstOrder.{IsFirstOrder, sorts_of}
 use Rattle.theory_formed_items.specs.Environments.{IsFormedEnvironment}
 use Rattle.theory_typing_values.proofs.Formed.{SortedContext, mono_formed}
 use Rattle.theory_items_sound.specs.Environments.{SoundEnvironment}
 use Rattle.theory_typing_values.proofs.Sorted.{values, term_sorted}
-use Rattle.theory_logic_true.specs.Laws.{InstancesAreTrue}
 use Rattle.theory_logic_true.proofs.Scenes.{heap_there, heap_entry}
 
 -- a term that fits a monotype has a value of it
@@ -56,14 +57,20 @@ pub monos_sorted : {g : Context} {monos : List MonoTree} → FormsMonos g monos 
 monos_sorted forms_no_monos = tt
 monos_sorted (forms_more_monos m rest) = (mono_formed m, monos_sorted rest)
 
-of_shape : (w : World) (o : Option (List ArgSort)) (sorts : List ArgSort) (values : List ArgTree)
-    → o ≡ Some sorts
-    → AreOfSorts w sorts values
-    → AreOfShape w o values
-of_shape w o sorts values e d = subst (λ (o : Option (List ArgSort)). AreOfShape w o values) (sym e) d
-
-pub instances : InstancesAreTrue
-instances env f g p axiom_name monos sorts arguments values e d F i w q =
+-- an instance at the canonical forms of arguments that fit
+pub instance_true : (env : Environment)
+    → IsFormedEnvironment env
+    → (g : Context)
+    → IsFirstOrder g
+    → (axiom_name : AxiomName) (monos : List MonoTree) (sorts : List ArgSort) (arguments values : List ArgTree)
+    → argument_sorts axiom_name monos ≡ Some sorts
+    → FitsArgs env g arguments sorts values
+    → (F : FormulaTree)
+    → IsInstance axiom_name monos values F
+    → (w : World)
+    → IsWorldOf g w
+    → Holds (recs_of env.recs) w F
+instance_true env f g p axiom_name monos sorts arguments values e d F i w q =
     axioms env.recs w axiom_name monos values (of_shape w (argument_sorts axiom_name monos) sorts values e (args_valued d f p q)) F i
 
 given : (P : FormulaTree → Type 0) (o : Option FormulaTree) (F : FormulaTree) → o ≡ Some F → IfSome o P → P F

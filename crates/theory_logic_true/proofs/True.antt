@@ -125,7 +125,7 @@ mutual
   infers_true {env = env} {g = g}
       (infers_axiom axiom_name {monos = monos} {sorts = sorts} {arguments = args} {arguments' = values} {F = F} text m shaped side sorted
       fits row) f {w = w} s =
-      arguments.instances env f g s.first_order axiom_name monos sorts args values shaped fits F
+      arguments.instance_true env f g s.first_order axiom_name monos sorts args values shaped fits F
       (record { side_condition = side; row = row }) w s.world
   infers_true {env = env} (infers_lem {F' = F'} p) f {w = w} s = classical.excluded_middle env.recs w F'
   infers_true (infers_the p q) f s = proves_true q f s (formed_in p f s)

@@ -1,7 +1,7 @@
 -- What is proved is true.
 use Rattle.std.specs.Prelude.{◌≡◌, ℕ, List, [], ◌∷◌, ◌++◌, map, Some, slice_get}
 use Rattle.htt_syntax.specs.declared.mono.Op.TheVariants.{Add}
-use Rattle.htt_syntax.specs.Trees.{MonoTree, TermTree, FormulaTree, ArgTree, ProofTree, m_word, t_word, t_bin, f_ff}
+use Rattle.htt_syntax.specs.Trees.{TermTree, FormulaTree, ArgTree, ProofTree, m_word, t_word, t_bin, f_ff}
 use Rattle.htt_syntax.specs.Trees.{f_imp, f_rec, a_heap, a_term}
 use Rattle.theory_truth.specs.Worlds.{World}
 use Rattle.theory_truth.specs.Truth.{Holds}
@@ -13,8 +13,7 @@ use Rattle.theory_typing.specs.Worlds.{IsWorldOf}
 use Rattle.theory_typing.specs.Contexts.{Context, Environment}
 use Rattle.theory_formed_shapes.specs.Shapes.{shapes_of}
 use Rattle.theory_formed_shapes.specs.Formed.{file_shapes, IsFormedFormula}
-use Rattle.theory_logic_axioms.specs.Names.{AxiomName}
-use Rattle.theory_logic_axioms.specs.Table.{ArgSort, heap_sort, term_sort, argument_sorts, IsInstance}
+use Rattle.theory_logic_axioms.specs.Table.{heap_sort, term_sort}
 use Rattle.theory_logic_rules.specs.Sequents.{PutArgs, terms_of, FitsArgs, below_greatest, both_ways}
 use Rattle.theory_logic_rules.specs.Rules.{Infers, Proves}
 use Rattle.theory_logic_sorts.specs.Sorts.{SortedFormula}
@@ -22,22 +21,6 @@ use Rattle.theory_logic_sorts.specs.Laws.{standings_of_sorts}
 use Rattle.theory_typing_values.specs.FirstOrder.{IsFirstOrder, sorts_of}
 use Rattle.theory_formed_items.specs.Environments.{IsFormedEnvironment}
 use Rattle.theory_logic_true.specs.Sequents.{Each, AreSorted, AreFormed, AreTrue}
-
--- An instance of an axiom at the canonical forms of arguments that fit its sorts.
-abbrev pub InstancesAreTrue : Type 0
-InstancesAreTrue =
-    (env : Environment)
-    → IsFormedEnvironment env
-    → (g : Context)
-    → IsFirstOrder g
-    → (axiom_name : AxiomName) (monos : List MonoTree) (sorts : List ArgSort) (arguments values : List ArgTree)
-    → argument_sorts axiom_name monos ≡ Some sorts
-    → FitsArgs env g arguments sorts values
-    → (F : FormulaTree)
-    → IsInstance axiom_name monos values F
-    → (w : World)
-    → IsWorldOf g w
-    → Holds (recs_of env.recs) w F
 
 -- Both forms of unfolding a recursive predicate of a heap and values.
 pub record UnfoldingsAreTrue : Type 0 where

@@ -3,15 +3,10 @@
 #![tactic(auto)]
 
 ghost use Rattle.theory_logic_true.specs.Examples.{SortsAreNeeded, WorkedExamples};
-ghost use Rattle.theory_logic_true.specs.Laws.{InferredIsTrue, InstancesAreTrue, ProofsAreConsistent, ProvedIsTrue, UnfoldingsAreTrue};
+ghost use Rattle.theory_logic_true.specs.Laws.{InferredIsTrue, ProofsAreConsistent, ProvedIsTrue, UnfoldingsAreTrue};
 ghost use Rattle.theory_logic_true.specs.WrongCase.{BranchesNeedTheirOwn};
 
-/// Each instance of an axiom at typed arguments is true in each world of the context.
-pub fn instances_are_true()
-    ensures law { InstancesAreTrue }
-{}
-
-/// So is what a recursive predicate says at 0 and at a next word.
+/// What a recursive predicate says at 0 and at a next word is true in each world of the context.
 pub fn unfoldings_are_true()
     ensures law { UnfoldingsAreTrue }
 {}
