@@ -50,18 +50,21 @@ number_stable n k = by_cases (cases_eq n k)
 pub some_is_one : {b c : Block} → Some b ≡ Some c → b ≡ c
 some_is_one e = cc
 
-no_block : {h : Heap} {l n : ℕ} → h l ≡ None → IsBlock h l n → ⊥
-no_block e p = let f : None ≡ Some p.0 = sym e ∙ p.2.here in cc
+no_block : (h : Heap) (l n : ℕ) → h l ≡ None → IsBlock h l n → ⊥
+no_block h l n e p = let f : None ≡ Some p.0 = sym e ∙ p.2.here in cc
 
 -- the block of a heap that is one is the block that stands there
-that_block : {h : Heap} {l n : ℕ} {b : Block} → h l ≡ Some b → IsBlock h l n → (length b ≡ n) × IsOnly h l b
-that_block {h = h} {l = l} {n = n} e p =
-    let f = some_is_one (sym p.2.here ∙ e) in (subst (λ (c : Block). length c ≡ n) f p.1, subst (IsOnly h l) f p.2)
+that_block : (h : Heap) (l n : ℕ) (b : Block) → h l ≡ Some b → IsBlock h l n → (length b ≡ n) × IsOnly h l b
+that_block h l n b e p =
+    let f : p.0 ≡ b = some_is_one (sym p.2.here ∙ e) in (subst (λ (c : Block). length c ≡ n) f p.1, subst (IsOnly h l) f p.2)
 
 stands_stable : (h : Heap) (l n : ℕ) (there : Option Block) → h l ≡ there → Stable (IsBlock h l n)
-stands_stable h l n None e deny = absurd (deny (no_block e))
-stands_stable h l n (Some b) e deny =
-    (b, number_stable _ _ (λ k. deny (λ p. k (that_block e p).0)), only_stable _ _ _ (λ k. deny (λ p. k (that_block e p).1)))
+stands_stable h l n None e deny = absurd (deny (no_block h l n e))
+stands_stable h l n (Some b) e deny = (
+  b,
+  number_stable _ _ (λ k. deny (λ p. k (that_block h l n b e p).0)),
+  only_stable _ _ _ (λ k. deny (λ p. k (that_block h l n b e p).1)),
+)
 
 pub is_block_stable : (h : Heap) (l n : ℕ) → Stable (IsBlock h l n)
 is_block_stable h l n = stands_stable h l n (h l) refl
