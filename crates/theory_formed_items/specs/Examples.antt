@@ -15,7 +15,7 @@ pub record WorkedExamples : Type 0 where
   -- a value of a word, a predicate that isn't founded, and a word that is a truth value or a computation
   pub value_of_word : IsFormedEnvironment (record { vals = y_mono m_word ∷ []; defs = []; recs = [] }) → ⊥
   pub not_founded : IsFormedEnvironment (record { vals = []; defs = []; recs = not_less ∷ [] }) → ⊥
-  pub other_monotype :
-      IsFormedEnvironment (record { vals = []; defs = (y_mono m_word, t_bool true) ∷ []; recs = [] }) → ⊥
+  pub other_monotype : IsFormedEnvironment (record { vals = []; defs = (y_mono m_word, t_bool true) ∷ []; recs = [] })
+      → ⊥
   pub other_shape :
       IsFormedEnvironment (record { vals = []; defs = (y_mono m_word, t_do (c_ret (t_word 1))) ∷ []; recs = [] }) → ⊥

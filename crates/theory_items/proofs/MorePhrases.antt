@@ -87,11 +87,16 @@ module _ {env more : Environment} (k : HasDeclarations env more) where
     pub body_more : {g : Context} {E R : CompTree} {spec : TripleTree} {o : List Obligation} → FitsBody env g E spec R o → FitsBody more g E spec R o
     body_more (fits_body a) = fits_body (runs_more a)
 
-    pub runs_more : {g : Context} {t : MonoTree} {state end : FormulaTree} {E R : CompTree} {zs : List MonoTree} {value : TermTree} {o : List Obligation} → Runs env g t state E end zs value R o → Runs more g t state E end zs value R o
+    pub runs_more : {g : Context} {t : MonoTree} {state end : FormulaTree} {E R : CompTree} {zs : List MonoTree} {value : TermTree}
+        {o : List Obligation}
+        → Runs env g t state E end zs value R o
+        → Runs more g t state E end zs value R o
     runs_more (runs_ret a) = runs_ret (fit_more a)
     runs_more (runs_step a b c) = runs_step (moves_more a) (runs_more b) c
 
-    pub moves_more : {g : Context} {state next : FormulaTree} {step : StepTree} {t : MonoTree} {part : Part} {o : List Obligation} → Moves env g state step t next part o → Moves more g state step t next part o
+    pub moves_more : {g : Context} {state next : FormulaTree} {step : StepTree} {t : MonoTree} {part : Part} {o : List Obligation}
+        → Moves env g state step t next part o
+        → Moves more g state step t next part o
     moves_more (moves_alloc a b) = moves_alloc a (fit_more b)
     moves_more (moves_get a b) = moves_get a (fit_more b)
     moves_more (moves_set a b c) = moves_set a (fit_more b) (fit_more c)

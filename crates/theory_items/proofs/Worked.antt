@@ -14,7 +14,8 @@ use Rattle.theory_typing.specs.Typing.{gives_var, gives_word, gives_bin, fits_do
 use Rattle.theory_typing.specs.Laws.{none}
 use Rattle.theory_typing.proofs.Once.{formula_formed_once}
 use Rattle.theory_typing.proofs.Worked as typed
-use Rattle.theory_items.specs.Items.{next_context, i_pred, i_val, i_rec, with_rec, params_none, params_more, OwnAtIndex, Derives, derives_pred, derives_def, derives_val}
+use Rattle.theory_items.specs.Items.{next_context, i_pred, i_val, i_rec, with_rec, params_none, params_more, OwnAtIndex, Derives, derives_pred, derives_def}
+use Rattle.theory_items.specs.Items.{derives_val}
 use Rattle.theory_items.specs.Items.{derives_rec}
 use Rattle.theory_items.specs.Examples.{not_less, WorkedExamples}
 

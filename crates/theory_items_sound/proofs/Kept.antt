@@ -17,7 +17,8 @@ use Rattle.theory_typing.specs.Contexts.{Context, Environment, FormsMono, Obliga
 use Rattle.theory_typing_canonical.specs.Environments.{standings, heads_of, IsCanonicalEnvironment, IsCanonicalContext, no_entry, heap_entry, term_entry}
 use Rattle.theory_typing_canonical.proofs.Entries.{closed_mono, mono_canonical}
 use Rattle.theory_typing_canonical.proofs.Typed.{formed_ty, formed_formula}
-use Rattle.theory_items.specs.Items.{with_params, zero_context, next_context, ItemTree, with_def, with_val, with_rec, Derives, derives_abbreviation, derives_pred, derives_def, derives_val, derives_rec}
+use Rattle.theory_items.specs.Items.{with_params, zero_context, next_context, ItemTree, with_def, with_val, with_rec, Derives, derives_abbreviation}
+use Rattle.theory_items.specs.Items.{derives_pred, derives_def, derives_val, derives_rec}
 use Rattle.theory_items.proofs.Derived.{items_keep_canonical}
 use Rattle.theory_items.proofs.Lists.{appended}
 use Rattle.theory_items.proofs.MoreHeads.{has_more, formula_more}

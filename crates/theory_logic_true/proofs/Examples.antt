@@ -27,7 +27,8 @@ use Rattle.theory_logic_rules.proofs.Examples as derivations
 use Rattle.theory_logic_sorts.specs.Sorts.{SortedMono, SortedTerm, SortedFormula}
 use Rattle.theory_typing_values.specs.FirstOrder.{sorts_of, IsFirstOrder, fo_none, fo_value, fo_heap}
 use Rattle.theory_formed_shapes.specs.Shapes.{fill_shape, dropping, shape_of, heap_at_zero, shape_here, shape_there}
-use Rattle.theory_formed_shapes.specs.Formed.{file_shapes, IsFormedMono, z_m_word, IsFormedTerm, z_word, z_bin, z_lam, z_neutral, w_var, z_no_terms, z_more_terms, IsFormedTy, z_mono}
+use Rattle.theory_formed_shapes.specs.Formed.{file_shapes, IsFormedMono, z_m_word, IsFormedTerm, z_word, z_bin, z_lam, z_neutral, w_var, z_no_terms}
+use Rattle.theory_formed_shapes.specs.Formed.{z_more_terms, IsFormedTy, z_mono}
 use Rattle.theory_formed_shapes.specs.Formed.{z_fun, z_hoare, z_triple, z_tt, z_equal, z_rec}
 use Rattle.theory_formed_items.specs.Environments.{IsFormedRec, IsFormedEnvironment}
 use Rattle.theory_logic_true.specs.Examples.{successor, word_to_word, with_definition, one_block, against_its_sort, WorkedExamples, SortsAreNeeded}

@@ -94,7 +94,10 @@ fills_dropped {f = f} {g = g} {w = w} {w' = w'} a x k = record { at = λ n d. go
     go zero b d = elim d [ ]
     go (suc n) b (mono_further d) = k.at n d
 
-mono_entries : {t : MonoTree} {f : Filling} {g : Shapes} {w w' : Valuation} → IsFormedMono g t → FillsEntries f g w w' → mono_in w' (fill_mono f t) ≡ mono_in w t
+mono_entries : {t : MonoTree} {f : Filling} {g : Shapes} {w w' : Valuation}
+    → IsFormedMono g t
+    → FillsEntries f g w w'
+    → mono_in w' (fill_mono f t) ≡ mono_in w t
 unfolding fill_mono
 mono_entries z_m_word k = refl
 mono_entries z_m_bool k = refl
