@@ -20,6 +20,12 @@ with_definitions env defs = record { vals = env.vals; defs = defs; recs = env.re
 itself : (env : Environment) → HasDeclarations env (with_definitions env env.defs)
 itself env = record { vals = λ n x q. q; defs = λ n x q. q; recs = λ n x q. q }
 
+val_more : (env : Environment) (ty : TyTree) (n : ℕ) → HasDeclarations (before_def env n) (before_def (with_val env ty) n)
+val_more env ty n = record { vals = λ k x q. get_more env.vals (ty ∷ []) k x q; defs = λ k x q. q; recs = λ k x q. q }
+
+rec_more : (env : Environment) (r : RecTree) (n : ℕ) → HasDeclarations (before_def env n) (before_def (with_rec env r) n)
+rec_more env r n = record { vals = λ k x q. q; defs = λ k x q. q; recs = λ k x q. get_more env.recs (r ∷ []) k x q }
+
 module _ (env : Environment) (known : AreDefined env) where
   def_kept : {written : TermTree} {owed : List Obligation} (ty : TyTree) (term : TermTree)
       → Fits env in_program [] written ty term owed
@@ -34,10 +40,10 @@ module _ (env : Environment) (known : AreDefined env) where
   ]
 
   val_kept : (ty : TyTree) → AreDefined (with_val env ty)
-  val_kept ty = λ n u q. more_defined (record { vals = λ k x f. get_more env.vals (ty ∷ []) k x f; defs = λ k x f. f; recs = λ k x f. f }) (known n u q)
+  val_kept ty = λ n u q. more_defined (val_more env ty n) (known n u q)
 
   rec_kept : (r : RecTree) → AreDefined (with_rec env r)
-  rec_kept r = λ n u q. more_defined (record { vals = λ k x f. f; defs = λ k x f. f; recs = λ k x f. get_more env.recs (r ∷ []) k x f }) (known n u q)
+  rec_kept r = λ n u q. more_defined (rec_more env r n) (known n u q)
 
   kept : {next : Environment} {item : ItemTree} {o : List Obligation} → Derives env item next o → AreDefined next
   kept (derives_abbreviation a) = known
