@@ -52,7 +52,7 @@ mono_formed (n_m_var {index = index} d) k = z_m_var (k.at index d)
 
 monos_formed : {heads : Heads} {c : List Standing} {g : Shapes} {A : TyTree} → IsCanonicalTy heads c A → MonosStand c g → MonosFormed g A
 monos_formed (n_mono m) k = mono_monos (mono_formed m k)
-monos_formed (n_fun {s = s} {argument = argument} d q e) k = fun_monos (monos_formed d k) (monos_formed e (under_term s (shape_of argument) k))
+monos_formed (n_fun {argument = argument} {s = s} d q e) k = fun_monos (monos_formed d k) (monos_formed e (under_term s (shape_of argument) k))
 monos_formed (n_all d) k = all_monos (monos_formed d (under_mono k))
 monos_formed (n_hoare (n_triple p m q)) k = spec_monos (mono_formed m k)
 

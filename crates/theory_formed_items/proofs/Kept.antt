@@ -10,7 +10,7 @@ use Rattle.theory_items.specs.Items.{with_params, zero_context, next_context, It
 use Rattle.theory_items.specs.Items.{derives_pred, derives_def, derives_val, derives_rec}
 use Rattle.theory_items_sound.proofs.Founded.{earlier_atoms, next_atoms}
 use Rattle.theory_items_sound.proofs.Files.{val_file, rec_file}
-use Rattle.theory_items_sound.proofs.Kept.{found_in}
+use Rattle.theory_items.proofs.Lists.{appended}
 use Rattle.theory_formed_shapes.specs.Shapes.{shape_of, shapes_of}
 use Rattle.theory_formed_shapes.specs.Formed.{FileShapes, file_shapes, IsFormedMono, z_m_word, IsFormedTerm, IsFormedTy, z_mono, IsFormedFormula}
 use Rattle.theory_formed_shapes.specs.Environments.{IsFormedContext, formed_none, formed_heap, formed_term, FormsEnvironment}
@@ -61,11 +61,11 @@ module _ (env : Environment) (known : IsFormedEnvironment env) where
   def_kept ty term d e = record {
     forms = record {
       vals = known.forms.vals;
-      def_types = λ n u q. elim (found_in env.defs (ty, term) n u q) [
+      def_types = λ n u q. elim (appended env.defs (ty, term) n u q) [
         | inl f ↦ known.forms.def_types n u f
         | inr (p, f) ↦ subst (λ (x : TyTree × TermTree). IsFormedTy (file_shapes env) [] (x.0)) f d
       ];
-      def_terms = λ n u q. elim (found_in env.defs (ty, term) n u q) [
+      def_terms = λ n u q. elim (appended env.defs (ty, term) n u q) [
         | inl f ↦ known.forms.def_terms n u f
         | inr (p, f) ↦ subst (λ (x : TyTree × TermTree). IsFormedTerm (file_shapes env) [] (x.1) (shape_of (x.0))) f e
       ];
@@ -85,7 +85,7 @@ module _ (env : Environment) (known : IsFormedEnvironment env) where
       let m = val_file env ty in
       record {
         forms = record {
-          vals = λ n u q. elim (found_in env.vals ty n u q) [
+          vals = λ n u q. elim (appended env.vals ty n u q) [
             | inl f ↦ ty_more m (known.forms.vals n u f)
             | inr (p, f) ↦ subst (IsFormedTy (file_shapes (with_val env ty)) []) f (ty_more m d)
           ];
@@ -93,7 +93,7 @@ module _ (env : Environment) (known : IsFormedEnvironment env) where
           def_terms = λ n u q. term_more m (known.forms.def_terms n u q);
           rec_params = known.forms.rec_params;
         };
-        vals_end = λ n u q. elim (found_in env.vals ty n u q) [ inl f ↦ known.vals_end n u f | inr (p, f) ↦ subst EndsInHoare f ends ];
+        vals_end = λ n u q. elim (appended env.vals ty n u q) [ inl f ↦ known.vals_end n u f | inr (p, f) ↦ subst EndsInHoare f ends ];
         recs_formed = λ n r q. rec_more m r (known.recs_formed n r q);
         recs_founded = known.recs_founded;
       }
@@ -106,7 +106,7 @@ module _ (env : Environment) (known : IsFormedEnvironment env) where
         vals = λ n u q. ty_more m (known.forms.vals n u q);
         def_types = λ n u q. ty_more m (known.forms.def_types n u q);
         def_terms = λ n u q. term_more m (known.forms.def_terms n u q);
-        rec_params = λ n u q. elim (found_in env.recs r n u q) [
+        rec_params = λ n u q. elim (appended env.recs r n u q) [
           | inl f ↦ known.forms.rec_params n u f
           | inr (p, f) ↦ subst (λ (x : RecTree). All (IsFormedMono []) x.params) f d
         ];
@@ -116,11 +116,11 @@ module _ (env : Environment) (known : IsFormedEnvironment env) where
   rec_kept r d founded = record {
     forms = rec_forms r d.params;
     vals_end = known.vals_end;
-    recs_formed = λ n u q. elim (found_in env.recs r n u q) [
+    recs_formed = λ n u q. elim (appended env.recs r n u q) [
       | inl f ↦ rec_more (rec_file env r) u (known.recs_formed n u f)
       | inr (p, f) ↦ subst (IsFormedRec (file_shapes (with_rec env r))) f d
     ];
-    recs_founded = λ n u q. elim (found_in env.recs r n u q) [
+    recs_founded = λ n u q. elim (appended env.recs r n u q) [
       | inl f ↦ known.recs_founded n u f
       | inr (p, f) ↦ subst (λ (k : ℕ). IsFounded k u) (sym p) (subst (IsFounded (length env.recs)) f founded)
     ];

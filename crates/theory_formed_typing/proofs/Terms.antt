@@ -102,14 +102,14 @@ module _ (env : Environment) (known : IsCanonicalEnvironment env) (defs : Defini
       let q = ap (fill_shape (renaming_of (closing zero))) (up_dropped (answer_monos (canonical_monos g d))) ∙ sym (shape_put types) in
       subst (IsFormedTerm (file_shapes env) (shapes_of g) inner') q put
 
-  inst_given : {g : Shapes} {B : TyTree} {inner : TermTree} {t : MonoTree}
+  inst_given : {g : Shapes} (B : TyTree) {inner : TermTree} {t : MonoTree}
       → IsFormedMono g t
       → IsFormedTerm (file_shapes env) g (t_lam_t inner) (shape_of (y_all B))
       → IsFormedTerm (file_shapes env) g (put_mono_term t zero inner) (shape_of (put_mono_ty t zero B))
   unfolding shape_of
-  inst_given {g = g} {B = B} {inner = inner} {t = t} m f =
+  inst_given {g = g} B {inner = inner} {t = t} m f =
       let q = ap (λ (f : Filling). fill_shape f (shape_of B)) (sym (put_is_first t)) ∙ sym (shape_filled (put_mono t zero) (closing zero) B) in
-      subst (IsFormedTerm (file_shapes env) g (put_mono_term t zero inner)) q (instance_formed f m closed)
+      subst (IsFormedTerm (file_shapes env) g (put_mono_term t zero inner)) q (instance_formed {a = shape_of B} f m closed)
 
   -- the monotype of a formed triple, as it stands in the context
   triple_mono : (g : Context) {pre post : FormulaTree} {t : MonoTree}
@@ -184,7 +184,7 @@ module _ (env : Environment) (known : IsCanonicalEnvironment env) (defs : Defini
     given_term gives_unit k = z_unit
     given_term {g = g} (gives_app p q types terms) k =
         let c = (canonical.given env known k p).ty in app_given g c (given_term p k) (fit_term q k (argument_part c)) types terms
-    given_term (gives_inst p f) k = inst_given (mono_formed f) (given_term p k)
+    given_term (gives_inst {ty = ty} p f) k = inst_given ty (mono_formed f) (given_term p k)
     given_term (gives_ann f p) k = fit_term p k (canonical.formed_ty env known k f)
     given_term (gives_pair p q) k = z_pair (given_term p k) (given_term q k)
     given_term (gives_fst p) k = fst_folded _ (given_term p k)

@@ -1,22 +1,15 @@
 -- What a file says of an environment with one more value or predicate.
-use Rattle.std.proofs.Common.{◌≡◌, ℕ, zero, suc, List, [], ◌∷◌, ◌++◌, map, Some, None, sym, subst}
+use Rattle.std.proofs.Common.{◌≡◌, ℕ, List, [], ◌∷◌, ◌++◌, map, Some, sym, subst}
 use Rattle.std.specs.Prelude.{slice_get}
 use Rattle.std.proofs.lemmas.List.{map-append}
 use Rattle.htt_syntax.specs.Trees.{TyTree}
 use Rattle.theory_truth.specs.Predicates.{RecTree}
 use Rattle.theory_typing.specs.Contexts.{Environment}
 use Rattle.theory_items.specs.Items.{with_val, with_rec}
+use Rattle.theory_items.proofs.Lists.{get_more}
 use Rattle.theory_formed_shapes.specs.Shapes.{shape_of}
 use Rattle.theory_formed_shapes.specs.Formed.{file_shapes}
 use Rattle.theory_formed_shapes.proofs.More.{HasFile}
-
-no_element : {A : Type 0} {x : A} → None ≡ Some x → ⊥
-no_element q = cc
-
-get_more : {A : Type 0} (xs ys : List A) (n : ℕ) (x : A) → slice_get xs n ≡ Some x → slice_get (xs ++ ys) n ≡ Some x
-get_more [] ys n x q = absurd (no_element q)
-get_more (y ∷ xs) ys zero x q = q
-get_more (y ∷ xs) ys (suc n) x q = get_more xs ys n x q
 
 mapped_more : {A B : Type 0} (f : A → B) (xs ys : List A) (n : ℕ) (y : B) → slice_get (map f xs) n ≡ Some y → slice_get (map f (xs ++ ys)) n ≡ Some y
 mapped_more f xs ys n y q = subst (λ l. slice_get l n ≡ Some y) (sym (map-append f xs ys)) (get_more (map f xs) (map f ys) n y q)

@@ -1,7 +1,6 @@
 -- Each item keeps an environment sound.
-use Rattle.std.proofs.Common.{◌≡◌, ℕ, zero, suc, List, [], ◌∷◌, ◌++◌, length, All, map, Some, refl, sym, ap, subst, ◌⊎◌, inl, inr}
+use Rattle.std.proofs.Common.{◌≡◌, ℕ, List, [], ◌∷◌, ◌++◌, length, All, map, Some, sym, subst, inl, inr}
 use Rattle.std.specs.Prelude.{slice_get}
-use Rattle.std.proofs.lemmas.Option.{same_Some}
 use Rattle.std.proofs.lemmas.List.{map-append}
 use Rattle.std.proofs.lemmas.List.Elements.{All-tail, All-head}
 use Rattle.htt_syntax.specs.Trees.{MonoTree, TyTree, TermTree, y_mono, m_word}
@@ -21,20 +20,12 @@ use Rattle.theory_typing_canonical.proofs.Typed.{formed_ty, formed_formula}
 use Rattle.theory_items.specs.Items.{with_params, zero_context, next_context, ItemTree, with_def, with_val, with_rec, Derives, derives_abbreviation}
 use Rattle.theory_items.specs.Items.{derives_pred, derives_def, derives_val, derives_rec}
 use Rattle.theory_items.proofs.Derived.{items_keep_canonical}
+use Rattle.theory_items.proofs.Lists.{appended}
 use Rattle.theory_items.proofs.MoreHeads.{has_more, formula_more}
 use Rattle.theory_items_sound.specs.Environments.{IsSoundRec, SoundEnvironment}
 use Rattle.theory_items_sound.specs.Laws.{ItemsKeepSound}
 use Rattle.theory_items_sound.proofs.Files.{val_file, rec_file}
-use Rattle.theory_items_sound.proofs.Founded.{no_element, earlier_atoms, next_atoms}
-
--- what is found in a list with one more at the end
-pub found_in : {A : Type 0} (xs : List A) (x : A) (n : ℕ) (y : A)
-    → slice_get (xs ++ x ∷ []) n ≡ Some y
-    → (slice_get xs n ≡ Some y) ⊎ ((n ≡ length xs) × (x ≡ y))
-found_in [] x zero y q = inr (refl, same_Some x y q)
-found_in [] x (suc n) y q = absurd (no_element q)
-found_in (z ∷ xs) x zero y q = inl q
-found_in (z ∷ xs) x (suc n) y q = elim (found_in xs x n y q) [ inl p ↦ inl p | inr (p, r) ↦ inr (ap suc p, r) ]
+use Rattle.theory_items_sound.proofs.Founded.{earlier_atoms, next_atoms}
 
 -- the contexts of a predicate's bodies are canonical
 params_entered : {heads : Heads} (params : List MonoTree) (g : Context)
@@ -61,7 +52,7 @@ module _ (env : Environment) (sound : SoundEnvironment env) where
   def_kept ty' term' known formed = record {
     canonical = known;
     vals_end = sound.vals_end;
-    defs_formed = λ number definition e. elim (found_in env.defs (ty', term') number definition e) [
+    defs_formed = λ number definition e. elim (appended env.defs (ty', term') number definition e) [
       | inl f ↦ sound.defs_formed number definition f
       | inr (p, f) ↦ subst (λ (d : TyTree × TermTree). IsFormedTerm (file_shapes env) [] (d.1) (shape_of (d.0))) f formed
     ];
@@ -81,7 +72,7 @@ module _ (env : Environment) (sound : SoundEnvironment env) where
   val_kept : (ty : TyTree) → IsCanonicalEnvironment (with_val env ty) → EndsInHoare ty → SoundEnvironment (with_val env ty)
   val_kept ty known ends = record {
     canonical = known;
-    vals_end = λ number other e. elim (found_in env.vals ty number other e) [ inl f ↦ sound.vals_end number other f | inr (p, f) ↦ subst EndsInHoare f ends ];
+    vals_end = λ number other e. elim (appended env.vals ty number other e) [ inl f ↦ sound.vals_end number other f | inr (p, f) ↦ subst EndsInHoare f ends ];
     defs_formed = λ number definition e. term_more (val_file env ty) (sound.defs_formed number definition e);
     recs_sound = λ number r e.
         let s = sound.recs_sound number r e in
@@ -102,11 +93,11 @@ module _ (env : Environment) (sound : SoundEnvironment env) where
     canonical = known;
     vals_end = sound.vals_end;
     defs_formed = λ number definition e. term_more (rec_file env r) (sound.defs_formed number definition e);
-    recs_sound = λ number other e. elim (found_in env.recs r number other e) [
+    recs_sound = λ number other e. elim (appended env.recs r number other e) [
       | inl f ↦ sound.recs_sound number other f
       | inr (p, f) ↦ subst (IsSoundRec (heads_of env)) f s
     ];
-    recs_founded = λ number other e. elim (found_in env.recs r number other e) [
+    recs_founded = λ number other e. elim (appended env.recs r number other e) [
       | inl f ↦ sound.recs_founded number other f
       | inr (p, f) ↦ subst (λ (n : ℕ). IsFounded n other) (sym p) (subst (IsFounded (length env.recs)) f founded)
     ];
@@ -121,7 +112,7 @@ module _ (env : Environment) (sound : SoundEnvironment env) where
     val_types = sound.canonical.val_types;
     def_types = sound.canonical.def_types;
     def_terms = sound.canonical.def_terms;
-    rec_params = λ number other e. elim (found_in env.recs r number other e) [
+    rec_params = λ number other e. elim (appended env.recs r number other e) [
       | inl f ↦ sound.canonical.rec_params number other f
       | inr (p, f) ↦ subst (λ (x : RecTree). All (IsCanonicalMono []) x.params) f (monos_canonical r.params d)
     ];

@@ -137,21 +137,21 @@ mutual
   term_shaped e f (z_snd p i) (n_neutral d) k = elim d [ ]
   term_shaped e f (z_not p i) (n_not a r) k = not_typed (term_shaped e f p a k)
   term_shaped e f (z_not p i) (n_neutral d) k = elim d [ ]
-  term_shaped e f {w = w} (z_bin {op = op} p q i) (n_bin a b r) k =
+  term_shaped e {w = w} f (z_bin {op = op} p q i) (n_bin a b r) k =
       subst (HasType _) (sym (op_mono_in w op)) (op_typed op (term_shaped e f p a k) (term_shaped e f q b k))
   term_shaped e f (z_bin p q i) (n_neutral d) k = elim d [ ]
-  term_shaped e f {w = w} (z_eq {t = mono} m p q i) (n_eq t a b r) k = eq_typed w m (term_shaped e f p a k) (term_shaped e f q b k)
+  term_shaped e {w = w} f (z_eq {t = mono} m p q i) (n_eq t a b r) k = eq_typed w m (term_shaped e f p a k) (term_shaped e f q b k)
   term_shaped e f (z_eq m p q i) (n_neutral d) k = elim d [ ]
   term_shaped e f (z_sel m p q u i) (n_sel t a b c r) k = sel_typed (term_shaped e f p a k) (term_shaped e f q b k) (term_shaped e f u c k)
   term_shaped e f (z_sel m p q u i) (n_neutral d) k = elim d [ ]
-  term_shaped e f {w = w} (z_lam {body = body} {t = answer} p) (n_lam {s = s} {t = t} a) k =
+  term_shaped e {w = w} f (z_lam {body = body} {t = answer} p) (n_lam {s = s} {t = t} a) k =
       λ d m.
       into (shape_filled answer (fills_suc (den_term s d) w) t (term_den e (den_term s d ∷ w) body t)) (term_shaped e f p a (sv_term m k))
   term_shaped e f (z_lam p) (n_neutral d) k = elim d [ ]
   term_shaped e f (z_lam_t p) (n_lam_t a) k = λ t c. term_shaped e f p a (sv_mono c k)
   term_shaped e f (z_lam_t p) (n_neutral d) k = elim d [ ]
   term_shaped e f (z_do p) a k = tt
-  term_shaped e f {w = w} {A = A} (z_neutral h) (n_neutral d) k =
+  term_shaped e {w = w} {A = A} f (z_neutral h) (n_neutral d) k =
       subst (IsShaped w A sk_o) (sym (head_value e w d)) (value_shaped (head_shaped e f h d k))
   term_shaped e f (z_neutral h) _ k = elim h [ ]
 
@@ -166,7 +166,7 @@ mutual
   head_shaped e f (w_val {number = number} {s = A} q) d k = inl (f.vals number A q)
   head_shaped e f (w_made {number = number} {m = m} q p) d k = inl (f.made number m q)
   head_shaped e f (w_fix p) d k = inl (fix_ends p)
-  head_shaped e f {w = w} (w_app {argument = term} h p) (e_app d c) k =
+  head_shaped e {w = w} f (w_app {argument = term} h p) (e_app d c) k =
       elim (head_shaped e f h d k) [ inl ends ↦ inl ends | inr o ↦ inr (applied (term_den e w term) o (term_shaped e f p c k)) ]
   head_shaped e f (w_inst {t = mono} {s = body} h m) (e_inst d c) k = elim (head_shaped e f h d k) [
     | inl ends ↦ inl (ends_filled (first_filled mono) body ends)
