@@ -1,5 +1,5 @@
 -- A world of a context gives each variable a thing of its sort.
-use Rattle.std.proofs.Common.{ℕ, suc, ◌∷◌, sym, subst}
+use Rattle.std.proofs.Common.{ℕ, suc, ◌∷◌, refl, sym, subst}
 use Rattle.htt_syntax.specs.Trees.{MonoTree, TyTree, y_mono, y_fun, y_all, y_hoare, y_at}
 use Rattle.theory_renaming.specs.Renaming.{rename_mono, rename_ty}
 use Rattle.theory_values.specs.Values.{Value, HasType, IsClosed}
