@@ -8,7 +8,7 @@ use Rattle.theory_truth.specs.Predicates.{RecTree}
 use Rattle.theory_truth.specs.Atoms.{IsFounded}
 use Rattle.theory_typing.specs.Contexts.{Context, Environment, Obligation, EndsInHoare, en_term}
 use Rattle.theory_formed.specs.Environments.{with_params, zero_context, next_context}
-use Rattle.theory_items.specs.Items.{ItemTree, with_def, with_val, with_rec, Derives, derives_abbreviation, derives_pred, derives_def, derives_val, derives_rec}
+use Rattle.theory_items.specs.Items.{ItemTree, Added, with_def, with_val, with_rec, with_added, Derives, derives_abbreviation, derives_pred, derives_def, derives_val, derives_rec}
 use Rattle.theory_items_sound.proofs.Founded.{earlier_atoms, next_atoms}
 use Rattle.theory_items_sound.proofs.Kept.{found_in}
 use Rattle.theory_formed_shapes.specs.Shapes.{shape_of, shapes_of}
@@ -142,7 +142,7 @@ module _ (env : Environment) (known : FormedEnvironment env) where
     ];
   }
 
-  kept : {next : Environment} {item : ItemTree} {o : List Obligation} → Derives env item next o → FormedEnvironment next
+  kept : {item : ItemTree} {added : Added} {o : List Obligation} → Derives env [] item added o → FormedEnvironment (with_added env added)
   kept (derives_abbreviation a) = known
   kept (derives_pred a b) = known
   kept (derives_def {ty' = ty'} {term' = term'} a b) =

@@ -22,6 +22,7 @@ use Rattle.theory_typing.specs.Typing.{gives_word, gives_bool, gives_loc, gives_
 use Rattle.theory_typing.specs.Typing.{gives_bin, gives_not, gives_eq, gives_sel, gives_fix, gives_at, Fits, fits_lam, fits_lam_t, fits_pair, fits_do}
 use Rattle.theory_typing.specs.Typing.{fits_given, fits_at, FormsHeader, header_param, header_body, FitsFix, fix_param, fix_body, FitsBody, fits_body, Runs}
 use Rattle.theory_typing.specs.Typing.{runs_ret, runs_step, Moves, moves_alloc, moves_get, moves_set, moves_free, moves_run, moves_if, moves_claim}
+use Rattle.theory_typing.specs.Typing.{Assembled, assembled_end, assembled_part}
 use Rattle.theory_formed_shapes.specs.Shapes.{Shape, sh_mono, fill_shape, renaming_of, up_shape, shape_of, in_mono, in_heap, in_term, Shapes, shapes_of}
 use Rattle.theory_formed_shapes.specs.Shapes.{IsMonoAt, mono_at_zero, mono_further, IsHeapAt, heap_at_zero, heap_further}
 use Rattle.theory_formed_shapes.specs.Formed.{FileShapes, file_shapes, IsFormedMono, z_m_word, z_m_bool, z_m_loc, z_m_unit, z_m_pair, z_m_var, IsFormedTerm}
@@ -242,7 +243,7 @@ module _ (env : Environment) (known : FormsEnvironment env) where
         (fit_formed p (formed_term k parts.0) parts.1))
     fit_formed (fits_lam_t p) k a = z_lam_t (fit_formed p (formed_mono k) (all_part a))
     fit_formed (fits_pair p q) k a = z_pair (fit_formed p k (z_mono (pair_monos a).0)) (fit_formed q k (z_mono (pair_monos a).1))
-    fit_formed (fits_do (fits_body r)) k a = z_do (runs_formed r k (spec_mono a))
+    fit_formed (fits_do (fits_body p q)) k a = z_do (runs_formed p q k (spec_mono a))
     fit_formed {g = g} (fits_given {ty' = ty'} {term' = term'} {ty = ty} i p q) k a =
         subst (IsFormedTerm (file_shapes env) (shapes_of g) term') (sym (shape_plain ty') ∙ ap shape_of q ∙ shape_plain ty)
         (given_formed p k).1
@@ -277,18 +278,19 @@ module _ (env : Environment) (known : FormsEnvironment env) where
         → IsFormedContext (file_shapes env) g
         → IsFormedMono (shapes_of g) t
         → IsFormedComp (file_shapes env) (shapes_of g) R t
-    body_formed (fits_body p) k m = runs_formed p k m
+    body_formed (fits_body p q) k m = runs_formed p q k m
 
     runs_formed : {g : Context} {t : MonoTree} {state end : FormulaTree} {E R : CompTree} {zs : List MonoTree} {value : TermTree}
-        {o : List Obligation}
-        → Runs env g t state E end zs value R o
+        {parts : List Part} {o : List Obligation}
+        → Runs env g t state E end zs value parts o
+        → Assembled parts value R
         → IsFormedContext (file_shapes env) g
         → IsFormedMono (shapes_of g) t
         → IsFormedComp (file_shapes env) (shapes_of g) R t
-    runs_formed (runs_ret p) k m = z_ret (fit_formed p k (z_mono m))
-    runs_formed (runs_step {step_mono = left} p q j) k m =
+    runs_formed (runs_ret p) assembled_end k m = z_ret (fit_formed p k (z_mono m))
+    runs_formed (runs_step {step_mono = left} p q) (assembled_part rest j) k m =
         let r = moves_formed p k in
-        joined_formed j closed r.1 (runs_formed q (formed_term k (z_mono r.0)) (mono_raised (in_term (sh_mono left)) m))
+        joined_formed j closed r.1 (runs_formed q rest (formed_term k (z_mono r.0)) (mono_raised (in_term (sh_mono left)) m))
 
     moves_formed : {g : Context} {state next : FormulaTree} {step : StepTree} {t : MonoTree} {part : Part} {o : List Obligation}
         → Moves env g state step t next part o
@@ -299,9 +301,9 @@ module _ (env : Environment) (known : FormsEnvironment env) where
     moves_formed (moves_set m p q) k = (z_m_unit, z_set (mono_formed m) (fit_formed p k (z_mono z_m_loc)) (fit_formed q k (z_mono (mono_formed m))))
     moves_formed (moves_free m p) k = (z_m_unit, z_free (mono_formed m) (fit_formed p k (z_mono z_m_loc)))
     moves_formed (moves_run p) k = let r = given_formed p k in (spec_mono r.0, do_comp r.1)
-    moves_formed (moves_if m p q r) k = (
+    moves_formed (moves_if m p q a r b) k = (
       mono_formed m,
-      z_if (mono_formed m) (fit_formed p k (z_mono z_m_bool)) (runs_formed q k (mono_formed m)) (runs_formed r k (mono_formed m)),
+      z_if (mono_formed m) (fit_formed p k (z_mono z_m_bool)) (runs_formed q a k (mono_formed m)) (runs_formed r b k (mono_formed m)),
     )
     moves_formed (moves_claim p) k = (z_m_unit, refl)
 

@@ -19,7 +19,7 @@ use Rattle.theory_formed.specs.Shapes.{shape, rename_shape, heap_at_zero, shape_
 use Rattle.theory_formed.specs.Formed.{file_shapes, IsFormedMono, z_m_word, z_word, z_bin, z_neutral, w_var, z_no_terms, z_more_terms, IsFormedTy, z_mono}
 use Rattle.theory_formed.specs.Formed.{z_hoare, z_triple, z_tt, z_equal, z_rec}
 use Rattle.theory_formed.specs.Environments.{formed_none, formed_term, next_context, before_def, IsDefined, IsFormedRec, IsFormedEnvironment, IsFormedIn}
-use Rattle.theory_items.specs.Items.{i_pred, i_val, i_rec, with_rec, params_none, params_more, OwnAtIndex, Derives, derives_pred, derives_def, derives_val}
+use Rattle.theory_items.specs.Items.{i_pred, i_val, i_rec, Added, with_rec, params_none, params_more, OwnAtIndex, Derives, derives_pred, derives_def, derives_val}
 use Rattle.theory_items.specs.Items.{derives_rec}
 use Rattle.theory_items.specs.Examples.{gives_five, doubles, not_less, small, WorkedExamples}
 use Rattle.theory_items.proofs.Environments.{none_is_some}
@@ -29,11 +29,11 @@ only_one : {A : Type 0} {x y : A} (n : ℕ) → slice_get (x ∷ []) n ≡ Some 
 only_one {x = x} {y = y} zero e = same_Some x y e
 only_one (suc n) e = absurd (none_is_some e)
 
-no_function : (next : Environment) (o : List Obligation) → Derives none (i_val (y_fun (y_mono m_word) (y_mono m_word)) (t_lam (t_var 0))) next o → ⊥
-no_function next o (derives_val (forms_fun (forms_mono a) (forms_mono b)) h d) = h
+no_function : (added : Added) (o : List Obligation) → Derives none [] (i_val (y_fun (y_mono m_word) (y_mono m_word)) (t_lam (t_var 0))) added o → ⊥
+no_function added o (derives_val (forms_fun (forms_mono a) (forms_mono b)) h d) = h
 
-no_mono : (next : Environment) (o : List Obligation) → Derives none (i_pred 1 (m_var 0 ∷ m_var 0 ∷ []) f_tt) next o → ⊥
-no_mono next o (derives_pred (params_more a (params_more (forms_var d) e)) b) = elim d [ ]
+no_mono : (added : Added) (o : List Obligation) → Derives none [] (i_pred 1 (m_var 0 ∷ m_var 0 ∷ []) f_tt) added o → ⊥
+no_mono added o (derives_pred (params_more a (params_more (forms_var d) e)) b) = elim d [ ]
 
 next_of_bad : FormsFormula (with_rec none not_less) (next_context []) not_less.at_next not_less.at_next
 unfolding rename_ty rename_mono contractum expansion plain_ty count_of
@@ -46,8 +46,8 @@ no_index : AtomsMeet (OwnAtIndex 0 0) 0 not_less.at_next → ⊥
 unfolding AtomsMeet
 no_index f = let e = f refl in cc
 
-not_at_index : (next : Environment) (o : List Obligation) → Derives none (i_rec not_less) next o → ⊥
-not_at_index next o (derives_rec f a b i) = no_index (subst (AtomsMeet (OwnAtIndex 0 0) 0) (formula_formed_once (with_rec none not_less) refl b next_of_bad) i)
+not_at_index : (added : Added) (o : List Obligation) → Derives none [] (i_rec not_less) added o → ⊥
+not_at_index added o (derives_rec f a b i) = no_index (subst (AtomsMeet (OwnAtIndex 0 0) 0) (formula_formed_once (with_rec none not_less) refl b next_of_bad) i)
 
 five_is_formed : IsFormedTy (file_shapes small) [] gives_five
 unfolding rename_shape rename_mono
@@ -114,6 +114,7 @@ worked = record {
       (gives_bin (fits_given tt (gives_var (type_there type_here)) refl) (fits_given tt (gives_word (omega arith)) refl)) refl) fits_none))
       (λ e. refl);
   index = not_at_index;
+  in_context = derives_def (forms_mono forms_word) (fits_given tt (gives_var type_here) refl);
   formed = small_is_formed;
   value_of_word = λ f. f.vals_end 0 (y_mono m_word) refl;
   not_founded = λ f. bad_is_not_founded (f.recs_founded 0 not_less refl);

@@ -1,3 +1,4 @@
 pub mod Once
 pub mod Worked
 pub mod Bodies
+pub mod Orders

@@ -3,3 +3,4 @@ pub mod Contexts
 pub mod Typing
 pub mod Laws
 pub mod Examples
+pub mod Orders
