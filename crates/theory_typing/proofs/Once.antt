@@ -27,34 +27,34 @@ use Rattle.theory_typing.specs.Typing.{gives_at, fits_lam, fits_lam_t, fits_pair
 use Rattle.theory_typing.specs.Typing.{fits_body, runs_ret, runs_step, moves_alloc, moves_get, moves_set, moves_free, moves_run, moves_if, moves_claim}
 
 -- the parts of equal trees
-fun_argument : {a b c d : TyTree} → y_fun a b ≡ y_fun c d → a ≡ c
+pub fun_argument : {a b c d : TyTree} → y_fun a b ≡ y_fun c d → a ≡ c
 fun_argument e = cc
 
-fun_answer : {a b c d : TyTree} → y_fun a b ≡ y_fun c d → b ≡ d
+pub fun_answer : {a b c d : TyTree} → y_fun a b ≡ y_fun c d → b ≡ d
 fun_answer e = cc
 
-all_body : {a b : TyTree} → y_all a ≡ y_all b → a ≡ b
+pub all_body : {a b : TyTree} → y_all a ≡ y_all b → a ≡ b
 all_body e = cc
 
-hoare_spec : {a b : TripleTree} → y_hoare a ≡ y_hoare b → a ≡ b
+pub hoare_spec : {a b : TripleTree} → y_hoare a ≡ y_hoare b → a ≡ b
 hoare_spec e = cc
 
-mono_of : {a b : MonoTree} → y_mono a ≡ y_mono b → a ≡ b
+pub mono_of : {a b : MonoTree} → y_mono a ≡ y_mono b → a ≡ b
 mono_of e = cc
 
-pair_left : {a b c d : MonoTree} → m_pair a b ≡ m_pair c d → a ≡ c
+pub pair_left : {a b c d : MonoTree} → m_pair a b ≡ m_pair c d → a ≡ c
 pair_left e = cc
 
-pair_right : {a b c d : MonoTree} → m_pair a b ≡ m_pair c d → b ≡ d
+pub pair_right : {a b c d : MonoTree} → m_pair a b ≡ m_pair c d → b ≡ d
 pair_right e = cc
 
-lam_body : {a b : TermTree} → t_lam a ≡ t_lam b → a ≡ b
+pub lam_body : {a b : TermTree} → t_lam a ≡ t_lam b → a ≡ b
 lam_body e = cc
 
-lam_t_body : {a b : TermTree} → t_lam_t a ≡ t_lam_t b → a ≡ b
+pub lam_t_body : {a b : TermTree} → t_lam_t a ≡ t_lam_t b → a ≡ b
 lam_t_body e = cc
 
-do_comp : {a b : CompTree} → t_do a ≡ t_do b → a ≡ b
+pub do_comp : {a b : CompTree} → t_do a ≡ t_do b → a ≡ b
 do_comp e = cc
 
 spec_pre : {a c d f : FormulaTree} {b e : MonoTree} → triple a b c ≡ triple d e f → a ≡ d
@@ -81,11 +81,11 @@ part_is_comp e = cc
 entry_moved : {g h : Context} {n : ℕ} {ty : TyTree} → g ≡ h → HasEntryType h n ty → HasEntryType g n ty
 entry_moved e d = rw e d
 
-entry_once : {g : Context} {n : ℕ} {a b : TyTree} → HasEntryType g n a → HasEntryType g n b → a ≡ b
+pub entry_once : {g : Context} {n : ℕ} {a b : TyTree} → HasEntryType g n a → HasEntryType g n b → a ≡ b
 entry_once type_here type_here = refl
 entry_once (type_there d) (type_there e) = ap (rename_ty suc) (entry_once d e)
 
-found_once : {A : Type 0} {o : Option A} {x y : A} → o ≡ Some x → o ≡ Some y → x ≡ y
+pub found_once : {A : Type 0} {o : Option A} {x y : A} → o ≡ Some x → o ≡ Some y → x ≡ y
 found_once {x = x} {y = y} p q = same_Some x y (sym p ∙ q)
 
 sub_term_once : {n n' : TermTree} {s s' : Skeleton} {t t' r q : TermTree} → n ≡ n' → s ≡ s' → t ≡ t' → SubTerm n s zero t r → SubTerm n' s' zero t' q → r ≡ q

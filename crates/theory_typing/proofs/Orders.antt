@@ -13,7 +13,7 @@ use Rattle.theory_substitution.specs.Substitution.{SubTerm, SubTy, u_y_mono, u_y
 use Rattle.theory_substitution.specs.Substitution.{u_ret, u_step, u_spliced, u_run, u_x_param, u_x_body, k_var, k_fix, k_app, r_var, b_ret, b_step}
 use Rattle.theory_typing.specs.Positions.{plain_ty}
 use Rattle.theory_typing.specs.Contexts.{Context, FormsMono, en_term, type_here, type_there, forms_word, forms_bool, forms_loc, compares_word}
-use Rattle.theory_typing.specs.Typing.{in_program, Gives, Fits, FormsTriple, FormsFormula, forms_mono, forms_fun, forms_hoare, forms_triple, forms_tt, forms_eq}
+use Rattle.theory_typing.specs.Typing.{Mode, in_program, Gives, Fits, FormsTriple, FormsFormula, forms_mono, forms_fun, forms_hoare, forms_triple, forms_tt, forms_eq}
 use Rattle.theory_typing.specs.Typing.{gives_var, gives_word, gives_bool, gives_loc, gives_app, gives_ann, gives_pair, gives_bin, gives_eq, gives_sel, gives_fix}
 use Rattle.theory_typing.specs.Typing.{fits_lam, fits_pair, fits_do, fits_given, header_param, header_body, fix_param, fix_body, fits_body, runs_ret, runs_step}
 use Rattle.theory_typing.specs.Typing.{moves_alloc, moves_get, moves_set, moves_free, moves_run, moves_if, moves_claim, joined_comp, joined_unit}
@@ -24,14 +24,14 @@ use Rattle.theory_typing.specs.Orders.{returning, owing, return_goal, TermsInOrd
 returning_formed : {g : Context} → FormsTriple none g (triple f_tt m_word f_tt) (triple f_tt m_word f_tt)
 returning_formed = forms_triple forms_tt forms_word forms_tt
 
-word_fits : {g : Context} (n : ℕ) → IsWord n → Fits none in_program g (t_word n) (y_mono m_word) (t_word n) []
+word_fits : {m : Mode} {g : Context} (n : ℕ) → IsWord n → Fits none m g (t_word n) (y_mono m_word) (t_word n) []
 unfolding plain_ty
 word_fits n w = fits_given tt (gives_word w) refl
 
 -- a term that owes
 owes_first : {g : Context} {t : MonoTree} {value : TermTree} (n : ℕ)
     → IsWord n
-    → FormsMono g t
+    → FormsMono (en_term returning ∷ g) t
     → Fits none in_program (en_term returning ∷ g) value (y_mono t) value []
     → SubTy (t_do (c_ret (t_word n))) sk_c 0 (y_mono t) (y_mono t)
     → SubTerm (t_do (c_ret (t_word n))) sk_c 0 value value

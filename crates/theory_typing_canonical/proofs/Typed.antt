@@ -43,12 +43,12 @@ identity_kept g = record { at = λ n entry d. d }
 
 -- what an end of a computation has
 pub record AtEnd (heads :
-    Heads) (g : List Standing) (end : FormulaTree) (zs : List MonoTree) (result : TermTree) (parts : List Part) (owed : List Obligation) :
+    Heads) (g : List Standing) (end : FormulaTree) (zs : List MonoTree) (result : TermTree) (becomes : List Part) (owed : List Obligation) :
     Type 0 where
   pub state : IsCanonicalFormula heads (at_state (with_values (length zs) g)) end
   pub row : IsCanonicalRow zero g zs
   pub value : IsCanonical heads (with_values (length zs) g) result sk_o
-  pub parts : AreCanonicalParts heads g parts result
+  pub parts : AreCanonicalParts heads g becomes result
   pub all : AreCanonical heads owed
 
 -- what follows a step
