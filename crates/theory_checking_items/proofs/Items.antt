@@ -4,7 +4,6 @@ use Rattle.std.proofs.lemmas.List.Elements.{All-nil, All-cons, All-head, All-tai
 use Rattle.htt_syntax.specs.Trees.{MonoTree, FormulaTree, y_mono, f_tt, f_ff, f_and, f_or, f_imp, f_all_t, f_ex_t, f_all_h, f_ex_h, f_emp, f_cell, f_block}
 use Rattle.htt_syntax.specs.Trees.{f_join, f_same, f_eq, f_at, f_rec}
 use Rattle.theory_truth.specs.Atoms.{AtomsMeet}
-use Rattle.theory_formed.specs.Environments.{with_params}
 use Rattle.theory_typing.specs.Contexts.{en_heap, en_term, Context, Environment, FormsMono}
 use Rattle.theory_typing.specs.Typing.{in_program, FormsFormula, forms_tt, forms_ff, forms_and, forms_or, forms_imp, forms_all_t, forms_ex_t, forms_all_h}
 use Rattle.theory_typing.specs.Typing.{forms_ex_h, forms_emp, forms_cell, forms_block, forms_join, forms_same, forms_eq, forms_rec, forms_formula_at}

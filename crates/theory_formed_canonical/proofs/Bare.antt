@@ -24,7 +24,7 @@ use Rattle.theory_formed_shapes.specs.Formed.{IsFormedNeutral, w_var, w_val, w_m
 use Rattle.theory_formed_shapes.specs.Formed.{z_param, z_body, IsFormedComp, z_ret, z_step, IsFormedStep, z_run, z_alloc, z_get, z_set, z_free, z_if}
 use Rattle.theory_formed_shapes.specs.Formed.{IsFormedTy, z_mono, z_fun, z_all, z_hoare, IsFormedTriple, z_triple, IsFormedFormula, z_tt, z_ff, z_and, z_or}
 use Rattle.theory_formed_shapes.specs.Formed.{z_imp, z_all_t, z_ex_t, z_all_h, z_ex_h, z_emp, z_cell, z_block, z_join, z_same, z_equal, z_rec}
-use Rattle.theory_formed_typing.specs.Environments.{IsFormedContext, formed_none, formed_mono, formed_heap, formed_term, FormsEnvironment}
+use Rattle.theory_formed_shapes.specs.Environments.{IsFormedContext, formed_none, formed_mono, formed_heap, formed_term, FormsEnvironment}
 use Rattle.theory_formed_canonical.specs.Laws.{bare, bare_context, bare_made, bare_heads, FormedIsCanonical}
 
 bare_filled : (f : Filling) (s : Shape) → bare (fill_shape f s) ≡ bare s

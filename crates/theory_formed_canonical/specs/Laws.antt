@@ -10,7 +10,7 @@ use Rattle.theory_formed_shapes.specs.Shapes.{Shape, sh_mono, sh_fun, sh_all, sh
 use Rattle.theory_formed_shapes.specs.Shapes.{in_heap, in_term, Shapes, shapes_of}
 use Rattle.theory_formed_shapes.specs.Formed.{MadeShape, FileShapes, file_shapes, IsFormedTerm, IsFormedComp}
 use Rattle.theory_formed_shapes.specs.Formed.{IsFormedTy, IsFormedFormula}
-use Rattle.theory_formed_typing.specs.Environments.{IsFormedContext, FormsEnvironment}
+use Rattle.theory_formed_shapes.specs.Environments.{IsFormedContext, FormsEnvironment}
 
 -- the skeleton of a shape: its monotypes are forgotten too
 unfoldable pub bare : Shape → Skeleton

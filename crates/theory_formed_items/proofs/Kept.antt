@@ -1,41 +1,25 @@
 -- Each item keeps an environment formed.
-use Rattle.std.proofs.Common.{◌≡◌, ℕ, zero, suc, List, [], ◌∷◌, ◌++◌, length, All, map, Some, None, refl, sym, subst, inl, inr}
+use Rattle.std.proofs.Common.{◌≡◌, ℕ, zero, List, [], ◌∷◌, ◌++◌, length, All, map, Some, refl, sym, subst, inl, inr}
 use Rattle.std.specs.Prelude.{slice_get}
-use Rattle.std.proofs.lemmas.List.{map-append}
 use Rattle.std.proofs.lemmas.List.Elements.{All-head, All-tail}
 use Rattle.htt_syntax.specs.Trees.{MonoTree, TyTree, TermTree, FormulaTree, y_mono, m_word}
 use Rattle.theory_truth.specs.Predicates.{RecTree}
 use Rattle.theory_truth.specs.Atoms.{IsFounded}
 use Rattle.theory_typing.specs.Contexts.{Context, Environment, Obligation, EndsInHoare, en_term}
-use Rattle.theory_formed.specs.Environments.{with_params, zero_context, next_context}
-use Rattle.theory_items.specs.Items.{ItemTree, Added, with_def, with_val, with_rec, with_added, Derives, derives_abbreviation, derives_pred, derives_def, derives_val, derives_rec}
+use Rattle.theory_items.specs.Items.{with_params, zero_context, next_context, ItemTree, Added, with_def, with_val, with_rec, with_added, Derives}
+use Rattle.theory_items.specs.Items.{derives_abbreviation, derives_pred, derives_def, derives_val, derives_rec}
 use Rattle.theory_items_sound.proofs.Founded.{earlier_atoms, next_atoms}
-use Rattle.theory_items_sound.proofs.Kept.{found_in}
+use Rattle.theory_items_sound.proofs.Files.{val_file, rec_file}
+use Rattle.theory_items.proofs.Lists.{appended}
 use Rattle.theory_formed_shapes.specs.Shapes.{shape_of, shapes_of}
 use Rattle.theory_formed_shapes.specs.Formed.{FileShapes, file_shapes, IsFormedMono, z_m_word, IsFormedTerm, IsFormedTy, z_mono, IsFormedFormula}
-use Rattle.theory_formed_typing.specs.Environments.{IsFormedContext, formed_none, formed_heap, formed_term, FormsEnvironment}
+use Rattle.theory_formed_shapes.specs.Environments.{IsFormedContext, formed_none, formed_heap, formed_term, FormsEnvironment}
 use Rattle.theory_formed_typing.proofs.Closed.{closed_mono}
-use Rattle.theory_formed_typing.proofs.Typed.{mono_formed, formed_ty, formed_formula, fit_formed}
-use Rattle.theory_formed_items.specs.Environments.{IsFormedRec, FormedEnvironment}
+use Rattle.theory_formed_typing.proofs.Terms.{mono_formed}
+use Rattle.theory_formed_typing.proofs.Typed.{formed_ty, formed_formula, fit_formed}
+use Rattle.theory_formed_items.specs.Environments.{IsFormedRec, IsFormedEnvironment}
 use Rattle.theory_formed_items.specs.Laws.{ItemsKeepFormed}
-use Rattle.theory_formed_items.proofs.More.{HasFile, term_more, ty_more, formula_more}
-
-no_element : {A : Type 0} {x : A} → None ≡ Some x → ⊥
-no_element q = cc
-
-get_more : {A : Type 0} (xs ys : List A) (n : ℕ) (x : A) → slice_get xs n ≡ Some x → slice_get (xs ++ ys) n ≡ Some x
-get_more [] ys n x q = absurd (no_element q)
-get_more (y ∷ xs) ys zero x q = q
-get_more (y ∷ xs) ys (suc n) x q = get_more xs ys n x q
-
-mapped_more : {A B : Type 0} (f : A → B) (xs ys : List A) (n : ℕ) (y : B) → slice_get (map f xs) n ≡ Some y → slice_get (map f (xs ++ ys)) n ≡ Some y
-mapped_more f xs ys n y q = subst (λ l. slice_get l n ≡ Some y) (sym (map-append f xs ys)) (get_more (map f xs) (map f ys) n y q)
-
-val_file : (env : Environment) (ty : TyTree) → HasFile (file_shapes env) (file_shapes (with_val env ty))
-val_file env ty = record { vals = λ n s q. mapped_more shape_of env.vals (ty ∷ []) n s q; made = λ n m q. q; recs = λ n ts q. q }
-
-rec_file : (env : Environment) (r : RecTree) → HasFile (file_shapes env) (file_shapes (with_rec env r))
-rec_file env r = record { vals = λ n s q. q; made = λ n m q. q; recs = λ n ts q. mapped_more (λ (r : RecTree). r.params) env.recs (r ∷ []) n ts q }
+use Rattle.theory_formed_shapes.proofs.More.{HasFile, term_more, ty_more, formula_more}
 
 -- a predicate with other bodies
 same_params : (known : List RecTree) (r u : RecTree)
@@ -68,20 +52,20 @@ zero_formed params d = formed_heap (params_formed params [] d formed_none)
 next_formed : {file : FileShapes} (params : List MonoTree) → All (IsFormedMono []) params → IsFormedContext file (next_context params)
 next_formed params d = formed_heap (params_formed params (en_term (y_mono m_word) ∷ []) d (formed_term formed_none (z_mono z_m_word)))
 
-module _ (env : Environment) (known : FormedEnvironment env) where
+module _ (env : Environment) (known : IsFormedEnvironment env) where
   -- one definition more
   def_kept : (ty : TyTree) (term : TermTree)
       → IsFormedTy (file_shapes env) [] ty
       → IsFormedTerm (file_shapes env) [] term (shape_of ty)
-      → FormedEnvironment (with_def env ty term)
+      → IsFormedEnvironment (with_def env ty term)
   def_kept ty term d e = record {
     forms = record {
       vals = known.forms.vals;
-      def_types = λ n u q. elim (found_in env.defs (ty, term) n u q) [
+      def_types = λ n u q. elim (appended env.defs (ty, term) n u q) [
         | inl f ↦ known.forms.def_types n u f
         | inr (p, f) ↦ subst (λ (x : TyTree × TermTree). IsFormedTy (file_shapes env) [] (x.0)) f d
       ];
-      def_terms = λ n u q. elim (found_in env.defs (ty, term) n u q) [
+      def_terms = λ n u q. elim (appended env.defs (ty, term) n u q) [
         | inl f ↦ known.forms.def_terms n u f
         | inr (p, f) ↦ subst (λ (x : TyTree × TermTree). IsFormedTerm (file_shapes env) [] (x.1) (shape_of (x.0))) f e
       ];
@@ -96,12 +80,12 @@ module _ (env : Environment) (known : FormedEnvironment env) where
   rec_more m r d = record { params = d.params; at_zero = formula_more m d.at_zero; at_next = formula_more m d.at_next }
 
   -- one value more
-  val_kept : (ty : TyTree) → IsFormedTy (file_shapes env) [] ty → EndsInHoare ty → FormedEnvironment (with_val env ty)
+  val_kept : (ty : TyTree) → IsFormedTy (file_shapes env) [] ty → EndsInHoare ty → IsFormedEnvironment (with_val env ty)
   val_kept ty d ends =
       let m = val_file env ty in
       record {
         forms = record {
-          vals = λ n u q. elim (found_in env.vals ty n u q) [
+          vals = λ n u q. elim (appended env.vals ty n u q) [
             | inl f ↦ ty_more m (known.forms.vals n u f)
             | inr (p, f) ↦ subst (IsFormedTy (file_shapes (with_val env ty)) []) f (ty_more m d)
           ];
@@ -109,7 +93,7 @@ module _ (env : Environment) (known : FormedEnvironment env) where
           def_terms = λ n u q. term_more m (known.forms.def_terms n u q);
           rec_params = known.forms.rec_params;
         };
-        vals_end = λ n u q. elim (found_in env.vals ty n u q) [ inl f ↦ known.vals_end n u f | inr (p, f) ↦ subst EndsInHoare f ends ];
+        vals_end = λ n u q. elim (appended env.vals ty n u q) [ inl f ↦ known.vals_end n u f | inr (p, f) ↦ subst EndsInHoare f ends ];
         recs_formed = λ n r q. rec_more m r (known.recs_formed n r q);
         recs_founded = known.recs_founded;
       }
@@ -122,27 +106,27 @@ module _ (env : Environment) (known : FormedEnvironment env) where
         vals = λ n u q. ty_more m (known.forms.vals n u q);
         def_types = λ n u q. ty_more m (known.forms.def_types n u q);
         def_terms = λ n u q. term_more m (known.forms.def_terms n u q);
-        rec_params = λ n u q. elim (found_in env.recs r n u q) [
+        rec_params = λ n u q. elim (appended env.recs r n u q) [
           | inl f ↦ known.forms.rec_params n u f
           | inr (p, f) ↦ subst (λ (x : RecTree). All (IsFormedMono []) x.params) f d
         ];
       }
 
-  rec_kept : (r : RecTree) → IsFormedRec (file_shapes (with_rec env r)) r → IsFounded (length env.recs) r → FormedEnvironment (with_rec env r)
+  rec_kept : (r : RecTree) → IsFormedRec (file_shapes (with_rec env r)) r → IsFounded (length env.recs) r → IsFormedEnvironment (with_rec env r)
   rec_kept r d founded = record {
     forms = rec_forms r d.params;
     vals_end = known.vals_end;
-    recs_formed = λ n u q. elim (found_in env.recs r n u q) [
+    recs_formed = λ n u q. elim (appended env.recs r n u q) [
       | inl f ↦ rec_more (rec_file env r) u (known.recs_formed n u f)
       | inr (p, f) ↦ subst (IsFormedRec (file_shapes (with_rec env r))) f d
     ];
-    recs_founded = λ n u q. elim (found_in env.recs r n u q) [
+    recs_founded = λ n u q. elim (appended env.recs r n u q) [
       | inl f ↦ known.recs_founded n u f
       | inr (p, f) ↦ subst (λ (k : ℕ). IsFounded k u) (sym p) (subst (IsFounded (length env.recs)) f founded)
     ];
   }
 
-  kept : {item : ItemTree} {added : Added} {o : List Obligation} → Derives env [] item added o → FormedEnvironment (with_added env added)
+  kept : {item : ItemTree} {added : Added} {o : List Obligation} → Derives env [] item added o → IsFormedEnvironment (with_added env added)
   kept (derives_abbreviation a) = known
   kept (derives_pred a b) = known
   kept (derives_def {ty' = ty'} {term' = term'} a b) =

@@ -1,2 +1,3 @@
-pub mod More
 pub mod Kept
+pub mod Sound
+pub mod Worked

@@ -1,13 +1,18 @@
--- Each item keeps an environment formed.
+-- Each item keeps an environment formed, and a formed environment is sound.
 use Rattle.std.specs.Prelude.{List, []}
 use Rattle.theory_typing.specs.Contexts.{Environment, Obligation}
 use Rattle.theory_typing.specs.Laws.{none}
 use Rattle.theory_items.specs.Items.{ItemTree, Added, with_added, Derives}
-use Rattle.theory_formed_items.specs.Environments.{FormedEnvironment}
+use Rattle.theory_items_sound.specs.Environments.{SoundEnvironment}
+use Rattle.theory_formed_items.specs.Environments.{IsFormedEnvironment}
 
 pub record ItemsKeepFormed : Type 0 where
-  pub empty : FormedEnvironment none
+  pub empty : IsFormedEnvironment none
   pub kept : (env : Environment) (item : ItemTree) (added : Added) (owed : List Obligation)
-      → FormedEnvironment env
+      → IsFormedEnvironment env
       → Derives env [] item added owed
-      → FormedEnvironment (with_added env added)
+      → IsFormedEnvironment (with_added env added)
+
+-- A formed environment is sound.
+abbrev pub FormedIsSound : Type 0
+FormedIsSound = (env : Environment) → IsFormedEnvironment env → SoundEnvironment env

@@ -6,7 +6,7 @@ use Rattle.theory_typing.specs.Typing.{Mode, Gives, Fits}
 use Rattle.theory_items.specs.Items.{ItemTree, Added, Derives}
 use Rattle.theory_formed_shapes.specs.Shapes.{shapes_of}
 use Rattle.theory_formed_shapes.specs.Formed.{FileShapes, file_shapes, IsFormedTy, IsFormedFormula}
-use Rattle.theory_formed_typing.specs.Environments.{IsFormedContext, FormsEnvironment}
+use Rattle.theory_formed_shapes.specs.Environments.{IsFormedContext, FormsEnvironment}
 
 abbrev pub AreFormed : FileShapes → List Obligation → Type 0
 AreFormed file [] = Unit {0}

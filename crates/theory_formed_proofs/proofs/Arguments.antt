@@ -1,13 +1,13 @@
 -- Arguments: that what fits sorts is formed, and what they are put in.
-use Rattle.std.proofs.Common.{◌≡◌, ℕ, zero, suc, ◌+◌, List, [], ◌∷◌, ◌++◌, length, map, All, arith, refl, sym, ap, ◌∙◌, subst}
+use Rattle.std.proofs.Common.{◌≡◌, ℕ, zero, suc, ◌+◌, List, [], ◌∷◌, ◌++◌, length, map, All, arith, refl, sym, ap, subst}
 use Rattle.std.proofs.lemmas.List.Elements.{All-head, All-tail}
 use Rattle.htt_syntax.specs.Trees.{MonoTree, TermTree, FormulaTree, ArgTree, m_pair, y_mono, a_heap}
 use Rattle.theory_renaming.specs.Renaming.{Map, lift, lifts, rename_term}
 use Rattle.theory_renaming.proofs.Identity.{formula_stays}
 use Rattle.theory_substitution.specs.Monotypes.{Filling, fill_mono}
 use Rattle.theory_typing.specs.Contexts.{en_term, Context, Environment, IsHeapEntry, heap_here, heap_there, Obligation}
-use Rattle.theory_typing.specs.Typing.{Mode, Fits, fits_pair, fits_given, fits_at}
-use Rattle.theory_formed.specs.Environments.{with_params}
+use Rattle.theory_typing.specs.Typing.{Mode, Fits}
+use Rattle.theory_items.specs.Items.{with_params}
 use Rattle.theory_logic_axioms.specs.Table.{ArgSort, heap_sort, term_sort}
 use Rattle.theory_logic_rules.specs.Sequents.{putting, put_heap, raised_term, PutArgs, put_none, put_term_first, put_heap_first, terms_of, FitsArgs}
 use Rattle.theory_logic_rules.specs.Sequents.{fits_no_args, fits_heap_arg, fits_term_arg, FormsMonos, forms_no_monos, forms_more_monos}
@@ -15,19 +15,19 @@ use Rattle.theory_logic_sorts.proofs.Arguments.{lifts_inside}
 use Rattle.theory_formed_shapes.specs.Shapes.{sh_mono, shape_of, fill_shape, renaming_of, in_heap, in_term, Shapes, IsHeapAt, heap_at_zero, heap_further}
 use Rattle.theory_formed_shapes.specs.Shapes.{HasShape, shapes_of}
 use Rattle.theory_formed_shapes.specs.Formed.{FileShapes, file_shapes, IsFormedMono, z_m_word, z_m_bool, z_m_loc, z_m_unit, z_m_pair, z_m_var, IsFormedTerm}
-use Rattle.theory_formed_shapes.specs.Formed.{z_pair}
 use Rattle.theory_formed_shapes.specs.Formed.{IsFormedTerms, z_no_terms, z_more_terms, IsFormedFormula, IsClosedFile}
 use Rattle.theory_formed_shapes.specs.Laws.{FillsFormed}
 use Rattle.theory_formed_shapes.proofs.Fillings.{shape_kept, next_renaming}
 use Rattle.theory_formed_shapes.proofs.Filled as filling
-use Rattle.theory_formed_shapes.proofs.ShapesOf.{shape_plain}
 use Rattle.theory_formed_shapes.proofs.Renamed.{formula_renamed, fills_lift}
 use Rattle.theory_substitution.specs.Closing.{closing}
 use Rattle.theory_formed_substitution.specs.Laws.{PutsFormed}
 use Rattle.theory_formed_substitution.proofs.Put.{puts_first, formula_put}
 use Rattle.theory_formed_states.proofs.Sent.{Sends, fills, heap_sent}
-use Rattle.theory_formed_typing.specs.Environments.{IsFormedContext, FormsEnvironment}
-use Rattle.theory_formed_typing.proofs.Typed.{mono_formed, given_formed}
+use Rattle.theory_formed_shapes.specs.Environments.{IsFormedContext, FormsEnvironment}
+use Rattle.theory_formed_typing.proofs.Terms.{mono_formed}
+use Rattle.theory_formed_typing.proofs.Fitted as fitted
+use Rattle.theory_formed_canonical.proofs.Bare.{environment_bare, entries_bare}
 use Rattle.theory_formed_proofs.specs.Sequents.{AreFormedMonos, AreFormedArgs, formed_no_args, formed_heap_arg, formed_term_arg, with_sorts, AreClosedSorts}
 use Rattle.theory_formed_substitution.proofs.Put.{puts_next, puts_heap}
 
@@ -45,12 +45,7 @@ pub value_formed : {env : Environment} {m : Mode} {g : Context} {M N : TermTree}
     → FormsEnvironment env
     → IsFormedContext (file_shapes env) g
     → IsFormedTerm (file_shapes env) (shapes_of g) N (sh_mono t)
-unfolding shape_of
-value_formed (fits_pair p q) k c = z_pair (value_formed p k c) (value_formed q k c)
-value_formed {env = env} {g = g} {t = t} (fits_given {ty' = ty'} {term' = term'} i p q) k c =
-    subst (IsFormedTerm (file_shapes env) (shapes_of g) term') (sym (shape_plain ty') ∙ ap shape_of q ∙ shape_plain (y_mono t))
-    (given_formed env k p c).1
-value_formed (fits_at p) k c = value_formed p k c
+value_formed {env = env} {g = g} {t = t} d k c = fitted.mono_formed t (environment_bare env k) k.def_terms (entries_bare env g c) d
 
 pub args_fitted : {env : Environment} {g : Context} {arguments values : List ArgTree} {sorts : List ArgSort}
     → FitsArgs env g arguments sorts values

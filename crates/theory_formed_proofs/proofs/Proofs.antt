@@ -28,10 +28,10 @@ use Rattle.theory_formed_shapes.specs.Formed.{IsClosedFile}
 use Rattle.theory_formed_shapes.proofs.Folded.{bin_folded}
 use Rattle.theory_formed_shapes.proofs.Renamed.{formula_renamed, fills_suc, fills_lift}
 use Rattle.theory_formed_substitution.proofs.Put.{puts_first, formula_put}
-use Rattle.theory_formed_typing.specs.Environments.{IsFormedContext, formed_heap, formed_term}
+use Rattle.theory_formed_shapes.specs.Environments.{IsFormedContext, formed_heap, formed_term}
 use Rattle.theory_formed_typing.proofs.Closed.{map_get, file_closed}
 use Rattle.theory_formed_typing.proofs.Typed as typed
-use Rattle.theory_formed_items.specs.Environments.{FormedEnvironment}
+use Rattle.theory_formed_items.specs.Environments.{IsFormedEnvironment}
 use Rattle.theory_formed_proofs.specs.Sequents.{formed_term_arg, AreClosedSorts, IsFormedIn, AreFormedIn, IsFormedSequent}
 use Rattle.theory_formed_proofs.specs.Derivations.{FormedInference, FormedProof, FormedBlock}
 use Rattle.theory_formed_proofs.specs.Laws.{ProofInfersFormed}
@@ -145,7 +145,7 @@ raised_under : (env : Environment) (entry : EntryTree) (g : Context) (hs : List 
 raised_under env entry g [] c d = tt
 raised_under env entry g (G ∷ hs) c d = (raised_formed (entry_shape entry) (shapes_of g) G c d.0, raised_under env entry g hs c d.1)
 
-module _ (env : Environment) (known : FormedEnvironment env) where
+module _ (env : Environment) (known : IsFormedEnvironment env) where
   closed : IsClosedFile (file_shapes env)
   closed = file_closed known.forms
 

@@ -8,15 +8,15 @@ use Rattle.theory_logic_rules.specs.Sequents.{PutArgs}
 use Rattle.theory_logic_rules.specs.Rules.{Infers, Proves}
 use Rattle.theory_formed_shapes.specs.Shapes.{Shapes}
 use Rattle.theory_formed_shapes.specs.Formed.{FileShapes, file_shapes, IsFormedFormula, IsClosedFile}
-use Rattle.theory_formed_typing.specs.Environments.{IsFormedContext}
-use Rattle.theory_formed_items.specs.Environments.{FormedEnvironment}
+use Rattle.theory_formed_shapes.specs.Environments.{IsFormedContext}
+use Rattle.theory_formed_items.specs.Environments.{IsFormedEnvironment}
 use Rattle.theory_formed_proofs.specs.Sequents.{AreFormedMonos, AreFormedArgs, with_sorts, AreClosedSorts, IsFormedIn}
 use Rattle.theory_formed_proofs.specs.Sequents.{AreFormedIn, IsFormedSequent}
 use Rattle.theory_formed_proofs.specs.Derivations.{FormedInference, FormedProof}
 
 pub record ProofInfersFormed : Type 0 where
   pub inferred : (env : Environment) (g : Context)
-      → FormedEnvironment env
+      → IsFormedEnvironment env
       → IsFormedContext (file_shapes env) g
       → (hypotheses : List FormulaTree)
       → AreFormedIn env g hypotheses
@@ -44,14 +44,14 @@ pub record ProofInfersFormed : Type 0 where
       → IsFormedFormula file g R
   -- each sequent and each inferred formula in a derivation
   pub inferences : (env : Environment) (g : Context)
-      → FormedEnvironment env
+      → IsFormedEnvironment env
       → IsFormedContext (file_shapes env) g
       → (hypotheses : List FormulaTree)
       → AreFormedIn env g hypotheses
       → (p : ProofTree) (F : FormulaTree) (derivation : Infers env g hypotheses p F)
       → FormedInference derivation
   pub proofs : (env : Environment) (g : Context)
-      → FormedEnvironment env
+      → IsFormedEnvironment env
       → (hypotheses : List FormulaTree) (goal : FormulaTree)
       → IsFormedSequent env g hypotheses goal
       → (p : ProofTree) (derivation : Proves env g hypotheses p goal)

@@ -5,7 +5,7 @@ use Rattle.theory_typing.specs.Contexts.{Context, Environment}
 use Rattle.theory_logic_axioms.specs.Table.{ArgSort, heap_sort, term_sort}
 use Rattle.theory_formed_shapes.specs.Shapes.{sh_mono, ShapeEntry, in_heap, in_term, Shapes, IsHeapAt, shapes_of}
 use Rattle.theory_formed_shapes.specs.Formed.{FileShapes, file_shapes, IsFormedMono, IsFormedTerm, IsFormedFormula}
-use Rattle.theory_formed_typing.specs.Environments.{IsFormedContext}
+use Rattle.theory_formed_shapes.specs.Environments.{IsFormedContext}
 
 abbrev pub AreFormedMonos : Shapes → List MonoTree → Type 0
 AreFormedMonos g [] = Unit {0}

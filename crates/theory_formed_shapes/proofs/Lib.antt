@@ -3,3 +3,6 @@ pub mod ShapesOf
 pub mod Folded
 pub mod Filled
 pub mod Renamed
+pub mod More
+pub mod Monos
+pub mod Worked

@@ -2,6 +2,7 @@
 //! functions are among the heads. A function without a body states laws by its contract.
 #![tactic(auto)]
 
+ghost use Rattle.theory_formed_shapes.specs.Examples.{WorkedExamples};
 ghost use Rattle.theory_formed_shapes.specs.Laws.{FillingKeepsFormed, RenamingKeepsFormed};
 
 /// Renaming keeps trees formed.
@@ -12,4 +13,9 @@ pub fn renaming_keeps_formed()
 /// Monotypes that are put for monotype variables keep trees formed.
 pub fn filling_keeps_formed()
     ensures law { FillingKeepsFormed }
+{}
+
+/// Formed trees, and trees that aren't, worked out by hand.
+pub fn worked_examples()
+    ensures examples { WorkedExamples }
 {}

@@ -1,4 +1,4 @@
--- The shape of a formed type depends on the monotypes of its context alone, so that of a closed type on
+-- The shape of a type whose monotypes are formed depends on the monotypes of its context alone, so that of a closed type on
 -- none; and what is closed is formed in each context.
 use Rattle.std.proofs.Common.{◌≡◌, ℕ, zero, suc, List, [], ◌∷◌, All, Some, None, map, refl, sym, ap, ◌∙◌, subst}
 use Rattle.std.specs.Prelude.{slice_get}
@@ -13,11 +13,16 @@ use Rattle.theory_typing.specs.Contexts.{Environment}
 use Rattle.theory_formed_shapes.specs.Shapes.{Shape, sh_mono, sh_fun, sh_all, sh_comp, fill_shape, renaming_of, up_shape, dropping, shape_of, in_mono, in_term}
 use Rattle.theory_formed_shapes.specs.Shapes.{Shapes, IsMonoAt, mono_further}
 use Rattle.theory_formed_shapes.specs.Formed.{FileShapes, file_shapes, IsFormedMono, z_m_word, z_m_bool, z_m_loc, z_m_unit, z_m_pair, z_m_var, IsFormedTerm}
-use Rattle.theory_formed_shapes.specs.Formed.{IsFormedTy, z_mono, z_fun, z_all, z_hoare, z_triple, fill_monos, IsClosedFile}
+use Rattle.theory_formed_shapes.specs.Formed.{IsFormedTy, fill_monos, IsClosedFile}
 use Rattle.theory_formed_shapes.specs.Laws.{FillsFormed}
 use Rattle.theory_formed_shapes.proofs.Fillings.{shape_after, shape_kept, mono_kept}
 use Rattle.theory_formed_shapes.proofs.Renamed.{term_renamed, ty_renamed}
-use Rattle.theory_formed_typing.specs.Environments.{FormsEnvironment}
+use Rattle.theory_formed_shapes.specs.Environments.{FormsEnvironment}
+use Rattle.theory_formed_shapes.proofs.Monos.{MonosFormed, mono_monos, fun_monos, all_monos, spec_monos}
+use Rattle.theory_canonical.specs.Canonical.{IsCanonicalMono}
+use Rattle.theory_typing_canonical.specs.Environments.{IsCanonicalEnvironment}
+use Rattle.theory_formed_canonical.proofs.Bare.{environment_bare}
+use Rattle.theory_formed_canonical.proofs.Monos.{canonical_mono, canonical_monos}
 
 -- Two fillings agree at the monotypes of a context.
 pub record AgreeAt (g : Shapes) (f k : Filling) : Type 0 where
@@ -50,25 +55,25 @@ agree_next {g = g} {f = f} {k = k} a = record { at = go }
     go zero d = refl
     go (suc n) (mono_further d) = ap (rename_mono suc) (a.at n d)
 
-shapes_agree : {file : FileShapes} {g : Shapes} {A : TyTree} {f k : Filling}
-    → IsFormedTy file g A
+shapes_agree : {g : Shapes} {A : TyTree} {f k : Filling}
+    → MonosFormed g A
     → AgreeAt g f k
     → fill_shape f (shape_of A) ≡ fill_shape k (shape_of A)
 unfolding fill_shape shape_of
-shapes_agree (z_mono m) a = ap sh_mono (mono_agrees m a)
-shapes_agree {f = f} {k = k} (z_fun {argument = argument} {answer = answer} d e) a =
+shapes_agree (mono_monos m) a = ap sh_mono (mono_agrees m a)
+shapes_agree {f = f} {k = k} (fun_monos {argument = argument} {answer = answer} d e) a =
     let first = shapes_agree d a in
     let second =
     shape_after dropping f (shape_of answer)
     ∙ shapes_agree e (agree_dropped (shape_of argument) a)
     ∙ sym (shape_after dropping k (shape_of answer)) in
     λ j. sh_fun (first j) (second j)
-shapes_agree (z_all d) a = ap sh_all (shapes_agree d (agree_next a))
-shapes_agree (z_hoare (z_triple d m e)) a = ap sh_comp (mono_agrees m a)
+shapes_agree (all_monos d) a = ap sh_all (shapes_agree d (agree_next a))
+shapes_agree (spec_monos m) a = ap sh_comp (mono_agrees m a)
 
 -- the answer's type is in the context without the argument
-pub up_dropped : {file : FileShapes} {g : Shapes} {s : Shape} {A : TyTree}
-    → IsFormedTy file (in_term s ∷ g) A
+pub up_dropped : {g : Shapes} {s : Shape} {A : TyTree}
+    → MonosFormed (in_term s ∷ g) A
     → up_shape (fill_shape dropping (shape_of A)) ≡ shape_of A
 unfolding fill_mono dropping
 up_dropped {g = g} {s = s} {A = A} d =
@@ -79,7 +84,7 @@ up_dropped {g = g} {s = s} {A = A} d =
     go (suc n) b i = refl
 
 -- the file is closed
-ty_fixed : {file : FileShapes} (A : TyTree) (f : Filling) → IsFormedTy file [] A → fill_shape f (shape_of A) ≡ shape_of A
+ty_fixed : (A : TyTree) (f : Filling) → MonosFormed [] A → fill_shape f (shape_of A) ≡ shape_of A
 ty_fixed A f d = shapes_agree d (record { at = λ n i. elim i [ ] }) ∙ shape_kept (shape_of A)
 
 monos_fixed : (ts : List MonoTree) (f : Filling) → All (IsFormedMono []) ts → fill_monos f ts ≡ ts
@@ -97,25 +102,33 @@ map_get f (y ∷ xs) zero x q = ap (λ z. Some (f z)) (same_Some y x q)
 map_get f (y ∷ xs) (suc n) x q = map_get f xs n x q
 
 -- what a mapped list has is of an element
-record Mapped {A B : Type 0} (f : A → B) (xs : List A) (n : ℕ) (y : B) : Type 0 where
-  of : A
-  found : slice_get xs n ≡ Some of
-  is : f of ≡ y
+pub record Mapped {A B : Type 0} (f : A → B) (xs : List A) (n : ℕ) (y : B) : Type 0 where
+  pub of : A
+  pub found : slice_get xs n ≡ Some of
+  pub is : f of ≡ y
 
-mapped : {A B : Type 0} (f : A → B) (xs : List A) (n : ℕ) (y : B) → slice_get (map f xs) n ≡ Some y → Mapped f xs n y
+pub mapped : {A B : Type 0} (f : A → B) (xs : List A) (n : ℕ) (y : B) → slice_get (map f xs) n ≡ Some y → Mapped f xs n y
 mapped f [] n y q = absurd (no_element q)
 mapped f (x ∷ xs) zero y q = record { of = x; found = refl; is = same_Some (f x) y q }
 mapped f (x ∷ xs) (suc n) y q = let o = mapped f xs n y q in record { of = o.of; found = o.found; is = o.is }
 
-pub file_closed : {env : Environment} → FormsEnvironment env → IsClosedFile (file_shapes env)
-file_closed {env = env} k = record {
-  vals = λ n s q f. let o = mapped shape_of env.vals n s q in subst (λ (a : Shape). fill_shape f a ≡ a) o.is (ty_fixed o.of f (k.vals n o.of o.found));
+monos_canonical : (ts : List MonoTree) → All (IsCanonicalMono []) ts → All (IsFormedMono []) ts
+monos_canonical ts d = λ k t l. canonical_mono [] (d k t l)
+
+pub canonical_closed : {env : Environment} → IsCanonicalEnvironment env → IsClosedFile (file_shapes env)
+canonical_closed {env = env} known = record {
+  vals = λ n s q f.
+      let o = mapped shape_of env.vals n s q in
+      subst (λ (a : Shape). fill_shape f a ≡ a) o.is (ty_fixed o.of f (canonical_monos [] (known.val_types n o.of o.found)));
   captured = λ n m q f. absurd (no_element q);
   made = λ n m q f. absurd (no_element q);
   recs = λ n ts q f.
       let o = mapped (λ (r : RecTree). r.params) env.recs n ts q in
-      subst (λ (a : List MonoTree). fill_monos f a ≡ a) o.is (monos_fixed o.of.params f (k.rec_params n o.of o.found));
+      subst (λ (a : List MonoTree). fill_monos f a ≡ a) o.is (monos_fixed o.of.params f (monos_canonical o.of.params (known.rec_params n o.of o.found)));
 }
+
+pub file_closed : {env : Environment} → FormsEnvironment env → IsClosedFile (file_shapes env)
+file_closed {env = env} known = canonical_closed (environment_bare env known)
 
 -- what is closed is formed in each context
 none_fills : (g : Shapes) → FillsFormed (renaming_of (λ n. n)) (λ n. n) [] g

@@ -7,11 +7,12 @@ use Rattle.theory_substitution.specs.Monotypes.{Filling, next_filling, fill_mono
 use Rattle.theory_formed_shapes.specs.Shapes.{Shape, sh_mono, sh_comp, fill_shape, renaming_of, up_shape, dropping, first_filled, shape_of, ShapeEntry, in_mono}
 use Rattle.theory_formed_shapes.specs.Shapes.{in_term, Shapes, HasShape, mono_at_zero, heap_further, shape_here, shape_there}
 use Rattle.theory_formed_shapes.specs.Formed.{FileShapes, IsFormedMono, z_m_var, IsFormedTerm, z_lam, z_lam_t, z_do, z_neutral, IsFormedNeutral, w_var, w_app}
-use Rattle.theory_formed_shapes.specs.Formed.{w_inst, z_ret, z_step, z_run, IsFormedTy, z_mono, z_fun, z_all, z_hoare, z_triple, IsClosedFile}
+use Rattle.theory_formed_shapes.specs.Formed.{w_inst, z_ret, z_step, z_run, IsClosedFile}
 use Rattle.theory_formed_shapes.specs.Laws.{FillsFormed}
 use Rattle.theory_formed_shapes.proofs.Fillings.{mono_renamed, next_renaming, shape_kept, one_way, up_renamed, first_is_itself}
 use Rattle.theory_formed_shapes.proofs.Filled.{mono_filled, mono_raised}
 use Rattle.theory_formed_shapes.proofs.Renamed.{neutral_renamed, fills_suc, fills_lift, fills_lift_mono}
+use Rattle.theory_formed_shapes.proofs.Monos.{MonosFormed, mono_monos, fun_monos, all_monos, spec_monos}
 use Rattle.theory_formed_typing.proofs.Closed.{up_dropped}
 
 raised_shape : (m : Map) (a : Shape) → up_shape (fill_shape (renaming_of m) a) ≡ fill_shape (renaming_of (λ n. suc (m n))) a
@@ -38,14 +39,14 @@ inner_shape m a =
     ∙ ap (λ (f : Filling). fill_shape f a) (next_renaming m)
 
 pub expanded : {file : FileShapes} (A : TyTree) {m : Map} {outer g : Shapes} (K : TermTree)
-    → IsFormedTy file outer A
+    → MonosFormed outer A
     → IsClosedFile file
     → FillsFormed (renaming_of m) m outer g
     → IsFormedNeutral file g K (fill_shape (renaming_of m) (shape_of A))
     → IsFormedTerm file g (expansion m K A) (fill_shape (renaming_of m) (shape_of A))
 unfolding expansion shape_of fill_shape
-expanded (y_mono mono) K (z_mono d) c k h = z_neutral h
-expanded {file = file} (y_fun argument answer) {m = m} {outer = outer} {g = g} K (z_fun d e) c k h =
+expanded (y_mono mono) K (mono_monos d) c k h = z_neutral h
+expanded {file = file} (y_fun argument answer) {m = m} {outer = outer} {g = g} K (fun_monos d e) c k h =
     let a = fill_shape (renaming_of m) (shape_of argument) in
     let b = fill_shape (renaming_of m) (fill_shape dropping (shape_of answer)) in
     let q = raised_shape m (shape_of argument) in
@@ -58,13 +59,13 @@ expanded {file = file} (y_fun argument answer) {m = m} {outer = outer} {g = g} K
     let head = subst (IsFormedNeutral file (in_term a ∷ g) inner) r (w_app (neutral_renamed h c (fills_suc (in_term a) g)) term) in
     z_lam (subst (IsFormedTerm file (in_term a ∷ g) (expansion (lift m) inner answer)) (sym r)
     (expanded answer inner e c (fills_lift (shape_of argument) k) head))
-expanded {file = file} (y_all body) {m = m} {outer = outer} {g = g} K (z_all d) c k h =
+expanded {file = file} (y_all body) {m = m} {outer = outer} {g = g} K (all_monos d) c k h =
     let inner = t_inst (rename_term suc K) (m_var zero) in
     let raised = neutral_renamed h c (fills_suc in_mono g) in
     let head = subst (IsFormedNeutral file (in_mono ∷ g) inner) (inner_shape m (shape_of body)) (w_inst raised (z_m_var mono_at_zero)) in
     z_lam_t (subst (λ (f : Filling). IsFormedTerm file (in_mono ∷ g) (expansion (lift m) inner body) (fill_shape f (shape_of body)))
     (sym (next_renaming m)) (expanded body inner d c (fills_lift_mono k) head))
-expanded {file = file} (y_hoare (triple pre mono post)) {m = m} {g = g} K (z_hoare (z_triple d t e)) c k h =
+expanded {file = file} (y_hoare (triple pre mono post)) {m = m} {g = g} K (spec_monos t) c k h =
     let q = mono_renamed m mono in
     let head = subst (λ (u : MonoTree). IsFormedNeutral file g K (sh_comp u)) q h in
     let formed = subst (IsFormedMono g) q (mono_filled t k) in
@@ -79,7 +80,7 @@ itself : (g : Shapes) → FillsFormed (renaming_of (λ n. n)) (λ n. n) g g
 itself g = record { monos = λ n d. z_m_var d; heaps = λ n d. d; terms = λ n s d. subst (HasShape g n) (sym (shape_kept s)) d }
 
 pub eta_formed : {file : FileShapes} {g : Shapes} {A : TyTree} {K : TermTree}
-    → IsFormedTy file g A
+    → MonosFormed g A
     → IsClosedFile file
     → IsFormedNeutral file g K (shape_of A)
     → IsFormedTerm file g (eta K A) (shape_of A)

@@ -1,7 +1,6 @@
 -- An item adds at most one thing, with one list of obligations, and keeps the environment canonical.
-use Rattle.std.proofs.Common.{◌≡◌, ℕ, zero, suc, ◌⊎◌, inl, inr, List, [], ◌∷◌, ◌++◌, All, map, Some, slice_get, refl, sym, subst}
+use Rattle.std.proofs.Common.{◌≡◌, inl, inr, List, [], ◌∷◌, ◌++◌, All, map, refl, sym, subst}
 use Rattle.std.proofs.lemmas.List.{map-append}
-use Rattle.std.proofs.lemmas.Option.{same_Some}
 use Rattle.htt_syntax.specs.Trees.{TyTree, TermTree}
 use Rattle.theory_truth.specs.Predicates.{RecTree}
 use Rattle.theory_canonical.specs.Skeletons.{Skeleton, skeleton}
@@ -15,7 +14,7 @@ use Rattle.theory_typing_canonical.proofs.Entries.{none_owed, mono_canonical}
 use Rattle.theory_typing_canonical.proofs.Typed.{formed_ty, fitted}
 use Rattle.theory_items.specs.Items.{ItemTree, Added, adds_def, adds_val, adds_rec, with_def, with_val, with_rec, with_added, Derives, derives_abbreviation, derives_pred, derives_def, derives_val, derives_rec}
 use Rattle.theory_items.specs.Laws.{ItemsGiveOne, ItemsKeepCanonical}
-use Rattle.theory_items.proofs.Environments.{none_is_some}
+use Rattle.theory_items.proofs.Lists.{appended}
 use Rattle.theory_items.proofs.MoreHeads.{has_more, ty_more, term_more}
 
 items_once : (env : Environment) (g : Context) (item : ItemTree) (added other : Added) (o p : List Obligation)
@@ -40,13 +39,6 @@ items_once env g item added other o p (derives_rec {r = r} f a b i) (derives_rec
 pub items_give_one : ItemsGiveOne
 items_give_one = items_once
 
--- what stands in a list with one more at its end
-get_appended : {A : Type 0} (xs : List A) (y : A) (n : ℕ) (x : A) → slice_get (xs ++ y ∷ []) n ≡ Some x → (slice_get xs n ≡ Some x) ⊎ (y ≡ x)
-get_appended [] y zero x e = inr (same_Some y x e)
-get_appended [] y (suc n) x e = absurd (none_is_some e)
-get_appended (first ∷ xs) y zero x e = inl e
-get_appended (first ∷ xs) y (suc n) x e = get_appended xs y n x e
-
 module _ (env : Environment) (known : IsCanonicalEnvironment env) where
   def_added : (ty : TyTree) (term : TermTree)
       → IsCanonicalTy (heads_of env) [] ty
@@ -54,13 +46,13 @@ module _ (env : Environment) (known : IsCanonicalEnvironment env) where
       → IsCanonicalEnvironment (with_def env ty term)
   def_added ty term d e = record {
     val_types = known.val_types;
-    def_types = λ number definition f. elim (get_appended env.defs (ty, term) number definition f) [
+    def_types = λ number definition f. elim (appended env.defs (ty, term) number definition f) [
       | inl g ↦ known.def_types number definition g
-      | inr g ↦ subst (λ (x : TyTree × TermTree). IsCanonicalTy (heads_of env) [] (x.0)) g d
+      | inr (p, g) ↦ subst (λ (x : TyTree × TermTree). IsCanonicalTy (heads_of env) [] (x.0)) g d
     ];
-    def_terms = λ number definition f. elim (get_appended env.defs (ty, term) number definition f) [
+    def_terms = λ number definition f. elim (appended env.defs (ty, term) number definition f) [
       | inl g ↦ known.def_terms number definition g
-      | inr g ↦ subst (λ (x : TyTree × TermTree). IsCanonical (heads_of env) [] (x.1) (skeleton (x.0))) g e
+      | inr (p, g) ↦ subst (λ (x : TyTree × TermTree). IsCanonical (heads_of env) [] (x.1) (skeleton (x.0))) g e
     ];
     rec_params = known.rec_params;
   }
@@ -70,9 +62,9 @@ module _ (env : Environment) (known : IsCanonicalEnvironment env) where
     val_types = known.val_types;
     def_types = known.def_types;
     def_terms = known.def_terms;
-    rec_params = λ number other f. elim (get_appended env.recs r number other f) [
+    rec_params = λ number other f. elim (appended env.recs r number other f) [
       | inl g ↦ known.rec_params number other g
-      | inr g ↦ subst (λ (x : RecTree). All (IsCanonicalMono []) x.params) g (λ k t l. mono_canonical (d k t l))
+      | inr (p, g) ↦ subst (λ (x : RecTree). All (IsCanonicalMono []) x.params) g (λ k t l. mono_canonical (d k t l))
     ];
   }
 
@@ -89,9 +81,9 @@ module _ (env : Environment) (known : IsCanonicalEnvironment env) where
 
   val_added : (ty : TyTree) → IsCanonicalTy (heads_of env) [] ty → IsCanonicalEnvironment (with_val env ty)
   val_added ty d = record {
-    val_types = λ number other f. elim (get_appended env.vals ty number other f) [
+    val_types = λ number other f. elim (appended env.vals ty number other f) [
       | inl g ↦ more_ty ty other (known.val_types number other g)
-      | inr g ↦ subst (λ (x : TyTree). IsCanonicalTy (heads_of (with_val env ty)) [] x) g (more_ty ty ty d)
+      | inr (p, g) ↦ subst (λ (x : TyTree). IsCanonicalTy (heads_of (with_val env ty)) [] x) g (more_ty ty ty d)
     ];
     def_types = λ number definition f. more_ty ty (definition.0) (known.def_types number definition f);
     def_terms = λ number definition f. more_term ty (definition.1) (skeleton (definition.0)) (known.def_terms number definition f);

@@ -1,4 +1,6 @@
 pub mod MoreHeads
-pub mod Environments
+pub mod Lists
 pub mod Derived
+pub mod MorePhrases
+pub mod Defined
 pub mod Worked

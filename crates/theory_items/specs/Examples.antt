@@ -1,12 +1,11 @@
--- Environments and items, worked out by hand.
+-- Items, worked out by hand.
 use Rattle.std.specs.Prelude.{List, [], ◌∷◌}
 use Rattle.htt_syntax.specs.declared.mono.Op.TheVariants.{Add, Sub}
 use Rattle.htt_syntax.specs.Trees.{TyTree, m_word, m_var, y_mono, y_fun, y_hoare, triple, t_var, t_lam, t_do, t_word}
 use Rattle.htt_syntax.specs.Trees.{t_bin, c_ret, f_tt, f_eq, f_rec, no_terms, more_terms}
 use Rattle.theory_truth.specs.Predicates.{RecTree}
-use Rattle.theory_typing.specs.Contexts.{en_term, Environment, Obligation}
+use Rattle.theory_typing.specs.Contexts.{Environment, Obligation}
 use Rattle.theory_typing.specs.Laws.{none, sum_goal}
-use Rattle.theory_formed.specs.Environments.{IsFormedEnvironment, IsFormedIn}
 use Rattle.theory_items.specs.Items.{i_pred, i_def, i_val, i_rec, Added, adds_nothing, adds_def, adds_val, adds_rec, Derives}
 
 -- {tt} x : word {x =[word] 5}
@@ -24,10 +23,6 @@ doubles = record {
 -- pred bad induct n () = { tt } { !bad(n + 1;) }
 abbrev pub not_less : RecTree
 not_less = record { params = []; at_zero = f_tt; at_next = f_rec 0 0 (t_bin Add (t_var 1) (t_word 1)) no_terms }
-
--- a value, a definition and a predicate
-abbrev pub small : Environment
-small = record { vals = gives_five ∷ []; defs = (y_mono m_word, t_word 1) ∷ []; recs = doubles ∷ [] }
 
 pub record WorkedExamples : Type 0 where
   -- def one : word = 1
@@ -52,8 +47,3 @@ pub record WorkedExamples : Type 0 where
   -- in a context with a word x: def d : word = x
   pub in_context : Derives none (en_term (y_mono m_word) ∷ []) (i_def (y_mono m_word) (t_var 0))
       (adds_def (y_mono m_word) (t_var 0)) []
-  -- the environment of the three, with a word in the context
-  pub formed : IsFormedIn small (en_term (y_mono m_word) ∷ [])
-  -- a value of a word, and a predicate that isn't founded
-  pub value_of_word : IsFormedEnvironment (record { vals = y_mono m_word ∷ []; defs = []; recs = [] }) → ⊥
-  pub not_founded : IsFormedEnvironment (record { vals = []; defs = []; recs = not_less ∷ [] }) → ⊥

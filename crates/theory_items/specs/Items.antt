@@ -4,13 +4,12 @@
 -- In a file an item stands in the empty context. In another context its types, terms and formulas may
 -- speak of the entries.
 use Rattle.std.specs.Prelude.{◌≡◌, ℕ, zero, suc, ◌+◌, List, [], ◌∷◌, ◌++◌, length, All}
-use Rattle.htt_syntax.specs.Trees.{MonoTree, TyTree, TermTree, FormulaTree, m_word, y_mono, t_var}
+use Rattle.htt_syntax.specs.Trees.{MonoTree, TyTree, TermTree, FormulaTree, y_mono, m_word, t_var}
 use Rattle.theory_truth.specs.Predicates.{RecTree}
 use Rattle.theory_truth.specs.Atoms.{AtomsMeet}
 use Rattle.theory_typing.specs.Contexts.{en_mono, en_heap, en_term, Context, Environment, FormsMono, Obligation}
 use Rattle.theory_typing.specs.Contexts.{EndsInHoare}
 use Rattle.theory_typing.specs.Typing.{in_program, FormsTy, FormsFormula, Fits}
-use Rattle.theory_formed.specs.Environments.{with_params}
 
 -- An abbreviation of a monotype; a predicate with so many monotypes, its parameters, each under the
 -- monotypes and the parameters before it, and its body under all and the heap; a definition; a value; a
@@ -35,6 +34,26 @@ pub data FormsParams : Context → List MonoTree → Context → Type 0 where
       → FormsParams (en_term (y_mono t) ∷ g) ts h
       → FormsParams g (t ∷ ts) h
 
+-- a context with entries of these monotypes more, the first of them outermost
+abbrev pub with_params : Context → List MonoTree → Context
+with_params g [] = g
+with_params g (t ∷ ts) = with_params (en_term (y_mono t) ∷ g) ts
+
+-- what the two bodies of a recursive predicate stand under: its parameters and then the heap; and above
+-- 0 the index less one before them
+abbrev pub zero_context : List MonoTree → Context
+zero_context params = en_heap ∷ with_params [] params
+
+abbrev pub next_context : List MonoTree → Context
+next_context params = en_heap ∷ with_params (en_term (y_mono m_word) ∷ []) params
+
+-- the same in a context
+abbrev pub zero_under : Context → List MonoTree → Context
+zero_under g params = en_heap ∷ with_params g params
+
+abbrev pub next_under : Context → List MonoTree → Context
+next_under g params = en_heap ∷ with_params (en_term (y_mono m_word) ∷ g) params
+
 -- what an item adds: the type and the term of a definition; those of a value; a recursive predicate
 pub data Added : Type 0 where
   adds_nothing : Added
@@ -57,13 +76,6 @@ with_added env adds_nothing = env
 with_added env (adds_def ty term) = with_def env ty term
 with_added env (adds_val ty term) = with_val env ty
 with_added env (adds_rec r) = with_rec env r
-
--- what the two bodies of a recursive predicate stand under in a context
-abbrev pub zero_under : Context → List MonoTree → Context
-zero_under g params = en_heap ∷ with_params g params
-
-abbrev pub next_under : Context → List MonoTree → Context
-next_under g params = en_heap ∷ with_params (en_term (y_mono m_word) ∷ g) params
 
 -- an atom of the predicate p itself stands at the index less one, which is the outermost variable
 abbrev pub OwnAtIndex : ℕ → ℕ → ℕ → ℕ → TermTree → Type 0

@@ -1,3 +1,4 @@
 pub mod Items
+pub mod Definitions
 pub mod Laws
 pub mod Examples

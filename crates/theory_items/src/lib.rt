@@ -1,14 +1,9 @@
-//! Formed environments, and the declarations of a file but for its proofs: what each adds to its
-//! environment and owes. A function without a body states laws by its contract.
+//! The declarations of a file but for its proofs: what each adds to its environment and owes. A function
+//! without a body states laws by its contract.
 #![tactic(auto)]
 
 ghost use Rattle.theory_items.specs.Examples.{WorkedExamples};
-ghost use Rattle.theory_items.specs.Laws.{FormedGivesCanonical, ItemsGiveOne, ItemsKeepCanonical};
-
-/// A formed environment and its context are canonical.
-pub fn formed_is_canonical()
-    ensures law { FormedGivesCanonical }
-{}
+ghost use Rattle.theory_items.specs.Laws.{ItemsGiveOne, ItemsKeepCanonical, ItemsKeepDefined, MoreKeepsTyping};
 
 /// An item gives at most one environment and at most one list of obligations.
 pub fn items_give_one()
@@ -20,7 +15,18 @@ pub fn items_keep_canonical()
     ensures law { ItemsKeepCanonical }
 {}
 
-/// Environments and items, worked out by hand.
+/// What is formed or typed where some declarations stand is so where more stand, and owes the same.
+pub fn more_keeps_typing()
+    ensures law { MoreKeepsTyping }
+{}
+
+/// Each definition's term is the form of a term that fits its type with the definitions before it alone:
+/// so before any item, and an item that derives keeps it.
+pub fn items_keep_defined()
+    ensures law { ItemsKeepDefined }
+{}
+
+/// Items, worked out by hand.
 pub fn worked_examples()
     ensures examples { WorkedExamples }
 {}

@@ -1,5 +1,5 @@
 -- The recursive atoms of a formed body are of predicates that the environment has.
-use Rattle.std.proofs.Common.{◌≡◌, ℕ, zero, suc, ◌<◌, List, [], ◌∷◌, ◌++◌, length, Some, None, arith, refl, ap, subst, ◌⊎◌, inl, inr}
+use Rattle.std.proofs.Common.{◌≡◌, ℕ, zero, suc, ◌<◌, List, [], ◌∷◌, ◌++◌, length, Some, arith, refl, ap, subst, ◌⊎◌, inl, inr}
 use Rattle.std.specs.Prelude.{slice_get}
 use Rattle.htt_syntax.specs.Trees.{TermTree, FormulaTree, f_and, f_or, f_imp, f_all_t, f_ex_t, f_all_h, f_ex_h, f_at, f_rec}
 use Rattle.theory_truth.specs.Predicates.{RecTree}
@@ -8,9 +8,7 @@ use Rattle.theory_typing.specs.Contexts.{Context, Environment}
 use Rattle.theory_typing.specs.Typing.{FormsFormula, forms_tt, forms_ff, forms_and, forms_or, forms_imp, forms_all_t, forms_ex_t, forms_all_h, forms_ex_h}
 use Rattle.theory_typing.specs.Typing.{forms_emp, forms_cell, forms_block, forms_join, forms_same, forms_eq, forms_rec, forms_formula_at}
 use Rattle.theory_items.specs.Items.{with_rec, OwnAtIndex}
-
-pub no_element : {A : Type 0} {x : A} → None ≡ Some x → ⊥
-no_element e = cc
+use Rattle.theory_items.proofs.Lists.{no_element}
 
 pub found_is_below : {A : Type 0} (xs : List A) (n : ℕ) (x : A) → slice_get xs n ≡ Some x → n < length xs
 found_is_below [] n x e = absurd (no_element e)

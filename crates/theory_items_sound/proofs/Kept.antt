@@ -1,7 +1,6 @@
 -- Each item keeps an environment sound.
-use Rattle.std.proofs.Common.{◌≡◌, ℕ, zero, suc, List, [], ◌∷◌, ◌++◌, length, All, map, Some, refl, sym, ap, subst, ◌⊎◌, inl, inr}
+use Rattle.std.proofs.Common.{◌≡◌, ℕ, List, [], ◌∷◌, ◌++◌, length, All, map, Some, sym, subst, inl, inr}
 use Rattle.std.specs.Prelude.{slice_get}
-use Rattle.std.proofs.lemmas.Option.{same_Some}
 use Rattle.std.proofs.lemmas.List.{map-append}
 use Rattle.std.proofs.lemmas.List.Elements.{All-tail, All-head}
 use Rattle.htt_syntax.specs.Trees.{MonoTree, TyTree, TermTree, y_mono, m_word}
@@ -10,30 +9,23 @@ use Rattle.theory_truth.specs.Atoms.{IsFounded}
 use Rattle.theory_canonical.specs.Skeletons.{skeleton}
 use Rattle.theory_canonical.specs.Contexts.{Standing, Heads}
 use Rattle.theory_canonical.specs.Canonical.{IsCanonicalMono, n_m_word, n_mono, IsCanonicalFormula}
-use Rattle.theory_typing_shapes.specs.Shapes.{shape_of}
-use Rattle.theory_typing_shapes.specs.Typed.{Typed}
+use Rattle.theory_formed_shapes.specs.Shapes.{shape_of}
+use Rattle.theory_formed_shapes.specs.Formed.{file_shapes, IsFormedTerm}
+use Rattle.theory_formed_shapes.proofs.More.{term_more}
+use Rattle.theory_formed_typing.proofs.Terms.{fit_term}
 use Rattle.theory_typing.specs.Contexts.{Context, Environment, FormsMono, Obligation, EndsInHoare, en_term}
-use Rattle.theory_formed.specs.Environments.{with_params, zero_context, next_context}
 use Rattle.theory_typing_canonical.specs.Environments.{standings, heads_of, IsCanonicalEnvironment, IsCanonicalContext, no_entry, heap_entry, term_entry}
 use Rattle.theory_typing_canonical.proofs.Entries.{closed_mono, mono_canonical}
 use Rattle.theory_typing_canonical.proofs.Typed.{formed_ty, formed_formula}
-use Rattle.theory_typing_values.proofs.TypedForms.{fits_typed}
-use Rattle.theory_items.specs.Items.{ItemTree, Added, with_def, with_val, with_rec, with_added, Derives, derives_abbreviation, derives_pred, derives_def, derives_val, derives_rec}
+use Rattle.theory_items.specs.Items.{with_params, zero_context, next_context, ItemTree, Added, with_def, with_val, with_rec, with_added, Derives}
+use Rattle.theory_items.specs.Items.{derives_abbreviation, derives_pred, derives_def, derives_val, derives_rec}
 use Rattle.theory_items.proofs.Derived.{items_keep_canonical}
+use Rattle.theory_items.proofs.Lists.{appended}
 use Rattle.theory_items.proofs.MoreHeads.{has_more, formula_more}
 use Rattle.theory_items_sound.specs.Environments.{IsSoundRec, SoundEnvironment}
 use Rattle.theory_items_sound.specs.Laws.{ItemsKeepSound}
-use Rattle.theory_items_sound.proofs.Sorts.{type_sorted, shapes_sound}
-use Rattle.theory_items_sound.proofs.Founded.{no_element, earlier_atoms, next_atoms}
-
--- what is found in a list with one more at the end
-pub found_in : {A : Type 0} (xs : List A) (x : A) (n : ℕ) (y : A)
-    → slice_get (xs ++ x ∷ []) n ≡ Some y
-    → (slice_get xs n ≡ Some y) ⊎ ((n ≡ length xs) × (x ≡ y))
-found_in [] x zero y q = inr (refl, same_Some x y q)
-found_in [] x (suc n) y q = absurd (no_element q)
-found_in (z ∷ xs) x zero y q = inl q
-found_in (z ∷ xs) x (suc n) y q = elim (found_in xs x n y q) [ inl p ↦ inl p | inr (p, r) ↦ inr (ap suc p, r) ]
+use Rattle.theory_items_sound.proofs.Files.{val_file, rec_file}
+use Rattle.theory_items_sound.proofs.Founded.{earlier_atoms, next_atoms}
 
 -- the contexts of a predicate's bodies are canonical
 params_entered : {heads : Heads} (params : List MonoTree) (g : Context)
@@ -55,14 +47,14 @@ module _ (env : Environment) (sound : SoundEnvironment env) where
   -- one definition more
   def_kept : (ty' : TyTree) (term' : TermTree)
       → IsCanonicalEnvironment (with_def env ty' term')
-      → Typed [] term' (shape_of ty')
+      → IsFormedTerm (file_shapes env) [] term' (shape_of ty')
       → SoundEnvironment (with_def env ty' term')
-  def_kept ty' term' known typed = record {
+  def_kept ty' term' known formed = record {
     canonical = known;
     vals_end = sound.vals_end;
-    defs_typed = λ number definition e. elim (found_in env.defs (ty', term') number definition e) [
-      | inl f ↦ sound.defs_typed number definition f
-      | inr (p, f) ↦ subst (λ (d : TyTree × TermTree). Typed [] (d.1) (shape_of (d.0))) f typed
+    defs_formed = λ number definition e. elim (appended env.defs (ty', term') number definition e) [
+      | inl f ↦ sound.defs_formed number definition f
+      | inr (p, f) ↦ subst (λ (d : TyTree × TermTree). IsFormedTerm (file_shapes env) [] (d.1) (shape_of (d.0))) f formed
     ];
     recs_sound = sound.recs_sound;
     recs_founded = sound.recs_founded;
@@ -80,8 +72,8 @@ module _ (env : Environment) (sound : SoundEnvironment env) where
   val_kept : (ty : TyTree) → IsCanonicalEnvironment (with_val env ty) → EndsInHoare ty → SoundEnvironment (with_val env ty)
   val_kept ty known ends = record {
     canonical = known;
-    vals_end = λ number other e. elim (found_in env.vals ty number other e) [ inl f ↦ sound.vals_end number other f | inr (p, f) ↦ subst EndsInHoare f ends ];
-    defs_typed = sound.defs_typed;
+    vals_end = λ number other e. elim (appended env.vals ty number other e) [ inl f ↦ sound.vals_end number other f | inr (p, f) ↦ subst EndsInHoare f ends ];
+    defs_formed = λ number definition e. term_more (val_file env ty) (sound.defs_formed number definition e);
     recs_sound = λ number r e.
         let s = sound.recs_sound number r e in
         record {
@@ -100,12 +92,12 @@ module _ (env : Environment) (sound : SoundEnvironment env) where
   rec_kept r known s founded = record {
     canonical = known;
     vals_end = sound.vals_end;
-    defs_typed = sound.defs_typed;
-    recs_sound = λ number other e. elim (found_in env.recs r number other e) [
+    defs_formed = λ number definition e. term_more (rec_file env r) (sound.defs_formed number definition e);
+    recs_sound = λ number other e. elim (appended env.recs r number other e) [
       | inl f ↦ sound.recs_sound number other f
       | inr (p, f) ↦ subst (IsSoundRec (heads_of env)) f s
     ];
-    recs_founded = λ number other e. elim (found_in env.recs r number other e) [
+    recs_founded = λ number other e. elim (appended env.recs r number other e) [
       | inl f ↦ sound.recs_founded number other f
       | inr (p, f) ↦ subst (λ (n : ℕ). IsFounded n other) (sym p) (subst (IsFounded (length env.recs)) f founded)
     ];
@@ -120,7 +112,7 @@ module _ (env : Environment) (sound : SoundEnvironment env) where
     val_types = sound.canonical.val_types;
     def_types = sound.canonical.def_types;
     def_terms = sound.canonical.def_terms;
-    rec_params = λ number other e. elim (found_in env.recs r number other e) [
+    rec_params = λ number other e. elim (appended env.recs r number other e) [
       | inl f ↦ sound.canonical.rec_params number other f
       | inr (p, f) ↦ subst (λ (x : RecTree). All (IsCanonicalMono []) x.params) f (monos_canonical r.params d)
     ];
@@ -131,7 +123,7 @@ module _ (env : Environment) (sound : SoundEnvironment env) where
   kept (derives_pred a b) = sound
   kept {item = item} {added = added} {o = o} (derives_def {ty' = ty'} {term' = term'} a b) =
       def_kept ty' term' (items_keep_canonical.environment env item added o sound.canonical (derives_def a b))
-      (fits_typed b (shapes_sound sound) tt (type_sorted [] (formed_ty env sound.canonical no_entry a)))
+      (fit_term env sound.canonical sound.defs_formed b no_entry (formed_ty env sound.canonical no_entry a))
   kept {item = item} {added = added} {o = o} (derives_val {ty' = ty'} a ends b) =
       val_kept ty' (items_keep_canonical.environment env item added o sound.canonical (derives_val a ends b)) ends
   kept (derives_rec {r = r} {at_zero = at_zero} {at_next = at_next} f a b i) =
@@ -157,7 +149,7 @@ items_keep_sound = record {
       rec_params = λ n r q. absurd (nothing_there n q);
     };
     vals_end = λ n ty q. absurd (nothing_there n q);
-    defs_typed = λ n d q. absurd (nothing_there n q);
+    defs_formed = λ n d q. absurd (nothing_there n q);
     recs_sound = λ n r q. absurd (nothing_there n q);
     recs_founded = λ n r q. absurd (nothing_there n q);
   };

@@ -1,3 +1,3 @@
-pub mod Sorts
 pub mod Founded
+pub mod Files
 pub mod Kept

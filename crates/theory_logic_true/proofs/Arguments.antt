@@ -14,9 +14,9 @@ use Rattle.theory_logic_sorts.proofs.Instances.{instance_sorted}
 use Rattle.theory_logic_axioms_true.specs.Laws.{AreOfSorts, AreOfShape}
 use Rattle.theory_logic_axioms_true.proofs.True.{axioms}
 use Rattle.theory_typing_values.specs.FirstOrder.{IsFirstOrder, sorts_of}
-use Rattle.theory_formed.specs.Environments.{IsFormedEnvironment}
+use Rattle.theory_formed_items.specs.Environments.{IsFormedEnvironment}
 use Rattle.theory_typing_values.proofs.Formed.{SortedContext, mono_formed}
-use Rattle.theory_typing_values.proofs.TypedForms.{SoundEnvironment}
+use Rattle.theory_items_sound.specs.Environments.{SoundEnvironment}
 use Rattle.theory_typing_values.proofs.Sorted.{values, term_sorted}
 use Rattle.theory_logic_true.specs.Laws.{InstancesAreTrue}
 use Rattle.theory_logic_true.proofs.Scenes.{heap_there, heap_entry}

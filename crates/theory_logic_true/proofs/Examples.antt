@@ -15,20 +15,22 @@ use Rattle.theory_canonical.specs.Skeletons.{skeleton}
 use Rattle.theory_canonical.specs.Folding.{contractum}
 use Rattle.theory_canonical.specs.Eta.{expansion}
 use Rattle.theory_substitution.specs.Closing.{closing}
+use Rattle.theory_substitution.specs.Monotypes.{fill_mono}
 use Rattle.theory_substitution.specs.Substitution.{u_y_mono, u_bin, u_reduced, u_word, r_var, u_f_emp}
 use Rattle.theory_typing.specs.Positions.{plain_ty}
-use Rattle.theory_typing.specs.Contexts.{EndsInHoare, type_here, forms_word}
-use Rattle.theory_typing.specs.Typing.{forms_eq, gives_var, gives_word, gives_def, gives_app, gives_bin, fits_lam, fits_given}
+use Rattle.theory_typing.specs.Contexts.{EndsInHoare, forms_word}
+use Rattle.theory_typing.specs.Typing.{forms_eq, gives_word, gives_def, gives_app, fits_given}
 use Rattle.theory_logic_rules.specs.Rules.{infers_hyp, infers_inst_term}
 use Rattle.theory_logic_rules.specs.Examples.{env, with_word, with_heap, is_five}
 use Rattle.theory_truth.specs.Examples.{doubles}
 use Rattle.theory_logic_rules.proofs.Examples as derivations
 use Rattle.theory_logic_sorts.specs.Sorts.{SortedMono, SortedTerm, SortedFormula}
 use Rattle.theory_typing_values.specs.FirstOrder.{sorts_of, IsFirstOrder, fo_none, fo_value, fo_heap}
-use Rattle.theory_formed.specs.Shapes.{shape, rename_shape, heap_at_zero, shape_at_zero, shape_further}
-use Rattle.theory_formed.specs.Formed.{file_shapes, IsFormedMono, z_m_word, z_word, z_bin, z_neutral, w_var, z_no_terms, z_more_terms, IsFormedTy, z_mono}
-use Rattle.theory_formed.specs.Formed.{z_fun, z_hoare, z_triple, z_tt, z_equal, z_rec}
-use Rattle.theory_formed.specs.Environments.{before_def, IsDefined, IsFormedRec, IsFormedEnvironment}
+use Rattle.theory_formed_shapes.specs.Shapes.{fill_shape, dropping, shape_of, heap_at_zero, shape_here, shape_there}
+use Rattle.theory_formed_shapes.specs.Formed.{file_shapes, IsFormedMono, z_m_word, IsFormedTerm, z_word, z_bin, z_lam, z_neutral, w_var, z_no_terms}
+use Rattle.theory_formed_shapes.specs.Formed.{z_more_terms, IsFormedTy, z_mono}
+use Rattle.theory_formed_shapes.specs.Formed.{z_fun, z_hoare, z_triple, z_tt, z_equal, z_rec}
+use Rattle.theory_formed_items.specs.Environments.{IsFormedRec, IsFormedEnvironment}
 use Rattle.theory_logic_true.specs.Examples.{successor, word_to_word, with_definition, one_block, against_its_sort, WorkedExamples, SortsAreNeeded}
 use Rattle.theory_logic_true.proofs.True.{inferred, proved}
 
@@ -53,13 +55,13 @@ table_founded zero r e = subst (IsFounded 0) (same_rec e) doubles_founded
 table_founded (suc p) r e = absurd (no_element e)
 
 doubles_formed : IsFormedRec (file_shapes env) doubles
-unfolding rename_shape rename_mono contractum shape
+unfolding fill_shape fill_mono rename_mono contractum shape_of
 doubles_formed = record {
   params = All-cons (IsFormedMono []) m_word [] z_m_word (All-nil (IsFormedMono []));
-  at_zero = z_equal z_m_word (z_neutral (w_var (shape_further shape_at_zero))) (z_word (omega arith));
+  at_zero = z_equal z_m_word (z_neutral (w_var (shape_there shape_here))) (z_word (omega arith));
   at_next =
-      z_rec refl heap_at_zero (z_neutral (w_var (shape_further (shape_further shape_at_zero))))
-      (z_more_terms (z_bin (z_neutral (w_var (shape_further shape_at_zero))) (z_word (omega arith)) refl) z_no_terms);
+      z_rec refl heap_at_zero (z_neutral (w_var (shape_there (shape_there shape_here))))
+      (z_more_terms (z_bin (z_neutral (w_var (shape_there shape_here))) (z_word (omega arith)) refl) z_no_terms);
 }
 
 recs_formed : (n : ℕ) (r : RecTree) → slice_get (doubles ∷ []) n ≡ Some r → IsFormedRec (file_shapes env) r
@@ -68,10 +70,13 @@ recs_formed (suc n) r e = absurd (no_element e)
 
 predicate_formed : IsFormedEnvironment env
 predicate_formed = record {
-  val_types = λ n ty e. absurd (no_element e);
-  def_types = λ n d e. absurd (no_element e);
+  forms = record {
+    vals = λ n ty e. absurd (no_element e);
+    def_types = λ n d e. absurd (no_element e);
+    def_terms = λ n d e. absurd (no_element e);
+    rec_params = λ n r e. (recs_formed n r e).params;
+  };
   vals_end = λ n ty e. absurd (no_element e);
-  def_terms = λ n d e. absurd (no_element e);
   recs_formed = recs_formed;
   recs_founded = table_founded;
 }
@@ -84,29 +89,27 @@ val_formed zero ty e =
     (z_hoare (z_triple z_tt z_m_word z_tt), tt)
 val_formed (suc n) ty e = absurd (no_element e)
 
-successor_defined : IsDefined (before_def with_definition 0) (word_to_word, successor)
-unfolding contractum expansion rename_ty rename_mono
-successor_defined = record {
-  written = successor;
-  owed = [];
-  fits = fits_lam (fits_given tt (gives_bin (fits_given tt (gives_var type_here) refl) (fits_given tt (gives_word (omega arith)) refl)) refl);
-}
+successor_formed : IsFormedTerm (file_shapes with_definition) [] successor (shape_of word_to_word)
+unfolding contractum fill_shape fill_mono dropping shape_of rename_mono
+successor_formed = z_lam (z_bin (z_neutral (w_var shape_here)) (z_word (omega arith)) refl)
 
 def_formed : (n : ℕ) (d : TyTree × TermTree)
     → slice_get ((word_to_word, successor) ∷ []) n ≡ Some d
-    → IsFormedTy (file_shapes with_definition) [] (d.0) × IsDefined (before_def with_definition n) d
-unfolding shape
+    → IsFormedTy (file_shapes with_definition) [] (d.0) × IsFormedTerm (file_shapes with_definition) [] (d.1) (shape_of (d.0))
 def_formed zero d e =
-    subst (λ (x : TyTree × TermTree). IsFormedTy (file_shapes with_definition) [] (x.0) × IsDefined (before_def with_definition 0) x)
-    (same_definition e) (z_fun (z_mono z_m_word) refl (z_mono z_m_word), successor_defined)
+    subst (λ (x : TyTree × TermTree). IsFormedTy (file_shapes with_definition) [] (x.0) × IsFormedTerm (file_shapes with_definition) [] (x.1) (shape_of (x.0)))
+    (same_definition e) (z_fun (z_mono z_m_word) (z_mono z_m_word), successor_formed)
 def_formed (suc n) d e = absurd (no_element e)
 
 definition_formed : IsFormedEnvironment with_definition
 definition_formed = record {
-  val_types = λ n ty e. (val_formed n ty e).0;
-  def_types = λ n d e. (def_formed n d e).0;
+  forms = record {
+    vals = λ n ty e. (val_formed n ty e).0;
+    def_types = λ n d e. (def_formed n d e).0;
+    def_terms = λ n d e. (def_formed n d e).1;
+    rec_params = λ n r e. absurd (no_element e);
+  };
   vals_end = λ n ty e. (val_formed n ty e).1;
-  def_terms = λ n d e. (def_formed n d e).1;
   recs_formed = λ n r e. absurd (no_element e);
   recs_founded = λ n r e. absurd (no_element e);
 }

@@ -34,10 +34,10 @@ use Rattle.theory_logic_axioms_true.proofs.Order.{below}
 use Rattle.theory_logic_axioms_true.proofs.Induction.{word_induction}
 use Rattle.theory_logic_axioms_true.proofs.Values.{literal_at, op_given, WordAt}
 use Rattle.theory_typing_values.specs.FirstOrder.{sorts_of}
-use Rattle.theory_formed.specs.Environments.{IsFormedEnvironment}
-use Rattle.theory_typing_values.proofs.Formed.{SortedTy, SortedContext}
-use Rattle.theory_typing_values.proofs.TypedForms.{SoundEnvironment}
-use Rattle.theory_typing_values.proofs.Environments.{sound}
+use Rattle.theory_formed_items.specs.Environments.{IsFormedEnvironment}
+use Rattle.theory_typing_values.proofs.Formed.{SortedContext}
+use Rattle.theory_items_sound.specs.Environments.{SoundEnvironment}
+use Rattle.theory_formed_items.proofs.Sound.{formed_sound}
 use Rattle.theory_typing_values.proofs.Sorted.{term_sorted, formula_sorted}
 use Rattle.theory_logic_true.specs.Sequents.{AreSorted}
 use Rattle.theory_logic_true.proofs.Scenes.{each_at, heap_entry}
@@ -76,7 +76,6 @@ pub motive_sorted : {env : Environment} {g : Context} {C C' : FormulaTree} (t : 
     → SortedContext g
     → SortedMono (sorts_of g) t
     → SortedFormula (for_value ∷ sorts_of g) C'
-unfolding SortedTy
 motive_sorted t p s c d = formula_sorted p s (d, c)
 
 -- an equation between terms, in a motive
@@ -195,7 +194,7 @@ zero_is_sorted : (env : Environment)
 unfolding SortedFormula SortedTerm
 zero_is_sorted env f g c number r e h args values (fits_heap_arg i rest) F put =
     let t = fits_terms rest r.params refl in
-    let a = arguments.args_sorted rest (sound env f) c in
+    let a = arguments.args_sorted rest (formed_sound env f) c in
     let body =
     arguing.arguments_sorted (sorts_of g) (values ++ a_heap h ∷ []) (arguments.more_sorted (sorts_of g) values h a (heap_entry i)) r.at_zero
     F put (zero_sorted_put env f number r e (sorts_of g) values h t.0 t.1) in
@@ -218,8 +217,8 @@ next_is_sorted : (env : Environment)
 unfolding SortedFormula SortedTerm SortedMono
 next_is_sorted env f g c number r e h m args values (fits_heap_arg i (fits_term_arg d rest)) F put =
     let t = fits_terms rest r.params refl in
-    let a = arguments.args_sorted rest (sound env f) c in
-    let n = term_sorted (sound env f) c d in
+    let a = arguments.args_sorted rest (formed_sound env f) c in
+    let n = term_sorted (formed_sound env f) c d in
     let body =
     arguing.arguments_sorted (sorts_of g) (a_term m ∷ values ++ a_heap h ∷ [])
     (n, arguments.more_sorted (sorts_of g) values h a (heap_entry i)) r.at_next F put
@@ -244,14 +243,14 @@ infers_sorted (infers_first p) f c s = (infers_sorted p f c s).0
 infers_sorted (infers_second p) f c s = (infers_sorted p f c s).1
 infers_sorted (infers_app p q) f c s = (infers_sorted p f c s).1
 infers_sorted {env = env} {g = g} (infers_inst_term {m' = m'} p d u) f c s =
-    put_sorted m' (sorts_of g) u (term_sorted (sound env f) c d) (infers_sorted p f c s).1
+    put_sorted m' (sorts_of g) u (term_sorted (formed_sound env f) c d) (infers_sorted p f c s).1
 infers_sorted {g = g} (infers_inst_heap {h = h} {F = F} p i) f c s = sorting.heap_sorted h (sorts_of g) (heap_entry i) F (infers_sorted p f c s)
 infers_sorted {env = env} {g = g} (infers_axiom axiom_name {monos = monos} {arguments' = values} {F = F} text m shaped side sorted fits row)
     f c s =
     arguments.instance_is_sorted (sorts_of g) axiom_name monos values F row (arguments.monos_sorted m)
-    (arguments.args_sorted fits (sound env f) c)
-infers_sorted {env = env} (infers_lem p) f c s = let d = formula_sorted p (sound env f) c in (d, (d, tt))
-infers_sorted {env = env} (infers_the p q) f c s = formula_sorted p (sound env f) c
+    (arguments.args_sorted fits (formed_sound env f) c)
+infers_sorted {env = env} (infers_lem p) f c s = let d = formula_sorted p (formed_sound env f) c in (d, (d, tt))
+infers_sorted {env = env} (infers_the p q) f c s = formula_sorted p (formed_sound env f) c
 infers_sorted {env = env} {g = g}
     (infers_at_zero {number = number} {r = r} {h = h} {arguments = args} {values = values} {F = F} e sorted fits put) f c s =
     zero_is_sorted env f g c number r e h args values fits F put

@@ -13,7 +13,7 @@ use Rattle.theory_substitution.specs.Substitution.{SubFormula}
 use Rattle.theory_canonical.specs.Skeletons.{sk_o}
 use Rattle.theory_canonical.specs.Canonical.{IsCanonicalFormula}
 use Rattle.theory_typing.specs.Contexts as contexts
-use Rattle.theory_typing.specs.Contexts.{en_heap, en_term, Context, Environment}
+use Rattle.theory_typing.specs.Contexts.{Context, Environment}
 use Rattle.theory_typing.specs.Typing.{FormsFormula}
 use Rattle.theory_logic_rules.specs.Sequents.{SameFormula, put_heap, below_greatest}
 use Rattle.theory_logic_rules.specs.Rules.{Infers, Proves, ProvesBlock, infers_hyp, infers_first, infers_second, infers_app, infers_inst_term, infers_inst_heap}
@@ -31,11 +31,11 @@ use Rattle.theory_logic_axioms_true.proofs.Plain.{same_value, same_truth}
 use Rattle.theory_logic_axioms_true.specs.WordLaws.{IsBelow}
 use Rattle.theory_logic_axioms_true.proofs.Values.{WordTerm, as_word}
 use Rattle.theory_typing_values.specs.FirstOrder.{IsFirstOrder, sorts_of}
-use Rattle.theory_formed.specs.Shapes.{context_shape}
-use Rattle.theory_formed.specs.Formed.{file_shapes, IsFormedFormula}
-use Rattle.theory_formed.specs.Environments.{IsFormedEnvironment}
+use Rattle.theory_formed_shapes.specs.Shapes.{shapes_of}
+use Rattle.theory_formed_shapes.specs.Formed.{file_shapes, IsFormedFormula}
+use Rattle.theory_formed_items.specs.Environments.{IsFormedEnvironment}
 use Rattle.theory_typing_values.proofs.FormedTrees.{first_order_alike, formed_sorted}
-use Rattle.theory_typing_values.proofs.Environments.{sound}
+use Rattle.theory_formed_items.proofs.Sound.{formed_sound}
 use Rattle.theory_typing_values.proofs.Sorted.{term_sorted, formula_sorted, context_sorted}
 use Rattle.theory_logic_true.specs.Sequents.{Each, AreSorted, AreTrue}
 use Rattle.theory_logic_true.specs.Laws.{InferredIsTrue, ProvedIsTrue}
@@ -75,7 +75,7 @@ formed_in : {env : Environment} {g : Context} {hs : List FormulaTree} {w : World
     → IsFormedEnvironment env
     → Scene env g hs w
     → SortedFormula (sorts_of g) F'
-formed_in {env = env} p f s = formula_sorted p (sound env f) (context_of s)
+formed_in {env = env} p f s = formula_sorted p (formed_sound env f) (context_of s)
 
 word_sorted : (s : Sorts) → SortedMono s m_word
 unfolding SortedMono
@@ -152,7 +152,7 @@ mutual
         term_value w m',
         arguments.value_of_term t f s.first_order s.world m,
         take_out (recs_of env.recs) m' (sorts_of g) w u d.1
-            (proves_true p f s (put_sorted m' (sorts_of g) u (term_sorted (sound env f) (context_of s) m) d.1)),
+            (proves_true p f s (put_sorted m' (sorts_of g) u (term_sorted (formed_sound env f) (context_of s) m) d.1)),
       )
   proves_true {g = g} (proves_give_heap {h = h} {F = F} i p) f {w = w} s d =
       λ deny.
@@ -172,17 +172,17 @@ mutual
       (λ b. deny (proves_true r f (with_hypothesis B s (sorted_in p f s).1 b) d)) x))
   proves_true {env = env} {g = g} (proves_rewrite_term {t = t} {m = m} {n = n} {G = G} p c u same v q) f {w = w} s d =
       let sorts = sorted_in p f s in
-      let motive = motive_sorted t c (sound env f) (context_of s) sorts.0 in
+      let motive = motive_sorted t c (formed_sound env f) (context_of s) sorts.0 in
       rewritten (recs_of env.recs) (sorts_of g) w m n G (infers_true p f s) u same v motive (proves_true q f s (put_sorted m (sorts_of g) v sorts.1 motive))
   proves_true {env = env} {g = g} (proves_rewrite_heap {h = h} {k = k} {C' = C'} {G = G} p c same q) f {w = w} s d =
       let sorts = sorted_in p f s in
       rewritten_heap env w h k C' G (infers_true p f s) (heap_there h sorts.0 s.first_order s.world).0
       (heap_there k sorts.1 s.first_order s.world).0 same
-      (proves_true q f s (sorting.heap_sorted h (sorts_of g) sorts.0 C' (formula_sorted c (sound env f) (context_of s))))
+      (proves_true q f s (sorting.heap_sorted h (sorts_of g) sorts.0 C' (formula_sorted c (formed_sound env f) (context_of s))))
   proves_true {env = env} {g = g}
       (proves_induct {m' = m'} {C' = C'} {at_word = at_word} {at_zero = at_zero} {at_next = at_next} {G = G} c m u same z p n q) f {w = w} s
       d =
-      let motive = motive_sorted m_word c (sound env f) (context_of s) (word_sorted (sorts_of g)) in
+      let motive = motive_sorted m_word c (formed_sound env f) (context_of s) (word_sorted (sorts_of g)) in
       let a = as_word w m' (arguments.value_of_term m_word f s.first_order s.world m) in
       let R = recs_of env.recs in
       let base = proves_true p f s (put_sorted (t_word 0) (sorts_of g) z (zero_sorted (sorts_of g)) motive) in
@@ -197,7 +197,7 @@ mutual
   proves_true {env = env} {g = g}
       (proves_split {m' = m'} {C' = C'} {at_term = at_term} {at_true = at_true} {at_false = at_false} {G = G} c m u same t p e q) f {w = w}
       s d =
-      let motive = motive_sorted m_bool c (sound env f) (context_of s) (bool_sorted (sorts_of g)) in
+      let motive = motive_sorted m_bool c (formed_sound env f) (context_of s) (bool_sorted (sorts_of g)) in
       let R = recs_of env.recs in
       let first = proves_true p f s (put_sorted (t_bool true) (sorts_of g) t (truth_sorted (sorts_of g) true) motive) in
       let second = proves_true q f s (put_sorted (t_bool false) (sorts_of g) e (truth_sorted (sorts_of g) false) motive) in
@@ -257,7 +257,7 @@ formed_to_sorted : (env : Environment)
     → (g : Context) (c : List FirstOrder)
     → IsFirstOrder g c
     → (F : FormulaTree)
-    → IsFormedFormula (file_shapes env) (context_shape g) F
+    → IsFormedFormula (file_shapes env) (shapes_of g) F
     → SortedFormula (sorts_of g) F
 formed_to_sorted env f g c p F d = formed_sorted (file_shapes env) g F (first_order_alike p) d
 
@@ -281,7 +281,7 @@ proved = record {
   sorted = proved_sorted;
   formed = λ env f g c p hs G d e proof i w q t.
       proved_sorted env f g c p hs G
-      (each_to (IsFormedFormula (file_shapes env) (context_shape g)) (SortedFormula (sorts_of g)) (formed_to_sorted env f g c p) hs d)
+      (each_to (IsFormedFormula (file_shapes env) (shapes_of g)) (SortedFormula (sorts_of g)) (formed_to_sorted env f g c p) hs d)
       (formed_to_sorted env f g c p G e) proof i w q t;
   canonical = λ env f g c p heads hs G d e proof i w q t.
       proved_sorted env f g c p hs G

@@ -23,10 +23,11 @@ use Rattle.theory_logic_axioms_true.specs.WordLaws.{IsBelow}
 use Rattle.theory_logic_axioms_true.proofs.Order.{below, next_word}
 use Rattle.theory_logic_axioms_true.proofs.Values.{WordTerm, as_word, op_given, literal_at, sum_at}
 use Rattle.theory_typing_values.specs.FirstOrder.{IsFirstOrder, sorts_of}
-use Rattle.theory_formed.specs.Environments.{IsFormedEnvironment, with_params, zero_context, next_context}
-use Rattle.theory_formed.specs.Formed.{file_shapes}
+use Rattle.theory_items.specs.Items.{with_params, zero_context, next_context}
+use Rattle.theory_formed_items.specs.Environments.{IsFormedEnvironment}
+use Rattle.theory_formed_shapes.specs.Formed.{file_shapes}
 use Rattle.theory_typing_values.proofs.FormedTrees.{formed_sorted, heap_alike, value_alike, params_alike}
-use Rattle.theory_typing_values.proofs.Environments.{sound}
+use Rattle.theory_formed_items.proofs.Sound.{formed_sound}
 use Rattle.theory_typing_values.proofs.Sorted.{term_sorted, context_sorted}
 use Rattle.theory_logic_true.specs.Laws.{UnfoldingsAreTrue}
 use Rattle.theory_logic_true.proofs.Scenes.{heap_there, heap_entry}
@@ -240,7 +241,7 @@ unfolding Holds term_value
 unfolds_at_zero env f g c p number r e h arguments values (fits_heap_arg i rest) F put w q =
     let t = fits_terms rest r.params refl in
     let entry = heap_entry i in
-    let sorted = more_sorted (sorts_of g) values h (args_sorted rest (sound env f) (context_sorted p)) entry in
+    let sorted = more_sorted (sorts_of g) values h (args_sorted rest (formed_sound env f) (context_sorted p)) entry in
     through (unfolds.at_zero env.recs f.recs_founded number r e (term_values w (terms_of values)) (heap_at w h))
     (zero_body env f number r e (sorts_of g) w values h t.0 t.1 sorted (heap_there h entry p q).0 F put)
 
@@ -275,8 +276,8 @@ unfolds_at_next env f g c p number r e h m arguments values (fits_heap_arg i (fi
     let entry = heap_entry i in
     let a = as_word w m (value_of_term m_word f p q d) in
     let sorted : AreSortedArgs (sorts_of g) (a_term m ∷ values ++ a_heap h ∷ []) = (
-      term_sorted (sound env f) (context_sorted p) d,
-      more_sorted (sorts_of g) values h (args_sorted rest (sound env f) (context_sorted p)) entry,
+      term_sorted (formed_sound env f) (context_sorted p) d,
+      more_sorted (sorts_of g) values h (args_sorted rest (formed_sound env f) (context_sorted p)) entry,
     ) in
     let vs = term_values w (terms_of values) in
     let law = unfolds.at_next env.recs f.recs_founded number r e a.number vs (as_many w values t.0 ∙ t.1) (heap_at w h) in

@@ -16,7 +16,7 @@ use Rattle.theory_logic_rules.specs.Sequents.{both_ways}
 use Rattle.theory_logic_rules.specs.Rules.{Infers}
 use Rattle.theory_logic_rules.specs.Examples.{env, with_word, with_heap, is_five}
 use Rattle.theory_typing_values.specs.FirstOrder.{IsFirstOrder}
-use Rattle.theory_formed.specs.Environments.{IsFormedEnvironment}
+use Rattle.theory_formed_items.specs.Environments.{IsFormedEnvironment}
 use Rattle.theory_logic_true.specs.Sequents.{AreTrue}
 
 -- fun y . y + 1, of words

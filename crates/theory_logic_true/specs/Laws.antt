@@ -10,8 +10,8 @@ use Rattle.theory_canonical.specs.Contexts.{Heads}
 use Rattle.theory_canonical.specs.Canonical.{IsCanonicalFormula}
 use Rattle.theory_canonical.specs.Folding.{folding}
 use Rattle.theory_typing.specs.Contexts.{Context, Environment}
-use Rattle.theory_formed.specs.Shapes.{context_shape}
-use Rattle.theory_formed.specs.Formed.{file_shapes, IsFormedFormula}
+use Rattle.theory_formed_shapes.specs.Shapes.{shapes_of}
+use Rattle.theory_formed_shapes.specs.Formed.{file_shapes, IsFormedFormula}
 use Rattle.theory_logic_axioms.specs.Names.{AxiomName}
 use Rattle.theory_logic_axioms.specs.Table.{ArgSort, heap_sort, term_sort, argument_sorts, IsInstance}
 use Rattle.theory_logic_rules.specs.Sequents.{PutArgs, terms_of, FitsArgs, below_greatest, both_ways}
@@ -19,7 +19,7 @@ use Rattle.theory_logic_rules.specs.Rules.{Infers, Proves}
 use Rattle.theory_logic_sorts.specs.Sorts.{SortedFormula}
 use Rattle.theory_logic_sorts.specs.Laws.{standings_of_sorts}
 use Rattle.theory_typing_values.specs.FirstOrder.{IsFirstOrder, sorts_of}
-use Rattle.theory_formed.specs.Environments.{IsFormedEnvironment}
+use Rattle.theory_formed_items.specs.Environments.{IsFormedEnvironment}
 use Rattle.theory_logic_true.specs.Sequents.{Each, AreSorted, AreFormed, AreTrue}
 
 -- An instance of an axiom at the canonical forms of arguments that fit its sorts.
@@ -104,7 +104,7 @@ pub record ProvedIsTrue : Type 0 where
       → IsFirstOrder g c
       → (hypotheses : List FormulaTree) (goal : FormulaTree)
       → AreFormed env g hypotheses
-      → IsFormedFormula (file_shapes env) (context_shape g) goal
+      → IsFormedFormula (file_shapes env) (shapes_of g) goal
       → (p : ProofTree)
       → Proves env g hypotheses p goal
       → (w : World)
@@ -129,7 +129,7 @@ pub record ProvedIsTrue : Type 0 where
       → (g : Context) (c : List FirstOrder)
       → IsFirstOrder g c
       → (goal : FormulaTree)
-      → IsFormedFormula (file_shapes env) (context_shape g) goal
+      → IsFormedFormula (file_shapes env) (shapes_of g) goal
       → (p : ProofTree)
       → Proves env g [] p goal
       → (w : World)

@@ -5,8 +5,8 @@ use Rattle.theory_truth.specs.Worlds.{World}
 use Rattle.theory_truth.specs.Truth.{Holds}
 use Rattle.theory_truth.specs.Predicates.{recs_of}
 use Rattle.theory_typing.specs.Contexts.{Context, Environment}
-use Rattle.theory_formed.specs.Shapes.{context_shape}
-use Rattle.theory_formed.specs.Formed.{file_shapes, IsFormedFormula}
+use Rattle.theory_formed_shapes.specs.Shapes.{shapes_of}
+use Rattle.theory_formed_shapes.specs.Formed.{file_shapes, IsFormedFormula}
 use Rattle.theory_logic_sorts.specs.Sorts.{Sorts, SortedFormula}
 
 abbrev pub Each : (FormulaTree → Type 0) → List FormulaTree → Type 0
@@ -19,7 +19,7 @@ AreSorted g hypotheses = Each (SortedFormula g) hypotheses
 
 -- They are formed, and canonical.
 abbrev pub AreFormed : Environment → Context → List FormulaTree → Type 0
-AreFormed env g hypotheses = Each (IsFormedFormula (file_shapes env) (context_shape g)) hypotheses
+AreFormed env g hypotheses = Each (IsFormedFormula (file_shapes env) (shapes_of g)) hypotheses
 
 -- They are true in the world, with what the environment's predicates say.
 abbrev pub AreTrue : Environment → World → List FormulaTree → Type 0

@@ -18,7 +18,7 @@ use Rattle.theory_canonical.proofs.Renamed.{keeps_lift, formula_renamed}
 use Rattle.theory_substitution.specs.Monotypes.{Filling, next_filling, fill_formula}
 use Rattle.theory_substitution_unused.proofs.FilledBack.{Undoes, formula_filled as formula_back}
 use Rattle.theory_typing.specs.Contexts.{Context, Environment, en_term, EndsInHoare}
-use Rattle.theory_formed.specs.Environments.{with_params}
+use Rattle.theory_items.specs.Items.{with_params}
 use Rattle.theory_typing_canonical.specs.Environments.{standings, heads_of}
 use Rattle.theory_logic_rules.specs.Sequents.{terms_of}
 use Rattle.theory_denotation.specs.Valuations.{ValuationEntry, den_heap, den_term, Valuation, heap_in, HeadEntries}

@@ -17,7 +17,8 @@ use Rattle.theory_canonical.specs.Contexts.{Heads}
 use Rattle.theory_denotation.specs.Valuations.{den_heap, Valuation, entry_at, mono_in, heap_in, HeadEntries}
 use Rattle.theory_denotation.specs.Denotation.{term_den}
 use Rattle.theory_logic_axioms_satisfied.specs.Laws.{DenoteSorts}
-use Rattle.theory_typing_shaped.proofs.Fitting.{mono_fitted, mono_valued}
+use Rattle.theory_formed_typing.proofs.Fitted.{mono_fitted}
+use Rattle.theory_typing_shaped.proofs.Fitting.{mono_valued}
 use Rattle.theory_denotation_shapes.proofs.Given.{heap_shaped_at}
 use Rattle.theory_items_sound.specs.Environments.{SoundEnvironment}
 use Rattle.theory_logic_unfoldings_satisfied.specs.Entries.{Setting}
@@ -40,7 +41,7 @@ pub form_of : {env : Environment} {g : Context} {m : Mode} {M N : TermTree} {o :
     → IsCanonicalContext (heads_of env) g
     → Fits env m g M (y_mono t) N o
     → IsCanonical (heads_of env) (standings g) N sk_o
-form_of t s c d = mono_fitted t s c d
+form_of t s c d = mono_fitted t s.canonical c d
 
 pub args_denote : {env : Environment} {e : HeadEntries} {g : Context} {w : Valuation} {arguments values : List ArgTree}
     {sorts : List ArgSort}

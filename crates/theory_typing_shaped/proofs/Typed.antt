@@ -1,4 +1,4 @@
--- A canonical term that has a shape denotes at it, where the variables do.
+-- A canonical term that is formed denotes at its shape, where the variables do.
 use Rattle.std.proofs.Common.{◌≡◌, ℕ, zero, suc, List, [], ◌∷◌, refl, sym, ap, subst, ◌⊎◌, inl, inr}
 use Rattle.htt_syntax.specs.Trees.{MonoTree, TermTree}
 use Rattle.theory_values.specs.Values.{HasType, is_word, is_bool, is_loc, is_unit, is_pair, IsClosed, closed_word, closed_bool, closed_loc, closed_unit}
@@ -9,11 +9,11 @@ use Rattle.theory_canonical.specs.Contexts.{Standing, as_mono, as_heap, as_term,
 use Rattle.theory_canonical.specs.Canonical.{IsCanonicalMono, n_m_word, n_m_bool, n_m_loc, n_m_unit, n_m_pair, n_m_var, IsCanonical, n_word, n_bool, n_loc}
 use Rattle.theory_canonical.specs.Canonical.{n_unit, n_pair, n_fst, n_snd, n_not, n_bin, n_eq, n_sel, n_lam, n_lam_t, n_neutral, IsNeutral, e_var, e_app}
 use Rattle.theory_canonical.specs.Canonical.{e_inst}
-use Rattle.theory_typing_shapes.specs.Shapes.{Shape, sh_fun, sh_all, fill_shape, renaming_of, up_shape, first_filled, EndsInComp}
-use Rattle.theory_typing_shapes.specs.Typed.{in_mono, in_heap, in_term, Shapes, HasShape, shape_here, shape_there, Typed, TypedHead, typed_word, typed_bool}
-use Rattle.theory_typing_shapes.specs.Typed.{typed_loc, typed_unit, typed_pair, typed_fst, typed_snd, typed_not, typed_bin, typed_eq, typed_sel, typed_lam}
-use Rattle.theory_typing_shapes.specs.Typed.{typed_lam_t, typed_do, typed_head, head_var, head_val, head_fix, head_app, head_inst}
-use Rattle.theory_typing_shapes.proofs.Fillings.{ends_filled}
+use Rattle.theory_formed_shapes.specs.Shapes.{Shape, sh_fun, sh_all, fill_shape, renaming_of, up_shape, first_filled, in_mono, in_heap, in_term, Shapes}
+use Rattle.theory_formed_shapes.specs.Shapes.{HasShape, shape_here, shape_there}
+use Rattle.theory_formed_shapes.specs.Formed.{FileShapes, IsFormedTerm, z_word, z_bool, z_loc, z_unit, z_pair, z_fst, z_snd, z_not, z_bin, z_eq, z_sel}
+use Rattle.theory_formed_shapes.specs.Formed.{z_lam, z_lam_t, z_do, z_neutral, IsFormedNeutral, w_var, w_val, w_made, w_fix, w_app, w_inst}
+use Rattle.theory_formed_typing.proofs.Ends.{EndsInComp, ends_filled, fix_ends, FileEnds}
 use Rattle.theory_denotation.specs.Valuations.{Domain, ValuationEntry, den_mono, den_heap, den_term, Valuation, entry_at, applied_entry, instance_entry}
 use Rattle.theory_denotation.specs.Valuations.{value_of_entry, mono_of_entry, mono_in, HeadEntries}
 use Rattle.theory_denotation.specs.Denotation.{term_den, head_den}
@@ -114,56 +114,61 @@ value_shaped {w = w} {A = A} (inr o) = subst (λ (y : ValuationEntry). IsShaped 
 mutual
   unfolding term_den IsShaped
 
-  pub term_shaped : (e : HeadEntries) {heads : Heads} {g : Shapes} {c : List Standing} {w : Valuation} {M : TermTree} {A : Shape}
-      {s : Skeleton}
-      → Typed g M A
+  pub term_shaped : (e : HeadEntries) {file : FileShapes} {heads : Heads} {g : Shapes} {c : List Standing} {w : Valuation} {M : TermTree}
+      {A : Shape} {s : Skeleton}
+      → FileEnds file
+      → IsFormedTerm file g M A
       → IsCanonical heads c M s
       → Shaped g c w
       → IsShaped w A s (term_den e w M s)
-  term_shaped e (typed_word l) n_word k = is_word l
-  term_shaped e (typed_word l) (n_neutral d) k = elim d [ ]
-  term_shaped e typed_bool n_bool k = is_bool
-  term_shaped e typed_bool (n_neutral d) k = elim d [ ]
-  term_shaped e (typed_loc l) n_loc k = is_loc l
-  term_shaped e (typed_loc l) (n_neutral d) k = elim d [ ]
-  term_shaped e typed_unit n_unit k = is_unit
-  term_shaped e typed_unit (n_neutral d) k = elim d [ ]
-  term_shaped e (typed_pair p q) (n_pair a b) k = is_pair (term_shaped e p a k) (term_shaped e q b k)
-  term_shaped e (typed_pair p q) (n_neutral d) k = elim d [ ]
-  term_shaped e (typed_fst p) (n_fst a r) k = fst_typed (term_shaped e p a k)
-  term_shaped e (typed_fst p) (n_neutral d) k = elim d [ ]
-  term_shaped e (typed_snd p) (n_snd a r) k = snd_typed (term_shaped e p a k)
-  term_shaped e (typed_snd p) (n_neutral d) k = elim d [ ]
-  term_shaped e (typed_not p) (n_not a r) k = not_typed (term_shaped e p a k)
-  term_shaped e (typed_not p) (n_neutral d) k = elim d [ ]
-  term_shaped e {w = w} (typed_bin {op = op} p q) (n_bin a b r) k =
-      subst (HasType _) (sym (op_mono_in w op)) (op_typed op (term_shaped e p a k) (term_shaped e q b k))
-  term_shaped e (typed_bin p q) (n_neutral d) k = elim d [ ]
-  term_shaped e {w = w} (typed_eq {mono = mono} m p q) (n_eq t a b r) k = eq_typed w m (term_shaped e p a k) (term_shaped e q b k)
-  term_shaped e (typed_eq m p q) (n_neutral d) k = elim d [ ]
-  term_shaped e (typed_sel p q u) (n_sel t a b c r) k = sel_typed (term_shaped e p a k) (term_shaped e q b k) (term_shaped e u c k)
-  term_shaped e (typed_sel p q u) (n_neutral d) k = elim d [ ]
-  term_shaped e {w = w} (typed_lam {body = body} {answer = answer} p) (n_lam {s = s} {t = t} a) k =
+  term_shaped e f (z_word l) n_word k = is_word l
+  term_shaped e f (z_word l) (n_neutral d) k = elim d [ ]
+  term_shaped e f z_bool n_bool k = is_bool
+  term_shaped e f z_bool (n_neutral d) k = elim d [ ]
+  term_shaped e f (z_loc l) n_loc k = is_loc l
+  term_shaped e f (z_loc l) (n_neutral d) k = elim d [ ]
+  term_shaped e f z_unit n_unit k = is_unit
+  term_shaped e f z_unit (n_neutral d) k = elim d [ ]
+  term_shaped e f (z_pair p q) (n_pair a b) k = is_pair (term_shaped e f p a k) (term_shaped e f q b k)
+  term_shaped e f (z_pair p q) (n_neutral d) k = elim d [ ]
+  term_shaped e f (z_fst p i) (n_fst a r) k = fst_typed (term_shaped e f p a k)
+  term_shaped e f (z_fst p i) (n_neutral d) k = elim d [ ]
+  term_shaped e f (z_snd p i) (n_snd a r) k = snd_typed (term_shaped e f p a k)
+  term_shaped e f (z_snd p i) (n_neutral d) k = elim d [ ]
+  term_shaped e f (z_not p i) (n_not a r) k = not_typed (term_shaped e f p a k)
+  term_shaped e f (z_not p i) (n_neutral d) k = elim d [ ]
+  term_shaped e {w = w} f (z_bin {op = op} p q i) (n_bin a b r) k =
+      subst (HasType _) (sym (op_mono_in w op)) (op_typed op (term_shaped e f p a k) (term_shaped e f q b k))
+  term_shaped e f (z_bin p q i) (n_neutral d) k = elim d [ ]
+  term_shaped e {w = w} f (z_eq {t = mono} m p q i) (n_eq t a b r) k = eq_typed w m (term_shaped e f p a k) (term_shaped e f q b k)
+  term_shaped e f (z_eq m p q i) (n_neutral d) k = elim d [ ]
+  term_shaped e f (z_sel m p q u i) (n_sel t a b c r) k = sel_typed (term_shaped e f p a k) (term_shaped e f q b k) (term_shaped e f u c k)
+  term_shaped e f (z_sel m p q u i) (n_neutral d) k = elim d [ ]
+  term_shaped e {w = w} f (z_lam {body = body} {t = answer} p) (n_lam {s = s} {t = t} a) k =
       λ d m.
-      into (shape_filled answer (fills_suc (den_term s d) w) t (term_den e (den_term s d ∷ w) body t)) (term_shaped e p a (sv_term m k))
-  term_shaped e (typed_lam p) (n_neutral d) k = elim d [ ]
-  term_shaped e (typed_lam_t p) (n_lam_t a) k = λ t c. term_shaped e p a (sv_mono c k)
-  term_shaped e (typed_lam_t p) (n_neutral d) k = elim d [ ]
-  term_shaped e typed_do a k = tt
-  term_shaped e {w = w} {A = A} (typed_head h) (n_neutral d) k = subst (IsShaped w A sk_o) (sym (head_value e w d)) (value_shaped (head_shaped e h d k))
-  term_shaped e (typed_head h) _ k = elim h [ ]
+      into (shape_filled answer (fills_suc (den_term s d) w) t (term_den e (den_term s d ∷ w) body t)) (term_shaped e f p a (sv_term m k))
+  term_shaped e f (z_lam p) (n_neutral d) k = elim d [ ]
+  term_shaped e f (z_lam_t p) (n_lam_t a) k = λ t c. term_shaped e f p a (sv_mono c k)
+  term_shaped e f (z_lam_t p) (n_neutral d) k = elim d [ ]
+  term_shaped e f (z_do p) a k = tt
+  term_shaped e {w = w} {A = A} f (z_neutral h) (n_neutral d) k =
+      subst (IsShaped w A sk_o) (sym (head_value e w d)) (value_shaped (head_shaped e f h d k))
+  term_shaped e f (z_neutral h) _ k = elim h [ ]
 
-  head_shaped : (e : HeadEntries) {heads : Heads} {g : Shapes} {c : List Standing} {w : Valuation} {M : TermTree} {A : Shape} {s : Skeleton}
-      → TypedHead g M A
+  head_shaped : (e : HeadEntries) {file : FileShapes} {heads : Heads} {g : Shapes} {c : List Standing} {w : Valuation} {M : TermTree}
+      {A : Shape} {s : Skeleton}
+      → FileEnds file
+      → IsFormedNeutral file g M A
       → IsNeutral heads c M s
       → Shaped g c w
       → HeadShaped w A s (head_den e w M)
-  head_shaped e (head_var i) (e_var p) k = inr (entry_shaped k i p)
-  head_shaped e (head_val ends) d k = inl ends
-  head_shaped e (head_fix ends) d k = inl ends
-  head_shaped e {w = w} (head_app {term = term} h p) (e_app d c) k =
-      elim (head_shaped e h d k) [ inl ends ↦ inl ends | inr o ↦ inr (applied (term_den e w term) o (term_shaped e p c k)) ]
-  head_shaped e (head_inst {mono = mono} {body = body} h) (e_inst d c) k = elim (head_shaped e h d k) [
+  head_shaped e f (w_var i) (e_var p) k = inr (entry_shaped k i p)
+  head_shaped e f (w_val {number = number} {s = A} q) d k = inl (f.vals number A q)
+  head_shaped e f (w_made {number = number} {m = m} q p) d k = inl (f.made number m q)
+  head_shaped e f (w_fix p) d k = inl (fix_ends p)
+  head_shaped e {w = w} f (w_app {argument = term} h p) (e_app d c) k =
+      elim (head_shaped e f h d k) [ inl ends ↦ inl ends | inr o ↦ inr (applied (term_den e w term) o (term_shaped e f p c k)) ]
+  head_shaped e f (w_inst {t = mono} {s = body} h m) (e_inst d c) k = elim (head_shaped e f h d k) [
     | inl ends ↦ inl (ends_filled (first_filled mono) body ends)
     | inr o ↦ inr (instanced mono o (mono_closed k c))
   ]

@@ -1,36 +1,36 @@
 -- Formed trees use each variable by its sort.
-use Rattle.std.proofs.Common.{◌≡◌, ℕ, List, [], ◌∷◌, map, refl, ap, subst}
-use Rattle.htt_syntax.specs.Trees.{MonoTree, TyTree, FormulaTree, y_mono}
+use Rattle.std.proofs.Common.{◌≡◌, List, [], ◌∷◌, refl, sym, ap, ◌∙◌, subst}
+use Rattle.htt_syntax.specs.Trees.{MonoTree, TermTree, FormulaTree, y_mono, y_fun, y_all, y_hoare, y_at}
 use Rattle.theory_truth.specs.Worlds.{FirstOrder}
 use Rattle.theory_canonical.specs.Skeletons.{sk_o}
-use Rattle.theory_canonical.specs.Contexts.{Standing, as_mono, as_heap, as_term}
-use Rattle.theory_canonical.specs.Canonical.{IsCanonicalFormula}
-use Rattle.theory_typing.specs.Contexts.{en_heap, en_term, Context}
-use Rattle.theory_formed.specs.Shapes.{shape, EntryShape, se_mono, se_heap, se_term, IsMonoAt, mono_at_zero, mono_further, context_shape}
-use Rattle.theory_formed.specs.Formed.{FileShapes, IsFormedMono, z_m_word, z_m_bool, z_m_loc, z_m_unit, z_m_pair, z_m_var, IsFormedTy, z_mono, z_fun, z_all}
-use Rattle.theory_formed.specs.Formed.{z_hoare, IsFormedFormula}
-use Rattle.theory_formed.specs.Environments.{with_params}
-use Rattle.theory_formed.specs.Laws.{bare, bare_context, bare_heads}
-use Rattle.theory_formed.proofs.Bare.{formed_is_canonical}
-use Rattle.theory_logic_sorts.specs.Sorts.{Sort, for_mono, for_value, for_heap, HasSort, SortedMono, SortedFormula}
+use Rattle.theory_canonical.specs.Contexts.{Standing, as_mono, as_heap, as_term, Heads}
+use Rattle.theory_canonical.specs.Canonical.{IsCanonical, IsCanonicalFormula}
+use Rattle.theory_typing.specs.Contexts.{en_mono, en_heap, en_term, Context}
+use Rattle.theory_typing_canonical.specs.Environments.{standings}
+use Rattle.theory_items.specs.Items.{with_params}
+use Rattle.theory_formed_shapes.specs.Shapes.{shape_of, shapes_of}
+use Rattle.theory_formed_shapes.specs.Formed.{FileShapes, IsFormedFormula}
+use Rattle.theory_formed_canonical.specs.Laws.{bare, bare_context, bare_heads}
+use Rattle.theory_formed_canonical.proofs.Bare.{formed_is_canonical, context_bare}
+use Rattle.theory_logic_sorts.specs.Sorts.{SortedTerm, SortedFormula}
 use Rattle.theory_logic_sorts.specs.Laws.{standings_of_sorts}
 use Rattle.theory_logic_sorts.proofs.Canonical as canonicity
 use Rattle.theory_typing_values.specs.FirstOrder.{IsFirstOrder, fo_none, fo_mono, fo_heap, fo_value, sorts_of}
-use Rattle.theory_typing_values.proofs.Formed.{SortedTy}
+use Rattle.theory_typing_values.proofs.Formed.{SortedContext}
 
 -- what a formed tree and a sorted one are told of a context is the same
 abbrev pub IsAlike : Context → Type 0
-IsAlike g = bare_context (context_shape g) ≡ standings_of_sorts (sorts_of g)
+IsAlike g = bare_context (shapes_of g) ≡ standings_of_sorts (sorts_of g)
 
 pub first_order_alike : {g : Context} {c : List FirstOrder} → IsFirstOrder g c → IsAlike g
-unfolding bare shape
+unfolding bare shape_of
 first_order_alike fo_none = refl
 first_order_alike (fo_mono p) = ap (λ (s : List Standing). as_mono ∷ s) (first_order_alike p)
 first_order_alike (fo_heap p) = ap (λ (s : List Standing). as_heap ∷ s) (first_order_alike p)
 first_order_alike (fo_value m p) = ap (λ (s : List Standing). as_term sk_o ∷ s) (first_order_alike p)
 
 pub value_alike : (t : MonoTree) (g : Context) → IsAlike g → IsAlike (en_term (y_mono t) ∷ g)
-unfolding bare shape
+unfolding bare shape_of
 value_alike t g e = ap (λ (s : List Standing). as_term sk_o ∷ s) e
 
 pub heap_alike : (g : Context) → IsAlike g → IsAlike (en_heap ∷ g)
@@ -40,33 +40,29 @@ pub params_alike : (params : List MonoTree) (g : Context) → IsAlike g → IsAl
 params_alike [] g e = e
 params_alike (t ∷ params) g e = params_alike params (en_term (y_mono t) ∷ g) (value_alike t g e)
 
-pub formed_sorted : (file : FileShapes) (g : Context) (F : FormulaTree) → IsAlike g → IsFormedFormula file (context_shape g) F → SortedFormula (sorts_of g) F
+pub formed_sorted : (file : FileShapes) (g : Context) (F : FormulaTree) → IsAlike g → IsFormedFormula file (shapes_of g) F → SortedFormula (sorts_of g) F
 formed_sorted file g F e d =
     canonicity.canonical.formulas (bare_heads file) (sorts_of g) F
-    (subst (λ (s : List Standing). IsCanonicalFormula (bare_heads file) s F) e (formed_is_canonical.formulas file (context_shape g) F d))
+    (subst (λ (s : List Standing). IsCanonicalFormula (bare_heads file) s F) e (formed_is_canonical.formulas file (shapes_of g) F d))
 
--- the sort of an entry, by its shape
-abbrev pub entry_sort : EntryShape → Sort
-entry_sort se_mono = for_mono
-entry_sort se_heap = for_heap
-entry_sort (se_term s) = for_value
+pub sorted_alike : (g : Context) → SortedContext g → IsAlike g
+sorted_alike [] d = refl
+sorted_alike (en_mono ∷ g) d = ap (λ (s : List Standing). as_mono ∷ s) (sorted_alike g d)
+sorted_alike (en_heap ∷ g) d = heap_alike g (sorted_alike g d)
+sorted_alike (en_term (y_mono t) ∷ g) d = value_alike t g (sorted_alike g d.1)
+sorted_alike (en_term (y_fun argument answer) ∷ g) d = absurd d
+sorted_alike (en_term (y_all body) ∷ g) d = absurd d
+sorted_alike (en_term (y_hoare spec) ∷ g) d = absurd d
+sorted_alike (en_term (y_at at ty) ∷ g) d = absurd d
 
-mono_sorted : (g : List EntryShape) (t : MonoTree) → IsFormedMono g t → SortedMono (map entry_sort g) t
-unfolding SortedMono
-mono_sorted g t z_m_word = tt
-mono_sorted g t z_m_bool = tt
-mono_sorted g t z_m_loc = tt
-mono_sorted g t z_m_unit = tt
-mono_sorted g t (z_m_pair {left = left} {right = right} d e) = (mono_sorted g left d, mono_sorted g right e)
-mono_sorted g t (z_m_var d) = mono_entry d
-  where
-    mono_entry : {g : List EntryShape} {n : ℕ} → IsMonoAt g n → HasSort (map entry_sort g) n for_mono
-    mono_entry mono_at_zero = refl
-    mono_entry (mono_further d) = mono_entry d
+-- what is canonical in such a context is sorted
+pub canonical_term_sorted : (heads : Heads) (g : Context) (M : TermTree) → IsAlike g → IsCanonical heads (standings g) M sk_o → SortedTerm (sorts_of g) M
+canonical_term_sorted heads g M e d =
+    canonicity.canonical.terms heads (sorts_of g) M (subst (λ (s : List Standing). IsCanonical heads s M sk_o) (sym (context_bare g) ∙ e) d)
 
-pub ty_sorted : (file : FileShapes) (g : List EntryShape) (A : TyTree) → IsFormedTy file g A → SortedTy (map entry_sort g) A
-unfolding SortedTy
-ty_sorted file g A (z_mono {t = t} m) = mono_sorted g t m
-ty_sorted file g A (z_fun {argument = argument} {answer = answer} {s = s} d q e) = (ty_sorted file g argument d, ty_sorted file (se_term s ∷ g) answer e)
-ty_sorted file g A (z_all {body = body} d) = ty_sorted file (se_mono ∷ g) body d
-ty_sorted file g A (z_hoare d) = tt
+pub canonical_formula_sorted : (heads : Heads) (g : Context) (F : FormulaTree)
+    → IsAlike g
+    → IsCanonicalFormula heads (standings g) F
+    → SortedFormula (sorts_of g) F
+canonical_formula_sorted heads g F e d =
+    canonicity.canonical.formulas heads (sorts_of g) F (subst (λ (s : List Standing). IsCanonicalFormula heads s F) (sym (context_bare g) ∙ e) d)

@@ -1,10 +1,5 @@
 pub mod FirstOrder
 pub mod Formed
-pub mod ShapesOf
-pub mod Expanded
-pub mod Wider
-pub mod TypedForms
 pub mod FormedTrees
-pub mod Environments
 pub mod Values
 pub mod Sorted

@@ -1,4 +1,4 @@
--- A term that has the shape of a monotype has a value of it, where the context is first-order.
+-- A formed term of a monotype has a value of it, where the context is first-order.
 use Rattle.std.proofs.Common.{ℕ, suc, List, [], ◌∷◌, refl, sym, ap, ◌∙◌, subst}
 use Rattle.std.specs.Prelude.{true, false}
 use Rattle.htt_syntax.specs.declared.mono.Op.{Op}
@@ -12,13 +12,13 @@ use Rattle.theory_truth.specs.Worlds.{mono_under}
 use Rattle.theory_truth.specs.TermValue.{value_or_unit, term_value}
 use Rattle.theory_truth.proofs.Renamed as truth
 use Rattle.theory_typing.specs.Contexts.{Context, IsComparable, compares_word, compares_bool, compares_loc}
-use Rattle.theory_typing_shapes.specs.Shapes.{Shape, sh_mono, sh_fun, sh_all, sh_comp, fill_shape, up_shape, first_filled, shape_of, EndsInComp}
-use Rattle.theory_typing_shapes.specs.Typed.{in_mono, in_heap, in_term, Shapes, HasShape, shape_here, shape_there, Typed, TypedHead, typed_word, typed_bool}
-use Rattle.theory_typing_shapes.specs.Typed.{typed_loc, typed_unit, typed_pair, typed_fst, typed_snd, typed_not, typed_bin, typed_eq, typed_sel, typed_lam}
-use Rattle.theory_typing_shapes.specs.Typed.{typed_lam_t, typed_do, typed_head, head_var, head_val, head_fix, head_app, head_inst}
-use Rattle.theory_typing_shapes.proofs.Fillings.{mono_renamed, ends_filled}
+use Rattle.theory_formed_shapes.specs.Shapes.{Shape, sh_mono, sh_fun, sh_all, sh_comp, fill_shape, up_shape, first_filled, shape_of, in_mono, in_heap}
+use Rattle.theory_formed_shapes.specs.Shapes.{in_term, Shapes, HasShape, shape_here, shape_there, shapes_of}
+use Rattle.theory_formed_shapes.specs.Formed.{FileShapes, IsFormedTerm, z_word, z_bool, z_loc, z_unit, z_pair, z_fst, z_snd, z_not, z_bin, z_eq, z_sel}
+use Rattle.theory_formed_shapes.specs.Formed.{z_lam, z_lam_t, z_do, z_neutral, IsFormedNeutral, w_var, w_val, w_made, w_fix, w_app, w_inst}
+use Rattle.theory_formed_shapes.proofs.Fillings.{mono_renamed}
+use Rattle.theory_formed_typing.proofs.Ends.{EndsInComp, ends_filled, fix_ends, FileEnds}
 use Rattle.theory_typing_values.specs.FirstOrder.{IsFirstOrder, fo_none, fo_mono, fo_heap, fo_value}
-use Rattle.theory_typing_values.proofs.ShapesOf.{shapes_of}
 
 -- A world of first-order shapes.
 pub data ShapesWorld : Shapes → World → Type 0 where
@@ -49,7 +49,7 @@ raised_value x w (sh_mono t) v d =
     (sym (ap (mono_under (x ∷ w)) (mono_renamed suc t) ∙ truth.mono_renamed {m = suc} {w = w} {w' = x ∷ w} (record { at = λ n. refl }) t)) d
 raised_value x w (sh_fun A B) v d = tt
 raised_value x w (sh_all A) v d = tt
-raised_value x w sh_comp v d = tt
+raised_value x w (sh_comp t) v d = tt
 
 value_there : {g : Shapes} {w : World} {n : ℕ} {A : Shape} → ShapesWorld g w → HasShape g n A → ValueOf w A (value_at w n)
 value_there (sw_value {w = w} {t = t} {v = v} d s) shape_here = raised_value (th_value v) w (sh_mono t) v d
@@ -67,7 +67,7 @@ unfolding fill_shape
 up_is_mono (sh_mono t) d = tt
 up_is_mono (sh_fun A B) d = absurd d
 up_is_mono (sh_all A) d = absurd d
-up_is_mono sh_comp d = absurd d
+up_is_mono (sh_comp t) d = absurd d
 
 -- a variable has the shape of a monotype
 variable_is_mono : {g : Shapes} {w : World} {n : ℕ} {A : Shape} → ShapesWorld g w → HasShape g n A → IsMonoShape A
@@ -78,26 +78,37 @@ variable_is_mono (sw_heap s) (shape_there {shape = shape} i) = up_is_mono shape 
 variable_is_mono sw_none i = elim i [ ]
 
 -- a head of another shape ends in a computation
-head_ends : {g : Shapes} {w : World} {M : TermTree} {A : Shape} → TypedHead g M A → ShapesWorld g w → (IsMonoShape A → ⊥) → EndsInComp A
-head_ends (head_var i) s n = absurd (n (variable_is_mono s i))
-head_ends (head_val e) s n = e
-head_ends (head_fix e) s n = e
-head_ends (head_app h d) s n = head_ends h s (λ e. e)
-head_ends (head_inst {mono = mono} {body = body} h) s n = ends_filled (first_filled mono) body (head_ends h s (λ e. e))
+head_ends : {file : FileShapes} {g : Shapes} {w : World} {M : TermTree} {A : Shape}
+    → IsFormedNeutral file g M A
+    → FileEnds file
+    → ShapesWorld g w
+    → (IsMonoShape A → ⊥)
+    → EndsInComp A
+head_ends (w_var i) k s n = absurd (n (variable_is_mono s i))
+head_ends (w_val {number = number} {s = A} q) k s n = k.vals number A q
+head_ends (w_made {number = number} {m = m} q d) k s n = k.made number m q
+head_ends (w_fix d) k s n = fix_ends d
+head_ends (w_app h d) k s n = head_ends h k s (λ e. e)
+head_ends (w_inst {t = mono} {s = body} h d) k s n = ends_filled (first_filled mono) body (head_ends h k s (λ e. e))
 
 comp_value : (w : World) (A : Shape) (v : Value) → EndsInComp A → ValueOf w A v
 comp_value w (sh_mono t) v e = absurd e
 comp_value w (sh_fun A B) v e = tt
 comp_value w (sh_all A) v e = tt
-comp_value w sh_comp v e = tt
+comp_value w (sh_comp t) v e = tt
 
-head_value : {g : Shapes} {w : World} {M : TermTree} {A : Shape} → TypedHead g M A → ShapesWorld g w → ValueOf w A (term_value w M)
+head_value : {file : FileShapes} {g : Shapes} {w : World} {M : TermTree} {A : Shape}
+    → IsFormedNeutral file g M A
+    → FileEnds file
+    → ShapesWorld g w
+    → ValueOf w A (term_value w M)
 unfolding term_value
-head_value (head_var i) s = value_there s i
-head_value {w = w} {A = A} (head_val {number = number} e) s = comp_value w A _ e
-head_value {w = w} {A = A} (head_fix e) s = comp_value w A _ e
-head_value {w = w} {A = A} (head_app h d) s = comp_value w A _ (head_ends h s (λ e. e))
-head_value {w = w} {A = A} (head_inst {mono = mono} {body = body} h) s = comp_value w A _ (ends_filled (first_filled mono) body (head_ends h s (λ e. e)))
+head_value (w_var i) k s = value_there s i
+head_value {w = w} {A = A} (w_val {number = number} q) k s = comp_value w A _ (k.vals number A q)
+head_value {w = w} {A = A} (w_made {number = number} {m = m} q d) k s = comp_value w A _ (k.made number m q)
+head_value {w = w} {A = A} (w_fix d) k s = comp_value w A _ (fix_ends d)
+head_value {w = w} {A = A} (w_app h d) k s = comp_value w A _ (head_ends h k s (λ e. e))
+head_value {w = w} {A = A} (w_inst {t = mono} {s = body} h d) k s = comp_value w A _ (ends_filled (first_filled mono) body (head_ends h k s (λ e. e)))
 
 fst_value : {v : Value} {t u : MonoTree} → HasType v (m_pair t u) → HasType (value_or_unit (value_of_fst v)) t
 fst_value (is_pair p q) = p
@@ -138,20 +149,24 @@ sel_value : {b x y : Value} {t : MonoTree} → HasType b m_bool → HasType x t 
 sel_value (is_bool {b = true}) p q = p
 sel_value (is_bool {b = false}) p q = q
 
-pub value_typed : {g : Shapes} {w : World} {M : TermTree} {A : Shape} → Typed g M A → ShapesWorld g w → ValueOf w A (term_value w M)
+pub value_typed : {file : FileShapes} {g : Shapes} {w : World} {M : TermTree} {A : Shape}
+    → IsFormedTerm file g M A
+    → FileEnds file
+    → ShapesWorld g w
+    → ValueOf w A (term_value w M)
 unfolding term_value
-value_typed (typed_word l) s = is_word l
-value_typed typed_bool s = is_bool
-value_typed (typed_loc l) s = is_loc l
-value_typed typed_unit s = is_unit
-value_typed (typed_pair p q) s = is_pair (value_typed p s) (value_typed q s)
-value_typed (typed_fst p) s = fst_value (value_typed p s)
-value_typed (typed_snd p) s = snd_value (value_typed p s)
-value_typed (typed_not p) s = not_value (value_typed p s)
-value_typed {w = w} (typed_bin {op = op} p q) s = op_under w op _ (op_value_typed op (value_typed p s) (value_typed q s))
-value_typed {w = w} (typed_eq {mono = mono} c p q) s = eq_value w mono c (value_typed p s) (value_typed q s)
-value_typed (typed_sel p q r) s = sel_value (value_typed p s) (value_typed q s) (value_typed r s)
-value_typed (typed_lam p) s = tt
-value_typed (typed_lam_t p) s = tt
-value_typed typed_do s = tt
-value_typed (typed_head h) s = head_value h s
+value_typed (z_word l) k s = is_word l
+value_typed z_bool k s = is_bool
+value_typed (z_loc l) k s = is_loc l
+value_typed z_unit k s = is_unit
+value_typed (z_pair p q) k s = is_pair (value_typed p k s) (value_typed q k s)
+value_typed (z_fst p r) k s = fst_value (value_typed p k s)
+value_typed (z_snd p r) k s = snd_value (value_typed p k s)
+value_typed (z_not p r) k s = not_value (value_typed p k s)
+value_typed {w = w} (z_bin {op = op} p q r) k s = op_under w op _ (op_value_typed op (value_typed p k s) (value_typed q k s))
+value_typed {w = w} (z_eq {t = t} c p q r) k s = eq_value w t c (value_typed p k s) (value_typed q k s)
+value_typed (z_sel m p q u r) k s = sel_value (value_typed p k s) (value_typed q k s) (value_typed u k s)
+value_typed (z_lam p) k s = tt
+value_typed (z_lam_t p) k s = tt
+value_typed (z_do p) k s = tt
+value_typed (z_neutral h) k s = head_value h k s

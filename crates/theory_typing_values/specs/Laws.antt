@@ -8,7 +8,7 @@ use Rattle.theory_typing.specs.Contexts.{Context, Environment, IsMonoEntry, IsHe
 use Rattle.theory_typing.specs.Typing.{Mode, FormsFormula, Gives, Fits}
 use Rattle.theory_logic_sorts.specs.Sorts.{SortedTerm, SortedFormula}
 use Rattle.theory_typing_values.specs.FirstOrder.{IsFirstOrder, sorts_of}
-use Rattle.theory_formed.specs.Environments.{IsFormedEnvironment}
+use Rattle.theory_formed_items.specs.Environments.{IsFormedEnvironment}
 
 pub record FirstOrderContexts : Type 0 where
   pub one : (g : Context) (c d : List FirstOrder) → IsFirstOrder g c → IsFirstOrder g d → c ≡ d

@@ -1,5 +1,0 @@
-use Rattle.theory_formed.proofs.Bare.{formed_is_canonical}
-use Rattle.theory_formed.proofs.formed_is_canonical.Goals as goal
-
-pub returns : goal.returns
-returns c = record { law = formed_is_canonical }
