@@ -1,5 +1,5 @@
 -- What phrases come to, and the rows of premises that bodies, branches and steps share.
-use Rattle.std.specs.Prelude.{ℕ, true, false, List, [], ◌∷◌, ◌++◌, Result, Option, Some, None}
+use Rattle.std.specs.Prelude.{◌≡◌, ℕ, List, [], ◌∷◌, ◌++◌, Result, Option, Some, None}
 use Rattle.htt_syntax_words.specs.declared.words.Rule.TheVariants.{Mismatch}
 use Rattle.htt_syntax.specs.Trees.{MonoTree, TyTree, TripleTree, TermTree, FixTree, CompTree, FormulaTree, triple, t_at}
 use Rattle.htt_syntax.specs.Trees.{y_at, c_ret, c_step}

@@ -1,7 +1,8 @@
 -- The worked cases hold: each by its premises up to the one that stops it.
-use Rattle.std.proofs.Common.{◌≡◌, ℕ, zero, suc, ◌+◌, ◌<◌, ◌^◌, true, [], ◌∷◌, length, Result, Ok, Err, Some, None, refl, sym, ap, subst, arith}
+use Rattle.std.proofs.Common.{◌≡◌, ℕ, zero, suc, ◌+◌, true, [], ◌∷◌, length, Result, Ok, Err, Some, None, refl, sym, ap, subst, arith}
 use Rattle.htt_syntax.specs.Trees.{MonoTree, TyTree, TermTree, m_word, m_bool, m_unit, y_mono, y_at, t_word, t_bool, t_at}
 use Rattle.theory_renaming.specs.Renaming.{lift, lifts, rename_mono, rename_ty, rename_term}
+use Rattle.theory_values.specs.Values.{IsWord}
 use Rattle.theory_counts.specs.Nodes.{nodes_mono, nodes_formula, nodes_term}
 use Rattle.theory_counts.specs.Depth.{depth_mono, depth_formula, depth_term}
 use Rattle.theory_states.specs.States.{past, at_heap, start, owed, after, some_values, within, ending, finish, last}
@@ -42,13 +43,13 @@ unfolding TyComesTo nodes_mono
 word_formed = goes_on (goes_on (holds forms_word) (holds (omega arith))) comes
 
 word_given : {env : Environment} {m : Mode} {g : Context} {at : ℕ} (n : ℕ)
-    → n < 2 ^ 64
+    → IsWord n
     → TermComesTo env m g at (t_word n) None (Ok (typed (y_mono m_word) (t_word n) []))
 unfolding TermComesTo
 word_given n w = goes_on (goes_on (makes w) comes) comes
 
 word_fits : {env : Environment} {m : Mode} {g : Context} {at : ℕ} (n : ℕ)
-    → n < 2 ^ 64
+    → IsWord n
     → TermComesTo env m g at (t_word n) (Some (y_mono m_word)) (Ok (typed (y_mono m_word) (t_word n) []))
 unfolding TermComesTo plain_ty
 word_fits n w = goes_on (goes_on (makes w) comes) (goes_on (holds refl) comes)
