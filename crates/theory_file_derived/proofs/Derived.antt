@@ -3,7 +3,7 @@ use Rattle.std.proofs.Common.{◌≡◌, ℕ, List, [], ◌∷◌, Some, refl, s
 use Rattle.htt_syntax.specs.Trees.{ProofTree}
 use Rattle.theory_typing.specs.Contexts.{Environment, Obligation}
 use Rattle.theory_typing.specs.Laws.{none}
-use Rattle.theory_items.specs.Items.{ItemTree}
+use Rattle.theory_items.specs.Items.{ItemTree, Added, with_added}
 use Rattle.theory_items.proofs.Derived.{items_give_one}
 use Rattle.theory_file_derived.specs.Derived.{by_auto, by_proof, ProofItem, DerivesAll, derives_none, derives_more, owed_at, IsDerived, IsOpen}
 use Rattle.theory_file_derived.specs.Laws.{DerivedFiles}
@@ -13,10 +13,10 @@ pub all_once : {env final other : Environment} {items : List ItemTree} {rows sid
     → DerivesAll env items other sides
     → (final ≡ other) × (rows ≡ sides)
 all_once derives_none derives_none = (refl, refl)
-all_once (derives_more {env = env} {next = next} {final = final} {item = item} {items = items} {owed = owed} {rows = rows} d rest)
-    (derives_more {next = other} {owed = due} e more) =
-    let x = items_give_one env item next other owed due d e in
-    let y = all_once (subst (λ (n : Environment). DerivesAll n items final rows) x.0 rest) more in
+all_once (derives_more {env = env} {final = final} {item = item} {added = added} {items = items} {owed = owed} {rows = rows} d rest)
+    (derives_more {added = other} {owed = due} e more) =
+    let x = items_give_one env [] item added other owed due d e in
+    let y = all_once (subst (λ (a : Added). DerivesAll (with_added env a) items final rows) x.0 rest) more in
     (y.0, λ j. x.1 j ∷ y.1 j)
 
 not_none : {p : ProofTree} → by_proof p ∷ [] ≡ [] → ⊥

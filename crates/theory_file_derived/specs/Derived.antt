@@ -7,7 +7,7 @@ use Rattle.theory_meaning.specs.Closures.{Items}
 use Rattle.theory_typing.specs.Contexts.{Environment, Obligation}
 use Rattle.theory_typing.specs.Laws.{none}
 use Rattle.theory_logic_rules.specs.Rules.{Proves}
-use Rattle.theory_items.specs.Items.{ItemTree, i_def, i_val, Derives}
+use Rattle.theory_items.specs.Items.{ItemTree, i_def, i_val, Added, with_added, Derives}
 
 -- What is written for an obligation: a proof, or `auto`, which leaves it to provers.
 pub data GivenTree : Type 0 where
@@ -24,10 +24,10 @@ pub record ProofItem : Type 0 where
 -- Items derive one after the other: the environment after them, and what each of them owes.
 pub data DerivesAll : Environment → List ItemTree → Environment → List (List Obligation) → Type 0 where
   derives_none : {env : Environment} → DerivesAll env [] env []
-  derives_more : {env next final : Environment} {item : ItemTree} {items : List ItemTree} {owed : List Obligation}
-      {rows : List (List Obligation)}
-      → Derives env item next owed
-      → DerivesAll next items final rows
+  derives_more : {env final : Environment} {item : ItemTree} {added : Added} {items : List ItemTree}
+      {owed : List Obligation} {rows : List (List Obligation)}
+      → Derives env [] item added owed
+      → DerivesAll (with_added env added) items final rows
       → DerivesAll env (item ∷ items) final (owed ∷ rows)
 
 -- The obligation of an item with a number.

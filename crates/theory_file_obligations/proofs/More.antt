@@ -6,7 +6,7 @@ use Rattle.theory_canonical.specs.Skeletons.{skeleton}
 use Rattle.theory_canonical.specs.Contexts.{Heads}
 use Rattle.theory_typing.specs.Contexts.{Context, Environment, Obligation}
 use Rattle.theory_typing_canonical.specs.Environments.{heads_of, IsCanonicalContext, no_entry, mono_entry, heap_entry, term_entry}
-use Rattle.theory_items.specs.Items.{ItemTree, with_val, Derives, derives_abbreviation, derives_pred, derives_def, derives_val, derives_rec}
+use Rattle.theory_items.specs.Items.{ItemTree, Added, with_val, with_added, Derives, derives_abbreviation, derives_pred, derives_def, derives_val, derives_rec}
 use Rattle.theory_items.proofs.MoreHeads.{HasHeads, has_more, ty_more}
 use Rattle.theory_items_sound.specs.Environments.{SoundEnvironment}
 use Rattle.theory_items_sound.proofs.Kept.{items_keep_sound}
@@ -17,7 +17,7 @@ pub all_sound : {env final : Environment} {items : List ItemTree} {rows : List (
     → SoundEnvironment env
     → SoundEnvironment final
 all_sound derives_none s = s
-all_sound (derives_more {env = env} {next = next} {item = item} {owed = owed} d rest) s = all_sound rest (items_keep_sound.kept env next item owed s d)
+all_sound (derives_more {env = env} {item = item} {added = added} {owed = owed} d rest) s = all_sound rest (items_keep_sound.kept env item added owed s d)
 
 same_heads : {heads : Heads} → HasHeads heads heads
 same_heads = record { vals = λ d. d; made = λ d. d }
@@ -31,7 +31,9 @@ val_heads env ty =
     λ j. record { vals = sym (map-append skeleton env.vals (ty ∷ [])) j; made = [] } in
     subst (HasHeads (heads_of env)) q (has_more (map skeleton env.vals) (skeleton ty ∷ []) [])
 
-item_heads : {env next : Environment} {item : ItemTree} {o : List Obligation} → Derives env item next o → HasHeads (heads_of env) (heads_of next)
+item_heads : {env : Environment} {item : ItemTree} {added : Added} {o : List Obligation}
+    → Derives env [] item added o
+    → HasHeads (heads_of env) (heads_of (with_added env added))
 item_heads (derives_abbreviation a) = same_heads
 item_heads (derives_pred a b) = same_heads
 item_heads (derives_def a b) = same_heads
@@ -45,10 +47,10 @@ all_heads derives_none = same_heads
 all_heads (derives_more d rest) = then_heads (item_heads d) (all_heads rest)
 
 -- an item and those behind it
-pub heads_from : {env next final : Environment} {item : ItemTree} {o : List Obligation} {items : List ItemTree}
+pub heads_from : {env final : Environment} {item : ItemTree} {added : Added} {o : List Obligation} {items : List ItemTree}
     {rows : List (List Obligation)}
-    → Derives env item next o
-    → DerivesAll next items final rows
+    → Derives env [] item added o
+    → DerivesAll (with_added env added) items final rows
     → HasHeads (heads_of env) (heads_of final)
 heads_from d rest = then_heads (item_heads d) (all_heads rest)
 

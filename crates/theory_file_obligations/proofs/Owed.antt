@@ -17,7 +17,7 @@ use Rattle.theory_typing_canonical.specs.Environments.{heap_entry, term_entry}
 use Rattle.theory_typing_canonical.proofs.StatesKept.{start_kept, branch_kept}
 use Rattle.theory_typing_canonical.proofs.Entries.{mono_canonical, argument_part, answer_part, under_mono, spec_part, left_mono_part, right_mono_part}
 use Rattle.theory_typing_canonical.proofs.Typed as canonical
-use Rattle.theory_items.specs.Items.{ItemTree, Derives, derives_abbreviation, derives_pred, derives_def, derives_val, derives_rec}
+use Rattle.theory_items.specs.Items.{ItemTree, Added, Derives, derives_abbreviation, derives_pred, derives_def, derives_val, derives_rec}
 use Rattle.theory_file_obligations.specs.Laws.{StandCanonical, OwedStandsCanonical}
 
 joined : (heads : Heads) (o p : List Obligation) → StandCanonical heads o → StandCanonical heads p → StandCanonical heads (o ++ p)
@@ -90,18 +90,18 @@ module _ (env : Environment) (known : IsCanonicalEnvironment env) where
         → IsCanonicalContext (heads_of env) g
         → IsCanonicalTriple (heads_of env) (standings g) spec
         → StandCanonical (heads_of env) o
-    body_stands {g = g} (fits_body {o = o} a) c (n_triple p m q) =
+    body_stands {g = g} (fits_body {o = o} a b) c (n_triple p m q) =
         join o _ (run_stands a c m (start_kept (standings g) p)) (heap_entry (heap_entry (term_entry c (n_mono m))), tt)
 
-    run_stands : {g : Context} {mono : MonoTree} {state end : FormulaTree} {comp r : CompTree} {zs : List MonoTree} {value : TermTree}
-        {o : List Obligation}
-        → Runs env g mono state comp end zs value r o
+    run_stands : {g : Context} {mono : MonoTree} {state end : FormulaTree} {comp : CompTree} {zs : List MonoTree} {value : TermTree}
+        {parts : List Part} {o : List Obligation}
+        → Runs env g mono state comp end zs value parts o
         → IsCanonicalContext (heads_of env) g
         → IsCanonicalMono (standings g) mono
         → IsCanonicalFormula (heads_of env) (at_state (standings g)) state
         → StandCanonical (heads_of env) o
     run_stands (runs_ret a) c m s = fit_stands a c (n_mono m)
-    run_stands {g = g} (runs_step {o = o} {p = p} a b j) c m s =
+    run_stands {g = g} (runs_step {o = o} {p = p} a b) c m s =
         let x = canonical.moved env known c s a in
         join o p (move_stands a c s) (run_stands b (term_entry c (n_mono x.mono)) (mono_renamed m (keeps_suc (as_term sk_o) (standings g))) x.state)
 
@@ -120,23 +120,26 @@ module _ (env : Environment) (known : IsCanonicalEnvironment env) where
     move_stands {g = g} (moves_free {mono = mono} {place' = place'} {o = o} {state = state} m a) c s =
         join o _ (fit_stands a c (n_mono n_m_loc)) (owing g (owed (move_free mono place') state) c)
     move_stands {g = g} (moves_run {o = o} {state = state} a) c s = join o _ (given_stands a c) (owing g (owed (move_run _) state) c)
-    move_stands {g = g} (moves_if {o = o} {p = p} {q = q} m a b d) c s =
+    move_stands {g = g} (moves_if {o = o} {p = p} {q = q} m a b k d l) c s =
         let x = canonical.fitted env known c (n_mono n_m_bool) a in
         join (o ++ p) q
         (join o p (fit_stands a c (n_mono n_m_bool)) (run_stands b c (mono_canonical m) (branch_kept (standings g) true s x.term)))
         (run_stands d c (mono_canonical m) (branch_kept (standings g) false s x.term))
     move_stands {g = g} (moves_claim {claim' = claim'} {state = state} a) c s = owing g (owed (move_claim claim') state) c
 
-  pub item_stands : {next : Environment} {item : ItemTree} {o : List Obligation} → Derives env item next o → StandCanonical (heads_of env) o
-  item_stands (derives_abbreviation a) = tt
-  item_stands (derives_pred a b) = tt
-  item_stands (derives_def a b) = fit_stands b no_entry (canonical.formed_ty env known no_entry a)
-  item_stands (derives_val a h b) = fit_stands b no_entry (canonical.formed_ty env known no_entry a)
-  item_stands (derives_rec f a b i) = tt
+  pub item_stands : {g : Context} {item : ItemTree} {added : Added} {o : List Obligation}
+      → Derives env g item added o
+      → IsCanonicalContext (heads_of env) g
+      → StandCanonical (heads_of env) o
+  item_stands (derives_abbreviation a) c = tt
+  item_stands (derives_pred a b) c = tt
+  item_stands (derives_def a b) c = fit_stands b c (canonical.formed_ty env known c a)
+  item_stands (derives_val a h b) c = fit_stands b c (canonical.formed_ty env known c a)
+  item_stands (derives_rec f a b i) c = tt
 
 pub owed_canonical : OwedStandsCanonical
 owed_canonical = record {
   given = λ env m g M N A o known c d. given_stands env known d c;
   fitting = λ env m g M N A o known c x d. fit_stands env known d c x;
-  items = λ env next item o known d. item_stands env known d;
+  items = λ env g item added o known c d. item_stands env known d c;
 }

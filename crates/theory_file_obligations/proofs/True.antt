@@ -7,7 +7,7 @@ use Rattle.theory_canonical.specs.Contexts.{Heads}
 use Rattle.theory_canonical.specs.Canonical.{IsCanonicalFormula}
 use Rattle.theory_typing.specs.Contexts.{Obligation}
 use Rattle.theory_truth.specs.Predicates.{recs_of}
-use Rattle.theory_typing_canonical.specs.Environments.{standings, heads_of, IsCanonicalContext}
+use Rattle.theory_typing_canonical.specs.Environments.{standings, heads_of, IsCanonicalContext, no_entry}
 use Rattle.theory_typing_canonical.specs.Laws.{AreCanonical}
 use Rattle.theory_items.proofs.Derived as items
 use Rattle.theory_items.proofs.MoreHeads.{formula_more}
@@ -41,11 +41,11 @@ context_at heads (x ∷ owed) zero o q d = subst (λ (y : Obligation). IsCanonic
 context_at heads (x ∷ owed) (suc k) o q d = context_at heads owed k o q d.1
 
 pub proved_goal : ProvedIsTrueGoal
-proved_goal env next final item owed rest rows s d more e valued k o p q proof = λ w m.
+proved_goal env final item added owed rest rows s d more e valued k o p q proof = λ w m.
     let heads = heads_from d more in
-    let goal = formula_more heads (goal_at (heads_of env) owed k o q (items.items_keep_canonical.owed env next item owed s.canonical d)) in
-    let context = context_more heads (context_at (heads_of env) owed k o q (item_stands env s.canonical d)) in
-    let whole = all_sound more (items_keep_sound.kept env next item owed s d) in
+    let goal = formula_more heads (goal_at (heads_of env) owed k o q (items.items_keep_canonical.owed env [] item added owed s.canonical no_entry d)) in
+    let context = context_more heads (context_at (heads_of env) owed k o q (item_stands env s.canonical d no_entry)) in
+    let whole = all_sound more (items_keep_sound.kept env item added owed s d) in
     proved.alone final e o.context w
     (record { environment = whole; heads = valued; context = context; valuation = context_shaped (recs_of final.recs) e m }) o.goal goal p
     proof

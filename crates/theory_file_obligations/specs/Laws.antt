@@ -7,7 +7,7 @@ use Rattle.theory_typing.specs.Contexts.{Context, Environment, Obligation}
 use Rattle.theory_typing.specs.Typing.{Mode, Gives, Fits}
 use Rattle.theory_typing_canonical.specs.Environments.{standings, heads_of, IsCanonicalEnvironment, IsCanonicalContext}
 use Rattle.theory_logic_rules.specs.Rules.{Proves}
-use Rattle.theory_items.specs.Items.{ItemTree, Derives}
+use Rattle.theory_items.specs.Items.{ItemTree, Added, with_added, Derives}
 use Rattle.theory_denotation.specs.Valuations.{HeadEntries}
 use Rattle.theory_denotation.specs.Valued.{HeadsValued}
 use Rattle.theory_typing_sound.specs.Environments.{IsTrueGoal}
@@ -31,20 +31,21 @@ pub record OwedStandsCanonical : Type 0 where
       → IsCanonicalTy (heads_of env) (standings g) A
       → Fits env m g M A N o
       → StandCanonical (heads_of env) o
-  pub items : (env next : Environment) (item : ItemTree) (o : List Obligation)
+  pub items : (env : Environment) (g : Context) (item : ItemTree) (added : Added) (o : List Obligation)
       → IsCanonicalEnvironment env
-      → Derives env item next o
+      → IsCanonicalContext (heads_of env) g
+      → Derives env g item added o
       → StandCanonical (heads_of env) o
 
 -- An item derives in a sound environment and leaves one from which further items lead to the final
 -- environment. What it owes and is proved there is true with the final environment's predicates.
 abbrev pub ProvedIsTrueGoal : Type 0
 ProvedIsTrueGoal =
-    (env next final : Environment) (item : ItemTree) (owed : List Obligation) (items : List ItemTree)
+    (env final : Environment) (item : ItemTree) (added : Added) (owed : List Obligation) (items : List ItemTree)
     (rows : List (List Obligation))
     → SoundEnvironment env
-    → Derives env item next owed
-    → DerivesAll next items final rows
+    → Derives env [] item added owed
+    → DerivesAll (with_added env added) items final rows
     → (e : HeadEntries)
     → HeadsValued (heads_of final) e
     → (k : ℕ) (o : Obligation) (p : ProofTree)

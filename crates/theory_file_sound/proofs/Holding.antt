@@ -9,7 +9,7 @@ use Rattle.theory_canonical.specs.Skeletons.{skeleton}
 use Rattle.theory_typing.specs.Contexts.{Environment, Obligation}
 use Rattle.theory_typing_canonical.specs.Environments.{heads_of}
 use Rattle.theory_logic_rules.specs.Rules.{Proves}
-use Rattle.theory_items.specs.Items.{ItemTree, Derives, derives_abbreviation, derives_pred, derives_def, derives_val, derives_rec}
+use Rattle.theory_items.specs.Items.{ItemTree, Added, with_added, Derives, derives_abbreviation, derives_pred, derives_def, derives_val, derives_rec}
 use Rattle.theory_denotation.specs.Valuations.{den_term, HeadEntries}
 use Rattle.theory_denotation.specs.Denotation.{term_den, ValTree}
 use Rattle.theory_denotation.specs.Valued.{HeadsValued}
@@ -66,15 +66,16 @@ EntriesDenote vs e = (n : ℕ) (v : ValTree) → slice_get vs n ≡ Some v → e
 
 module _ (final : Environment) (texts : Items) (vs : List ValTree) (e : HeadEntries) (valued : HeadsValued (heads_of final) e)
     (entries : EntriesDenote vs e) where
-  owed_true : {env next : Environment} {item : ItemTree} {owed : List Obligation} {items : List ItemTree} {rows : List (List Obligation)}
+  owed_true : {env : Environment} {item : ItemTree} {added : Added} {owed : List Obligation} {items : List ItemTree}
+      {rows : List (List Obligation)}
       → FileHolds final.recs texts env e
-      → Derives env item next owed
-      → DerivesAll next items final rows
+      → Derives env [] item added owed
+      → DerivesAll (with_added env added) items final rows
       → AreProved final owed
       → AllTrue final.recs e owed
-  owed_true {env = env} {next = next} {item = item} {owed = owed} {items = items} {rows = rows} h d rest p =
+  owed_true {env = env} {item = item} {added = added} {owed = owed} {items = items} {rows = rows} h d rest p =
       all_true final.recs e owed
-      (λ k o q. let r = p k o q in proved_goal env next final item owed items rows h.sound d rest e valued k o r.0 q r.1)
+      (λ k o q. let r = p k o q in proved_goal env final item added owed items rows h.sound d rest e valued k o r.0 q r.1)
 
   pub all_hold : {env : Environment} {items : List ItemTree} {rows : List (List Obligation)} (d : DerivesAll env items final rows)
       → FileHolds final.recs texts env e
@@ -84,7 +85,7 @@ module _ (final : Environment) (texts : Items) (vs : List ValTree) (e : HeadEntr
       → AllProved final rows
       → FileHolds final.recs texts final e
   all_hold derives_none h f v t p = h
-  all_hold (derives_more {env = env} {next = next} {items = items} {owed = owed}
+  all_hold (derives_more {env = env} {items = items} {owed = owed}
       (derives_val {ty = ty} {ty' = ty'} {term = term} {term' = term'} a ends b) rest) h f v t p =
       let value : ValTree = record { term = term'; skeleton = skeleton ty' } in
       all_hold rest
@@ -97,7 +98,7 @@ module _ (final : Environment) (texts : Items) (vs : List ValTree) (e : HeadEntr
       (sound.definition final.recs texts env e h ty ty' term term' owed a b (owed_true h (derives_def a b) rest p.0)
       (follows_get texts.defs (length env.defs) term (def_terms items) t))
       f v (follows_more texts.defs env.defs (ty', term') term (def_terms items) t) p.1
-  all_hold (derives_more {env = env} {next = next} {owed = owed} (derives_rec {r = r} c a b i) rest) h f v t p =
-      all_hold rest (sound.recursive final.recs texts env next e h r owed (derives_rec c a b i)) f v t p.1
+  all_hold (derives_more {env = env} {added = added} {owed = owed} (derives_rec {r = r} c a b i) rest) h f v t p =
+      all_hold rest (sound.recursive final.recs texts env e h r added owed (derives_rec c a b i)) f v t p.1
   all_hold (derives_more (derives_abbreviation a) rest) h f v t p = all_hold rest h f v t p.1
   all_hold (derives_more (derives_pred a b) rest) h f v t p = all_hold rest h f v t p.1

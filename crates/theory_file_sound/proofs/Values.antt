@@ -31,16 +31,16 @@ pub are_vals : {env final : Environment} {items : List ItemTree} {rows : List (L
     → SoundEnvironment env
     → AreVals (map skeleton env.vals) (vals_of d)
 are_vals derives_none s = vals_end
-are_vals (derives_more {env = env} {next = next} {item = item} {owed = owed} (derives_val {ty' = ty'} {term' = term'} a h b) rest) s =
+are_vals (derives_more {env = env} {item = item} {added = added} {owed = owed} (derives_val {ty' = ty'} {term' = term'} a h b) rest) s =
     vals_more (fitted env s.canonical no_entry (formed_ty env s.canonical no_entry a) b).term (ends_run ty' h)
     (subst (λ (before : List Skeleton). AreVals before (vals_of rest)) (more_skeletons env.vals ty')
-    (are_vals rest (items_keep_sound.kept env next item owed s (derives_val a h b))))
+    (are_vals rest (items_keep_sound.kept env item added owed s (derives_val a h b))))
 are_vals (derives_more (derives_abbreviation a) rest) s = are_vals rest s
 are_vals (derives_more (derives_pred a b) rest) s = are_vals rest s
-are_vals (derives_more {env = env} {next = next} {item = item} {owed = owed} (derives_def a b) rest) s =
-    are_vals rest (items_keep_sound.kept env next item owed s (derives_def a b))
-are_vals (derives_more {env = env} {next = next} {item = item} {owed = owed} (derives_rec f a b i) rest) s =
-    are_vals rest (items_keep_sound.kept env next item owed s (derives_rec f a b i))
+are_vals (derives_more {env = env} {item = item} {added = added} {owed = owed} (derives_def a b) rest) s =
+    are_vals rest (items_keep_sound.kept env item added owed s (derives_def a b))
+are_vals (derives_more {env = env} {item = item} {added = added} {owed = owed} (derives_rec f a b i) rest) s =
+    are_vals rest (items_keep_sound.kept env item added owed s (derives_rec f a b i))
 
 skeletons_are : {env final : Environment} {items : List ItemTree} {rows : List (List Obligation)} (d : DerivesAll env items final rows)
     → skeletons_after (map skeleton env.vals) (vals_of d) ≡ map skeleton final.vals

@@ -11,7 +11,7 @@ use Rattle.theory_typing.specs.Typing.{in_program, FormsTy, Fits}
 use Rattle.theory_typing_canonical.specs.Environments.{heads_of, no_entry}
 use Rattle.theory_typing_canonical.proofs.Entries.{head_of}
 use Rattle.theory_typing_canonical.proofs.Typed.{formed_ty}
-use Rattle.theory_items.specs.Items.{i_def, i_val, i_rec, with_def, with_val, Derives, derives_def, derives_val, derives_rec}
+use Rattle.theory_items.specs.Items.{i_def, i_val, i_rec, Added, adds_def, adds_val, with_def, with_val, with_added, Derives, derives_def, derives_val, derives_rec}
 use Rattle.theory_items_sound.proofs.Kept.{items_keep_sound}
 use Rattle.theory_denotation.specs.Valuations.{den_term, HeadEntries}
 use Rattle.theory_denotation.specs.Denotation.{term_den}
@@ -108,7 +108,7 @@ module _ (table : List RecTree) (items : Items) (env : Environment) (e : HeadEnt
       → e.vals (length env.vals) ≡ den_term (skeleton ty') (term_den e [] term' (skeleton ty'))
       → FileHolds table items (with_val env ty') e
   val_holds ty ty' term term' o f ends d t at is = record {
-    sound = items_keep_sound.kept env (with_val env ty') (i_val ty term) o h.sound (derives_val f ends d);
+    sound = items_keep_sound.kept env (i_val ty term) (adds_val ty' term') o h.sound (derives_val f ends d);
     runs = heads_run env ty' h.runs ends;
     means = record { vals = λ n u q. val_means n u f d t is (found_in env.vals ty' n u q); defs = h.means.defs };
     does = record { vals = λ n u q. val_does n u f d at is (found_in env.vals ty' n u q); defs = h.does.defs };
@@ -156,7 +156,7 @@ module _ (table : List RecTree) (items : Items) (env : Environment) (e : HeadEnt
       → FileHolds table items (with_def env ty' term') e
   unfolding DefMeans DefDoes
   def_holds ty ty' term term' o f d t at = record {
-    sound = items_keep_sound.kept env (with_def env ty' term') (i_def ty term) o h.sound (derives_def f d);
+    sound = items_keep_sound.kept env (i_def ty term) (adds_def ty' term') o h.sound (derives_def f d);
     runs = h.runs;
     means = record { vals = h.means.vals; defs = λ n u q. def_means n u f d t (found_in env.defs (ty', term') n u q) };
     does = record { vals = h.does.vals; defs = λ n u q. def_does n u f d at (found_in env.defs (ty', term') n u q) };
@@ -166,12 +166,13 @@ nothing_found : {A : Type 0} (n : ℕ) (x : A) → slice_get [] n ≡ Some x →
 nothing_found n x q = cc
 
 -- a recursive predicate adds nothing that means or does anything
-rec_holds : {table : List RecTree} {items : Items} {env next : Environment} {e : HeadEntries} {r : RecTree} {o : List Obligation}
+rec_holds : {table : List RecTree} {items : Items} {env : Environment} {e : HeadEntries} {r : RecTree} {added : Added}
+    {o : List Obligation}
     → FileHolds table items env e
-    → Derives env (i_rec r) next o
-    → FileHolds table items next e
-rec_holds {env = env} {next = next} {r = r} {o = o} h (derives_rec f a b i) = record {
-  sound = items_keep_sound.kept env next (i_rec r) o h.sound (derives_rec f a b i);
+    → Derives env [] (i_rec r) added o
+    → FileHolds table items (with_added env added) e
+rec_holds {env = env} {r = r} {added = added} {o = o} h (derives_rec f a b i) = record {
+  sound = items_keep_sound.kept env (i_rec r) added o h.sound (derives_rec f a b i);
   runs = h.runs;
   means = record { vals = h.means.vals; defs = h.means.defs };
   does = record { vals = h.does.vals; defs = h.does.defs };
@@ -187,5 +188,5 @@ sound = record {
   };
   val = λ table items env e h ty ty' term term' o f ends d t at is. val_holds table items env e h ty ty' term term' o f ends d t at is;
   definition = λ table items env e h ty ty' term term' o f d t at. def_holds table items env e h ty ty' term term' o f d t at;
-  recursive = λ table items env next e h r o d. rec_holds h d;
+  recursive = λ table items env e h r added o d. rec_holds h d;
 }

@@ -8,7 +8,7 @@ use Rattle.theory_typing.specs.Contexts.{Environment, Obligation, EndsInHoare}
 use Rattle.theory_typing.specs.Typing.{in_program, FormsTy, Fits}
 use Rattle.theory_typing_canonical.specs.Environments.{heads_of}
 use Rattle.theory_items_sound.specs.Environments.{SoundEnvironment}
-use Rattle.theory_items.specs.Items.{i_rec, with_def, with_val, Derives}
+use Rattle.theory_items.specs.Items.{i_rec, Added, with_def, with_val, with_added, Derives}
 use Rattle.theory_denotation.specs.Valuations.{den_term, HeadEntries}
 use Rattle.theory_denotation.specs.Denotation.{term_den}
 use Rattle.theory_denotation.specs.Valued.{HeadsRun}
@@ -49,8 +49,8 @@ pub record FilesAreSound : Type 0 where
       → slice_get items.defs (length env.defs) ≡ Some term
       → FileHolds table items (with_def env ty' term') e
   -- a recursive predicate, which neither means nor does anything of its own
-  pub recursive : (table : List RecTree) (items : Items) (env next : Environment) (e : HeadEntries)
+  pub recursive : (table : List RecTree) (items : Items) (env : Environment) (e : HeadEntries)
       → FileHolds table items env e
-      → (r : RecTree) (o : List Obligation)
-      → Derives env (i_rec r) next o
-      → FileHolds table items next e
+      → (r : RecTree) (added : Added) (o : List Obligation)
+      → Derives env [] (i_rec r) added o
+      → FileHolds table items (with_added env added) e

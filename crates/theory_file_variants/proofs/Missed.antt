@@ -17,7 +17,7 @@ use Rattle.theory_typing.specs.Contexts.{Obligation, en_heap, en_term, type_here
 use Rattle.theory_typing.specs.Laws.{none}
 use Rattle.theory_typing.specs.Typing.{forms_hoare, forms_triple, forms_tt, forms_ff, gives_var, gives_word, fits_given, fits_do, fits_body, runs_ret}
 use Rattle.theory_typing.specs.Typing.{runs_step}
-use Rattle.theory_typing.specs.Typing.{moves_alloc, joined_step}
+use Rattle.theory_typing.specs.Typing.{moves_alloc, joined_step, assembled_end, assembled_part}
 use Rattle.theory_items.specs.Items.{derives_val}
 use Rattle.theory_logic_rules.specs.Rules.{proves_trivial, proves_block, block_end, block_intro}
 use Rattle.theory_file_derived.specs.Derived.{ProofItem, DerivesAll, derives_none, derives_more, owed_at, given_for, IsProvedOnce, texts_of}
@@ -32,7 +32,7 @@ wrong_derives : DerivesAll none wrong_file wrong_env ((wrong_goal ∷ []) ∷ []
 unfolding plain_ty lift lifts rename_mono rename_term rename_formula past at_heap start some_values within ending finish last
 wrong_derives =
     derives_more (derives_val (forms_hoare (forms_triple forms_tt forms_word forms_ff)) tt
-    (fits_do (fits_body (runs_ret (fits_given tt (gives_word (omega arith)) refl))))) derives_none
+    (fits_do (fits_body (runs_ret (fits_given tt (gives_word (omega arith)) refl)) assembled_end))) derives_none
 
 wrong_aimed : (n : ℕ) (proof : ProofItem)
     → slice_get left_to_provers n ≡ Some proof
@@ -64,7 +64,7 @@ unfolding place_goal plain_ty rename_ty rename_mono expansion last owed
 place_derives =
     derives_more (derives_val (forms_hoare (forms_triple forms_tt forms_loc forms_tt)) tt
     (fits_do (fits_body (runs_step (moves_alloc forms_word (fits_given tt (gives_word (omega arith)) refl))
-    (runs_ret (fits_given tt (gives_var type_here) refl)) joined_step)))) derives_none
+    (runs_ret (fits_given tt (gives_var type_here) refl))) (assembled_part assembled_end joined_step)))) derives_none
 
 place_proved : (item number : ℕ) (o : Obligation)
     → owed_at ((place_goal ∷ []) ∷ []) (Some item) number ≡ Some o

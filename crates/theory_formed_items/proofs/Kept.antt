@@ -6,8 +6,8 @@ use Rattle.htt_syntax.specs.Trees.{MonoTree, TyTree, TermTree, FormulaTree, y_mo
 use Rattle.theory_truth.specs.Predicates.{RecTree}
 use Rattle.theory_truth.specs.Atoms.{IsFounded}
 use Rattle.theory_typing.specs.Contexts.{Context, Environment, Obligation, EndsInHoare, en_term}
-use Rattle.theory_items.specs.Items.{with_params, zero_context, next_context, ItemTree, with_def, with_val, with_rec, Derives, derives_abbreviation}
-use Rattle.theory_items.specs.Items.{derives_pred, derives_def, derives_val, derives_rec}
+use Rattle.theory_items.specs.Items.{with_params, zero_context, next_context, ItemTree, Added, with_def, with_val, with_rec, with_added, Derives}
+use Rattle.theory_items.specs.Items.{derives_abbreviation, derives_pred, derives_def, derives_val, derives_rec}
 use Rattle.theory_items_sound.proofs.Founded.{earlier_atoms, next_atoms}
 use Rattle.theory_items_sound.proofs.Files.{val_file, rec_file}
 use Rattle.theory_items.proofs.Lists.{appended}
@@ -126,7 +126,7 @@ module _ (env : Environment) (known : IsFormedEnvironment env) where
     ];
   }
 
-  kept : {next : Environment} {item : ItemTree} {o : List Obligation} → Derives env item next o → IsFormedEnvironment next
+  kept : {item : ItemTree} {added : Added} {o : List Obligation} → Derives env [] item added o → IsFormedEnvironment (with_added env added)
   kept (derives_abbreviation a) = known
   kept (derives_pred a b) = known
   kept (derives_def {ty' = ty'} {term' = term'} a b) =

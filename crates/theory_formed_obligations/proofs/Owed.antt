@@ -9,7 +9,7 @@ use Rattle.theory_typing.specs.Typing.{Mode, Part, owes, Gives, gives_var, gives
 use Rattle.theory_typing.specs.Typing.{gives_inst, gives_ann, gives_pair, gives_fst, gives_snd, gives_bin, gives_not, gives_eq, gives_sel, gives_fix, gives_at}
 use Rattle.theory_typing.specs.Typing.{Fits, fits_lam, fits_lam_t, fits_pair, fits_do, fits_given, fits_at, FitsFix, fix_param, fix_body, FitsBody, fits_body}
 use Rattle.theory_typing.specs.Typing.{Runs, runs_ret, runs_step, Moves, moves_alloc, moves_get, moves_set, moves_free, moves_run, moves_if, moves_claim}
-use Rattle.theory_items.specs.Items.{ItemTree, Derives, derives_abbreviation, derives_pred, derives_def, derives_val, derives_rec}
+use Rattle.theory_items.specs.Items.{ItemTree, Added, Derives, derives_abbreviation, derives_pred, derives_def, derives_val, derives_rec}
 use Rattle.theory_formed_shapes.specs.Shapes.{sh_mono, shape_of, in_term, Shapes, shapes_of}
 use Rattle.theory_formed_shapes.specs.Formed.{FileShapes, file_shapes, IsFormedMono, z_m_word, z_m_bool, z_m_loc, z_m_unit, z_m_pair, IsFormedTerm, IsFormedTy}
 use Rattle.theory_formed_shapes.specs.Formed.{z_mono, z_fun, z_all, z_hoare, IsFormedTriple, z_triple, IsFormedFormula, IsClosedFile}
@@ -165,13 +165,13 @@ module _ (env : Environment) (known : FormsEnvironment env) where
         → IsFormedContext (file_shapes env) g
         → IsFormedTriple (file_shapes env) (shapes_of g) spec
         → AreFormed (file_shapes env) o
-    body_stands {g = g} (fits_body {zs = zs} {o = o} a) c (z_triple p m q) =
+    body_stands {g = g} (fits_body {zs = zs} {o = o} a b) c (z_triple p m q) =
         let x = run_stands a c m (start_formed closed (shapes_of g) p) in
         join o _ x.all ((formed_heap (formed_heap (formed_term c (z_mono m))), last_formed (finish_formed closed zs x.state x.row m x.value) q), tt)
 
-    run_stands : {g : Context} {mono : MonoTree} {state end : FormulaTree} {comp r : CompTree} {zs : List MonoTree} {value : TermTree}
-        {o : List Obligation}
-        → Runs env g mono state comp end zs value r o
+    run_stands : {g : Context} {mono : MonoTree} {state end : FormulaTree} {comp : CompTree} {zs : List MonoTree} {value : TermTree}
+        {parts : List Part} {o : List Obligation}
+        → Runs env g mono state comp end zs value parts o
         → IsFormedContext (file_shapes env) g
         → IsFormedMono (shapes_of g) mono
         → IsFormedFormula (file_shapes env) (at_state (shapes_of g)) state
@@ -184,7 +184,7 @@ module _ (env : Environment) (known : FormsEnvironment env) where
           (fit_formed env known a c (z_mono m));
       all = fit_stands a c (z_mono m);
     }
-    run_stands {g = g} {mono = mono} {value = value} (runs_step {step_mono = left} {o = o} {zs = zs} {p = p} a b j) c m s =
+    run_stands {g = g} {mono = mono} {value = value} (runs_step {step_mono = left} {o = o} {zs = zs} {p = p} a b) c m s =
         let x = move_stands a c s in
         let y = run_stands b (formed_term c (z_mono x.mono)) (mono_raised (in_term (sh_mono left)) m) x.state in
         record {
@@ -226,7 +226,7 @@ module _ (env : Environment) (known : FormsEnvironment env) where
         let step = move_run (triple pre mono post) in
         let d = spec_part (given_formed env known a c).0 in
         record { mono = spec_mono d; state = after_formed closed (shapes_of g) step d s; all = moved step o c d s (given_stands a c) }
-    move_stands {g = g} (moves_if {o = o} {zs = zs} {p = p} {ys = ys} {q = q} m a b d) c s =
+    move_stands {g = g} (moves_if {o = o} {zs = zs} {p = p} {ys = ys} {q = q} m a b k d l) c s =
         let x = fit_formed env known a c (z_mono z_m_bool) in
         let y = run_stands b c (mono_formed m) (branch_formed closed (shapes_of g) true s x) in
         let z = run_stands d c (mono_formed m) (branch_formed closed (shapes_of g) false s x) in
@@ -243,16 +243,19 @@ module _ (env : Environment) (known : FormsEnvironment env) where
           all = owing g (owed (move_claim claim') state) c (owed_formed closed (shapes_of g) (move_claim claim') d s);
         }
 
-  pub item_stands : {next : Environment} {item : ItemTree} {o : List Obligation} → Derives env item next o → AreFormed (file_shapes env) o
-  item_stands (derives_abbreviation a) = tt
-  item_stands (derives_pred a b) = tt
-  item_stands (derives_def a b) = fit_stands b formed_none (formed_ty env known a formed_none)
-  item_stands (derives_val a h b) = fit_stands b formed_none (formed_ty env known a formed_none)
-  item_stands (derives_rec f a b i) = tt
+  pub item_stands : {g : Context} {item : ItemTree} {added : Added} {o : List Obligation}
+      → Derives env g item added o
+      → IsFormedContext (file_shapes env) g
+      → AreFormed (file_shapes env) o
+  item_stands (derives_abbreviation a) c = tt
+  item_stands (derives_pred a b) c = tt
+  item_stands (derives_def a b) c = fit_stands b c (formed_ty env known a c)
+  item_stands (derives_val a h b) c = fit_stands b c (formed_ty env known a c)
+  item_stands (derives_rec f a b i) c = tt
 
 pub owed_formed_all : OwedStandsFormed
 owed_formed_all = record {
   given = λ env g known c m M N A o d. given_stands env known d c;
   fitting = λ env g known c m M N A o x d. fit_stands env known d c x;
-  items = λ env next known item o d. item_stands env known d;
+  items = λ env g known c item added o d. item_stands env known d c;
 }

@@ -3,7 +3,7 @@ use Rattle.std.specs.Prelude.{List, [], ◌∷◌}
 use Rattle.htt_syntax.specs.Trees.{TyTree, TermTree}
 use Rattle.theory_typing.specs.Contexts.{Context, Environment, Obligation}
 use Rattle.theory_typing.specs.Typing.{Mode, Gives, Fits}
-use Rattle.theory_items.specs.Items.{ItemTree, Derives}
+use Rattle.theory_items.specs.Items.{ItemTree, Added, Derives}
 use Rattle.theory_formed_shapes.specs.Shapes.{shapes_of}
 use Rattle.theory_formed_shapes.specs.Formed.{FileShapes, file_shapes, IsFormedTy, IsFormedFormula}
 use Rattle.theory_formed_shapes.specs.Environments.{IsFormedContext, FormsEnvironment}
@@ -27,8 +27,9 @@ pub record OwedStandsFormed : Type 0 where
       → IsFormedTy (file_shapes env) (shapes_of g) A
       → Fits env m g M A N o
       → AreFormed (file_shapes env) o
-  pub items : (env next : Environment)
+  pub items : (env : Environment) (g : Context)
       → FormsEnvironment env
-      → (item : ItemTree) (o : List Obligation)
-      → Derives env item next o
+      → IsFormedContext (file_shapes env) g
+      → (item : ItemTree) (added : Added) (o : List Obligation)
+      → Derives env g item added o
       → AreFormed (file_shapes env) o

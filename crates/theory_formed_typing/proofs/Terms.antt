@@ -22,6 +22,7 @@ use Rattle.theory_typing.specs.Typing.{gives_word, gives_bool, gives_loc, gives_
 use Rattle.theory_typing.specs.Typing.{gives_bin, gives_not, gives_eq, gives_sel, gives_fix, gives_at, Fits, fits_lam, fits_lam_t, fits_pair, fits_do}
 use Rattle.theory_typing.specs.Typing.{fits_given, fits_at, FormsHeader, header_param, header_body, FitsFix, fix_param, fix_body, FitsBody, fits_body, Runs}
 use Rattle.theory_typing.specs.Typing.{runs_ret, runs_step, Moves, moves_alloc, moves_get, moves_set, moves_free, moves_run, moves_if, moves_claim}
+use Rattle.theory_typing.specs.Typing.{Assembled, assembled_end, assembled_part}
 use Rattle.theory_formed_shapes.specs.Shapes.{Shape, sh_mono, fill_shape, renaming_of, up_shape, shape_of, in_term, Shapes, shapes_of}
 use Rattle.theory_formed_shapes.specs.Shapes.{IsMonoAt, mono_at_zero, mono_further, IsHeapAt, heap_at_zero, heap_further}
 use Rattle.theory_formed_shapes.specs.Formed.{FileShapes, file_shapes, IsFormedMono, z_m_word, z_m_bool, z_m_loc, z_m_unit, z_m_pair, z_m_var, IsFormedTerm}
@@ -211,7 +212,7 @@ module _ (env : Environment) (known : IsCanonicalEnvironment env) (defs : Defini
         (fit_term p (term_entry k (argument_part a)) (answer_part a)))
     fit_term (fits_lam_t p) k a = z_lam_t (fit_term p (mono_entry k) (under_mono a))
     fit_term (fits_pair p q) k a = z_pair (fit_term p k (n_mono (left_mono_part a))) (fit_term q k (n_mono (right_mono_part a)))
-    fit_term (fits_do (fits_body r)) k a = z_do (runs_formed r k (spec_mono (spec_part a)))
+    fit_term (fits_do (fits_body p q)) k a = z_do (runs_formed p q k (spec_mono (spec_part a)))
     fit_term {g = g} (fits_given {ty' = ty'} {term' = term'} {ty = ty} i p q) k a =
         subst (IsFormedTerm (file_shapes env) (shapes_of g) term') (sym (shape_plain ty') ∙ ap shape_of q ∙ shape_plain ty) (given_term p k)
     fit_term (fits_at p) k a = fit_term p k a
@@ -245,18 +246,20 @@ module _ (env : Environment) (known : IsCanonicalEnvironment env) (defs : Defini
         → IsCanonicalContext (heads_of env) g
         → IsCanonicalMono (standings g) t
         → IsFormedComp (file_shapes env) (shapes_of g) R t
-    body_formed (fits_body p) k m = runs_formed p k m
+    body_formed (fits_body p q) k m = runs_formed p q k m
 
     runs_formed : {g : Context} {t : MonoTree} {state end : FormulaTree} {E R : CompTree} {zs : List MonoTree} {value : TermTree}
+        {parts : List Part}
         {o : List Obligation}
-        → Runs env g t state E end zs value R o
+        → Runs env g t state E end zs value parts o
+        → Assembled parts value R
         → IsCanonicalContext (heads_of env) g
         → IsCanonicalMono (standings g) t
         → IsFormedComp (file_shapes env) (shapes_of g) R t
-    runs_formed (runs_ret p) k m = z_ret (fit_term p k (n_mono m))
-    runs_formed {g = g} (runs_step {step_mono = left} p q j) k m =
+    runs_formed (runs_ret p) assembled_end k m = z_ret (fit_term p k (n_mono m))
+    runs_formed {g = g} (runs_step {step_mono = left} p q) (assembled_part rest j) k m =
         let r = moves_formed p k in
-        joined_formed j closed r.1 (runs_formed q (term_entry k (n_mono r.0)) (mono_renamed m (keeps_suc (as_term sk_o) (standings g))))
+        joined_formed j closed r.1 (runs_formed q rest (term_entry k (n_mono r.0)) (mono_renamed m (keeps_suc (as_term sk_o) (standings g))))
 
     moves_formed : {g : Context} {state next : FormulaTree} {step : StepTree} {t : MonoTree} {part : Part} {o : List Obligation}
         → Moves env g state step t next part o
@@ -267,8 +270,8 @@ module _ (env : Environment) (known : IsCanonicalEnvironment env) (defs : Defini
     moves_formed (moves_set m p q) k = (n_m_unit, z_set (mono_formed m) (fit_term p k (n_mono n_m_loc)) (fit_term q k (n_mono (mono_canonical m))))
     moves_formed (moves_free m p) k = (n_m_unit, z_free (mono_formed m) (fit_term p k (n_mono n_m_loc)))
     moves_formed (moves_run p) k = (spec_mono (spec_part (canonical.given env known k p).ty), do_comp (given_term p k))
-    moves_formed (moves_if m p q r) k = (
+    moves_formed (moves_if m p q a r b) k = (
       mono_canonical m,
-      z_if (mono_formed m) (fit_term p k (n_mono n_m_bool)) (runs_formed q k (mono_canonical m)) (runs_formed r k (mono_canonical m)),
+      z_if (mono_formed m) (fit_term p k (n_mono n_m_bool)) (runs_formed q a k (mono_canonical m)) (runs_formed r b k (mono_canonical m)),
     )
     moves_formed (moves_claim p) k = (n_m_unit, refl)

@@ -4,7 +4,7 @@ use Rattle.htt_syntax.specs.Trees.{TyTree, TermTree}
 use Rattle.theory_truth.specs.Predicates.{RecTree}
 use Rattle.theory_typing.specs.Contexts.{Environment, Obligation}
 use Rattle.theory_typing.specs.Typing.{in_program, Fits}
-use Rattle.theory_items.specs.Items.{ItemTree, with_def, with_val, with_rec, Derives, derives_abbreviation, derives_pred, derives_def, derives_val, derives_rec}
+use Rattle.theory_items.specs.Items.{ItemTree, Added, with_def, with_val, with_rec, with_added, Derives, derives_abbreviation, derives_pred, derives_def, derives_val, derives_rec}
 use Rattle.theory_items.specs.Definitions.{before_def, IsDefined, AreDefined}
 use Rattle.theory_items.specs.Laws.{HasDeclarations, ItemsKeepDefined}
 use Rattle.theory_items.proofs.Lists.{no_element, get_more, take_more, take_all, appended}
@@ -45,7 +45,7 @@ module _ (env : Environment) (known : AreDefined env) where
   rec_kept : (r : RecTree) → AreDefined (with_rec env r)
   rec_kept r = λ n u q. more_defined (rec_more env r n) (known n u q)
 
-  kept : {next : Environment} {item : ItemTree} {o : List Obligation} → Derives env item next o → AreDefined next
+  kept : {item : ItemTree} {added : Added} {o : List Obligation} → Derives env [] item added o → AreDefined (with_added env added)
   kept (derives_abbreviation a) = known
   kept (derives_pred a b) = known
   kept (derives_def {ty' = ty'} {term' = term'} a b) = def_kept ty' term' b
@@ -56,5 +56,5 @@ module _ (env : Environment) (known : AreDefined env) where
 pub items_keep_defined : ItemsKeepDefined
 items_keep_defined = record {
   empty = λ n u q. absurd (no_element q);
-  kept = λ env next item owed known d. kept env known d;
+  kept = λ env item added owed known d. kept env known d;
 }

@@ -1,4 +1,4 @@
--- An item gives at most one environment and one list of obligations, and keeps the environment canonical.
+-- An item adds at most one thing, with one list of obligations, and keeps the environment canonical.
 use Rattle.std.proofs.Common.{◌≡◌, inl, inr, List, [], ◌∷◌, ◌++◌, All, map, refl, sym, subst}
 use Rattle.std.proofs.lemmas.List.{map-append}
 use Rattle.htt_syntax.specs.Trees.{TyTree, TermTree}
@@ -6,35 +6,35 @@ use Rattle.theory_truth.specs.Predicates.{RecTree}
 use Rattle.theory_canonical.specs.Skeletons.{Skeleton, skeleton}
 use Rattle.theory_canonical.specs.Contexts.{Heads}
 use Rattle.theory_canonical.specs.Canonical.{IsCanonicalMono, IsCanonical, IsCanonicalTy}
-use Rattle.theory_typing.specs.Contexts.{Environment, FormsMono, Obligation}
+use Rattle.theory_typing.specs.Contexts.{Context, Environment, FormsMono, Obligation}
 use Rattle.theory_typing.proofs.Once.{ty_formed_once, formula_formed_once, fits_once}
-use Rattle.theory_typing_canonical.specs.Environments.{heads_of, IsCanonicalEnvironment, no_entry}
+use Rattle.theory_typing_canonical.specs.Environments.{standings, heads_of, IsCanonicalEnvironment, IsCanonicalContext, no_entry}
 use Rattle.theory_typing_canonical.specs.Laws.{AreCanonical}
 use Rattle.theory_typing_canonical.proofs.Entries.{none_owed, mono_canonical}
 use Rattle.theory_typing_canonical.proofs.Typed.{formed_ty, fitted}
-use Rattle.theory_items.specs.Items.{ItemTree, with_def, with_val, with_rec, Derives, derives_abbreviation, derives_pred, derives_def, derives_val, derives_rec}
+use Rattle.theory_items.specs.Items.{ItemTree, Added, adds_def, adds_val, adds_rec, with_def, with_val, with_rec, with_added, Derives, derives_abbreviation, derives_pred, derives_def, derives_val, derives_rec}
 use Rattle.theory_items.specs.Laws.{ItemsGiveOne, ItemsKeepCanonical}
 use Rattle.theory_items.proofs.Lists.{appended}
 use Rattle.theory_items.proofs.MoreHeads.{has_more, ty_more, term_more}
 
-items_once : (env : Environment) (item : ItemTree) (next other : Environment) (o p : List Obligation)
-    → Derives env item next o
-    → Derives env item other p
-    → (next ≡ other) × (o ≡ p)
-items_once env item next other o p (derives_abbreviation a) (derives_abbreviation b) = (refl, refl)
-items_once env item next other o p (derives_pred a b) (derives_pred c d) = (refl, refl)
-items_once env item next other o p (derives_def a b) (derives_def c d) =
+items_once : (env : Environment) (g : Context) (item : ItemTree) (added other : Added) (o p : List Obligation)
+    → Derives env g item added o
+    → Derives env g item other p
+    → (added ≡ other) × (o ≡ p)
+items_once env g item added other o p (derives_abbreviation a) (derives_abbreviation b) = (refl, refl)
+items_once env g item added other o p (derives_pred a b) (derives_pred c d) = (refl, refl)
+items_once env g item added other o p (derives_def a b) (derives_def c d) =
     let x = ty_formed_once env refl a c in
     let y = fits_once env refl x b d in
-    ((λ j. with_def env (x j) (y.0 j)), y.1)
-items_once env item next other o p (derives_val a h b) (derives_val c k d) =
+    ((λ j. adds_def (x j) (y.0 j)), y.1)
+items_once env g item added other o p (derives_val a h b) (derives_val c k d) =
     let x = ty_formed_once env refl a c in
     let y = fits_once env refl x b d in
-    ((λ j. with_val env (x j)), y.1)
-items_once env item next other o p (derives_rec {r = r} f a b i) (derives_rec g c d k) =
+    ((λ j. adds_val (x j) (y.0 j)), y.1)
+items_once env g item added other o p (derives_rec {r = r} f a b i) (derives_rec l c d k) =
     let x = formula_formed_once env refl a c in
     let y = formula_formed_once (with_rec env r) refl b d in
-    ((λ j. with_rec env (record { params = r.params; at_zero = x j; at_next = y j })), refl)
+    ((λ j. adds_rec (record { params = r.params; at_zero = x j; at_next = y j })), refl)
 
 pub items_give_one : ItemsGiveOne
 items_give_one = items_once
@@ -90,7 +90,7 @@ module _ (env : Environment) (known : IsCanonicalEnvironment env) where
     rec_params = known.rec_params;
   }
 
-  next_canonical : {next : Environment} {item : ItemTree} {o : List Obligation} → Derives env item next o → IsCanonicalEnvironment next
+  next_canonical : {item : ItemTree} {added : Added} {o : List Obligation} → Derives env [] item added o → IsCanonicalEnvironment (with_added env added)
   next_canonical (derives_abbreviation a) = known
   next_canonical (derives_pred a b) = known
   next_canonical (derives_def {ty' = ty'} {term' = term'} a b) =
@@ -99,15 +99,25 @@ module _ (env : Environment) (known : IsCanonicalEnvironment env) where
   next_canonical (derives_rec {r = r} {at_zero = at_zero} {at_next = at_next} f a b i) =
       rec_added (record { params = r.params; at_zero = at_zero; at_next = at_next }) f
 
-  owed_canonical : {next : Environment} {item : ItemTree} {o : List Obligation} → Derives env item next o → AreCanonical (heads_of env) o
-  owed_canonical (derives_abbreviation a) = none_owed (heads_of env)
-  owed_canonical (derives_pred a b) = none_owed (heads_of env)
-  owed_canonical (derives_def a b) = (fitted env known no_entry (formed_ty env known no_entry a) b).all
-  owed_canonical (derives_val a h b) = (fitted env known no_entry (formed_ty env known no_entry a) b).all
-  owed_canonical (derives_rec f a b i) = none_owed (heads_of env)
+  owed_canonical : {g : Context} {item : ItemTree} {added : Added} {o : List Obligation}
+      → IsCanonicalContext (heads_of env) g
+      → Derives env g item added o
+      → AreCanonical (heads_of env) o
+  owed_canonical c (derives_abbreviation a) = none_owed (heads_of env)
+  owed_canonical c (derives_pred a b) = none_owed (heads_of env)
+  owed_canonical c (derives_def a b) = (fitted env known c (formed_ty env known c a) b).all
+  owed_canonical c (derives_val a h b) = (fitted env known c (formed_ty env known c a) b).all
+  owed_canonical c (derives_rec f a b i) = none_owed (heads_of env)
+
+  value_canonical : {g : Context} {item : ItemTree} {ty : TyTree} {term : TermTree} {o : List Obligation}
+      → IsCanonicalContext (heads_of env) g
+      → Derives env g item (adds_val ty term) o
+      → IsCanonicalTy (heads_of env) (standings g) ty × IsCanonical (heads_of env) (standings g) term (skeleton ty)
+  value_canonical c (derives_val a h b) = let x = formed_ty env known c a in (x, (fitted env known c x b).term)
 
 pub items_keep_canonical : ItemsKeepCanonical
 items_keep_canonical = record {
-  environment = λ env next item o known d. next_canonical env known d;
-  owed = λ env next item o known d. owed_canonical env known d;
+  environment = λ env item added o known d. next_canonical env known d;
+  owed = λ env g item added o known c d. owed_canonical env known c d;
+  value = λ env g item ty term o known c d. value_canonical env known c d;
 }

@@ -85,14 +85,15 @@ module _ {env more : Environment} (k : HasDeclarations env more) where
     fix_more (fix_body a) = fix_body (body_more a)
 
     pub body_more : {g : Context} {E R : CompTree} {spec : TripleTree} {o : List Obligation} → FitsBody env g E spec R o → FitsBody more g E spec R o
-    body_more (fits_body a) = fits_body (runs_more a)
+    body_more (fits_body a b) = fits_body (runs_more a) b
 
-    pub runs_more : {g : Context} {t : MonoTree} {state end : FormulaTree} {E R : CompTree} {zs : List MonoTree} {value : TermTree}
+    pub runs_more : {g : Context} {t : MonoTree} {state end : FormulaTree} {E : CompTree} {zs : List MonoTree} {value : TermTree}
+        {parts : List Part}
         {o : List Obligation}
-        → Runs env g t state E end zs value R o
-        → Runs more g t state E end zs value R o
+        → Runs env g t state E end zs value parts o
+        → Runs more g t state E end zs value parts o
     runs_more (runs_ret a) = runs_ret (fit_more a)
-    runs_more (runs_step a b c) = runs_step (moves_more a) (runs_more b) c
+    runs_more (runs_step a b) = runs_step (moves_more a) (runs_more b)
 
     pub moves_more : {g : Context} {state next : FormulaTree} {step : StepTree} {t : MonoTree} {part : Part} {o : List Obligation}
         → Moves env g state step t next part o
@@ -102,7 +103,7 @@ module _ {env more : Environment} (k : HasDeclarations env more) where
     moves_more (moves_set a b c) = moves_set a (fit_more b) (fit_more c)
     moves_more (moves_free a b) = moves_free a (fit_more b)
     moves_more (moves_run a) = moves_run (given_more a)
-    moves_more (moves_if a b c d) = moves_if a (fit_more b) (runs_more c) (runs_more d)
+    moves_more (moves_if a b c k d l) = moves_if a (fit_more b) (runs_more c) k (runs_more d) l
     moves_more (moves_claim a) = moves_claim (formula_more a)
 
 pub more_keeps : MoreKeepsTyping

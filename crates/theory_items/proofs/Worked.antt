@@ -14,16 +14,16 @@ use Rattle.theory_typing.specs.Typing.{gives_var, gives_word, gives_bin, fits_do
 use Rattle.theory_typing.specs.Laws.{none}
 use Rattle.theory_typing.proofs.Once.{formula_formed_once}
 use Rattle.theory_typing.proofs.Worked as typed
-use Rattle.theory_items.specs.Items.{next_context, i_pred, i_val, i_rec, with_rec, params_none, params_more, OwnAtIndex, Derives, derives_pred, derives_def}
-use Rattle.theory_items.specs.Items.{derives_val}
+use Rattle.theory_items.specs.Items.{next_context, i_pred, i_val, i_rec, Added, with_rec, params_none, params_more, OwnAtIndex, Derives, derives_pred}
+use Rattle.theory_items.specs.Items.{derives_def, derives_val}
 use Rattle.theory_items.specs.Items.{derives_rec}
 use Rattle.theory_items.specs.Examples.{not_less, WorkedExamples}
 
-no_function : (next : Environment) (o : List Obligation) → Derives none (i_val (y_fun (y_mono m_word) (y_mono m_word)) (t_lam (t_var 0))) next o → ⊥
-no_function next o (derives_val (forms_fun (forms_mono a) (forms_mono b)) h d) = h
+no_function : (added : Added) (o : List Obligation) → Derives none [] (i_val (y_fun (y_mono m_word) (y_mono m_word)) (t_lam (t_var 0))) added o → ⊥
+no_function added o (derives_val (forms_fun (forms_mono a) (forms_mono b)) h d) = h
 
-no_mono : (next : Environment) (o : List Obligation) → Derives none (i_pred 1 (m_var 0 ∷ m_var 0 ∷ []) f_tt) next o → ⊥
-no_mono next o (derives_pred (params_more a (params_more (forms_var d) e)) b) = elim d [ ]
+no_mono : (added : Added) (o : List Obligation) → Derives none [] (i_pred 1 (m_var 0 ∷ m_var 0 ∷ []) f_tt) added o → ⊥
+no_mono added o (derives_pred (params_more a (params_more (forms_var d) e)) b) = elim d [ ]
 
 next_of_bad : FormsFormula (with_rec none not_less) (next_context []) not_less.at_next not_less.at_next
 unfolding rename_ty rename_mono contractum expansion plain_ty count_of
@@ -36,8 +36,8 @@ no_index : AtomsMeet (OwnAtIndex 0 0) 0 not_less.at_next → ⊥
 unfolding AtomsMeet
 no_index f = let e = f refl in cc
 
-not_at_index : (next : Environment) (o : List Obligation) → Derives none (i_rec not_less) next o → ⊥
-not_at_index next o (derives_rec f a b i) = no_index (subst (AtomsMeet (OwnAtIndex 0 0) 0) (formula_formed_once (with_rec none not_less) refl b next_of_bad) i)
+not_at_index : (added : Added) (o : List Obligation) → Derives none [] (i_rec not_less) added o → ⊥
+not_at_index added o (derives_rec f a b i) = no_index (subst (AtomsMeet (OwnAtIndex 0 0) 0) (formula_formed_once (with_rec none not_less) refl b next_of_bad) i)
 
 pub worked : WorkedExamples
 unfolding rename_ty rename_mono contractum expansion plain_ty count_of AtomsMeet
@@ -61,4 +61,5 @@ worked = record {
       (gives_bin (fits_given tt (gives_var (type_there type_here)) refl) (fits_given tt (gives_word (omega arith)) refl)) refl) fits_none))
       (λ e. refl);
   index = not_at_index;
+  in_context = derives_def (forms_mono forms_word) (fits_given tt (gives_var type_here) refl);
 }

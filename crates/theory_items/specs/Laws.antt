@@ -1,33 +1,42 @@
 -- The laws of environments and items.
-use Rattle.std.specs.Prelude.{◌≡◌, ℕ, List, Some, slice_get}
+use Rattle.std.specs.Prelude.{◌≡◌, ℕ, List, [], Some, slice_get}
 use Rattle.htt_syntax.specs.Trees.{TyTree, TermTree, FormulaTree}
 use Rattle.theory_truth.specs.Predicates.{RecTree}
+use Rattle.theory_canonical.specs.Skeletons.{skeleton}
+use Rattle.theory_canonical.specs.Canonical.{IsCanonical, IsCanonicalTy}
 use Rattle.theory_typing.specs.Contexts.{Context, Environment, Obligation}
 use Rattle.theory_typing.specs.Typing.{Mode, FormsTy, FormsFormula, Gives, Fits}
 use Rattle.theory_typing.specs.Laws.{none}
-use Rattle.theory_typing_canonical.specs.Environments.{heads_of, IsCanonicalEnvironment}
+use Rattle.theory_typing_canonical.specs.Environments.{standings, heads_of, IsCanonicalEnvironment, IsCanonicalContext}
 use Rattle.theory_typing_canonical.specs.Laws.{AreCanonical}
-use Rattle.theory_items.specs.Items.{ItemTree, Derives}
+use Rattle.theory_items.specs.Items.{ItemTree, Added, adds_val, with_added, Derives}
 use Rattle.theory_items.specs.Definitions.{AreDefined}
 
--- an item gives at most one environment and at most one list of obligations
+-- an item adds at most one thing, with at most one list of obligations
 abbrev pub ItemsGiveOne : Type 0
 ItemsGiveOne =
-    (env : Environment) (item : ItemTree) (next other : Environment) (o p : List Obligation)
-    → Derives env item next o
-    → Derives env item other p
-    → (next ≡ other) × (o ≡ p)
+    (env : Environment) (g : Context) (item : ItemTree) (added other : Added) (o p : List Obligation)
+    → Derives env g item added o
+    → Derives env g item other p
+    → (added ≡ other) × (o ≡ p)
 
--- an item keeps the environment canonical, and owes canonical goals
+-- an item without entries keeps the environment canonical; its goals are canonical, and so are the type
+-- and the term of a value, of which the environment keeps the type alone
 pub record ItemsKeepCanonical : Type 0 where
-  pub environment : (env next : Environment) (item : ItemTree) (o : List Obligation)
+  pub environment : (env : Environment) (item : ItemTree) (added : Added) (o : List Obligation)
       → IsCanonicalEnvironment env
-      → Derives env item next o
-      → IsCanonicalEnvironment next
-  pub owed : (env next : Environment) (item : ItemTree) (o : List Obligation)
+      → Derives env [] item added o
+      → IsCanonicalEnvironment (with_added env added)
+  pub owed : (env : Environment) (g : Context) (item : ItemTree) (added : Added) (o : List Obligation)
       → IsCanonicalEnvironment env
-      → Derives env item next o
+      → IsCanonicalContext (heads_of env) g
+      → Derives env g item added o
       → AreCanonical (heads_of env) o
+  pub value : (env : Environment) (g : Context) (item : ItemTree) (ty : TyTree) (term : TermTree) (o : List Obligation)
+      → IsCanonicalEnvironment env
+      → IsCanonicalContext (heads_of env) g
+      → Derives env g item (adds_val ty term) o
+      → IsCanonicalTy (heads_of env) (standings g) ty × IsCanonical (heads_of env) (standings g) term (skeleton ty)
 
 -- The second environment has the declarations of the first by their numbers, and perhaps more.
 pub record HasDeclarations (env more : Environment) : Type 0 where
@@ -63,7 +72,7 @@ pub record MoreKeepsTyping : Type 0 where
 -- each definition's term is the form of a term that fits, with the definitions before it alone
 pub record ItemsKeepDefined : Type 0 where
   pub empty : AreDefined none
-  pub kept : (env next : Environment) (item : ItemTree) (owed : List Obligation)
+  pub kept : (env : Environment) (item : ItemTree) (added : Added) (owed : List Obligation)
       → AreDefined env
-      → Derives env item next owed
-      → AreDefined next
+      → Derives env [] item added owed
+      → AreDefined (with_added env added)

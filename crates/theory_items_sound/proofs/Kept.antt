@@ -17,8 +17,8 @@ use Rattle.theory_typing.specs.Contexts.{Context, Environment, FormsMono, Obliga
 use Rattle.theory_typing_canonical.specs.Environments.{standings, heads_of, IsCanonicalEnvironment, IsCanonicalContext, no_entry, heap_entry, term_entry}
 use Rattle.theory_typing_canonical.proofs.Entries.{closed_mono, mono_canonical}
 use Rattle.theory_typing_canonical.proofs.Typed.{formed_ty, formed_formula}
-use Rattle.theory_items.specs.Items.{with_params, zero_context, next_context, ItemTree, with_def, with_val, with_rec, Derives, derives_abbreviation}
-use Rattle.theory_items.specs.Items.{derives_pred, derives_def, derives_val, derives_rec}
+use Rattle.theory_items.specs.Items.{with_params, zero_context, next_context, ItemTree, Added, with_def, with_val, with_rec, with_added, Derives}
+use Rattle.theory_items.specs.Items.{derives_abbreviation, derives_pred, derives_def, derives_val, derives_rec}
 use Rattle.theory_items.proofs.Derived.{items_keep_canonical}
 use Rattle.theory_items.proofs.Lists.{appended}
 use Rattle.theory_items.proofs.MoreHeads.{has_more, formula_more}
@@ -118,14 +118,14 @@ module _ (env : Environment) (sound : SoundEnvironment env) where
     ];
   }
 
-  kept : {next : Environment} {item : ItemTree} {o : List Obligation} → Derives env item next o → SoundEnvironment next
+  kept : {item : ItemTree} {added : Added} {o : List Obligation} → Derives env [] item added o → SoundEnvironment (with_added env added)
   kept (derives_abbreviation a) = sound
   kept (derives_pred a b) = sound
-  kept {next = next} {item = item} {o = o} (derives_def {ty' = ty'} {term' = term'} a b) =
-      def_kept ty' term' (items_keep_canonical.environment env next item o sound.canonical (derives_def a b))
+  kept {item = item} {added = added} {o = o} (derives_def {ty' = ty'} {term' = term'} a b) =
+      def_kept ty' term' (items_keep_canonical.environment env item added o sound.canonical (derives_def a b))
       (fit_term env sound.canonical sound.defs_formed b no_entry (formed_ty env sound.canonical no_entry a))
-  kept {next = next} {item = item} {o = o} (derives_val {ty' = ty'} a ends b) =
-      val_kept ty' (items_keep_canonical.environment env next item o sound.canonical (derives_val a ends b)) ends
+  kept {item = item} {added = added} {o = o} (derives_val {ty' = ty'} a ends b) =
+      val_kept ty' (items_keep_canonical.environment env item added o sound.canonical (derives_val a ends b)) ends
   kept (derives_rec {r = r} {at_zero = at_zero} {at_next = at_next} f a b i) =
       let d = monos_canonical r.params f in
       rec_kept (record { params = r.params; at_zero = at_zero; at_next = at_next })

@@ -23,9 +23,9 @@ use Rattle.theory_typing.specs.Typing.{Mode, Part, Gives, Fits, FormsHeader, Fit
 use Rattle.theory_typing.specs.Typing.{gives_bool, gives_loc, gives_unit, gives_app, gives_inst, gives_ann, gives_pair, gives_fst, gives_snd, gives_bin}
 use Rattle.theory_typing.specs.Typing.{gives_not, gives_eq, gives_sel, gives_fix, gives_at, fits_lam, fits_lam_t, fits_pair, fits_do, fits_given, fits_at}
 use Rattle.theory_typing.specs.Typing.{header_param, header_body, fix_param, fix_body, fits_body, runs_ret, runs_step, moves_alloc, moves_get, moves_set}
-use Rattle.theory_typing.specs.Typing.{moves_free, moves_run, moves_if, moves_claim}
+use Rattle.theory_typing.specs.Typing.{moves_free, moves_run, moves_if, moves_claim, Assembled, assembled_end, assembled_part}
 use Rattle.theory_typing_canonical.specs.Environments.{standings, heads_of, at_state, IsCanonicalEnvironment, IsCanonicalContext, mono_entry, term_entry}
-use Rattle.theory_typing_canonical.proofs.Entries.{mono_canonical, argument_part, answer_part, under_mono, spec_part, lam_body, lam_t_body}
+use Rattle.theory_typing_canonical.proofs.Entries.{mono_canonical, argument_part, answer_part, under_mono, spec_part, lam_body, lam_t_body, assembled_canonical}
 use Rattle.theory_typing_canonical.proofs.StatesKept.{start_kept, branch_kept}
 use Rattle.theory_typing_canonical.proofs.Typed.{formed_ty, given as canonical_given, fitted as canonical_fitted, header, ran, moved}
 use Rattle.theory_denotation.specs.Outcomes.{Running, ended, alloc_outcome, get_outcome, set_outcome, free_outcome, branch_outcome}
@@ -331,11 +331,12 @@ module _ (items : Items) (env : Environment) (e : HeadEntries) (known : IsCanoni
         → (h : Heap) (cs : List ℕ)
         → AlikeOutcomes (answer_mono w spec) (comp_result items (inner_result items j) (runner_of items j) v comp h cs)
         (comp_den e w r n h cs)
-    body_do {g = g} (fits_body p) (n_triple x m y) c a j n below le h cs = runs_do p m (start_kept (standings g) x) c a j n below le h cs
+    body_do {g = g} (fits_body p q) (n_triple x m y) c a j n below le h cs = runs_do p q m (start_kept (standings g) x) c a j n below le h cs
 
     runs_do : {g : Context} {mono : MonoTree} {state : FormulaTree} {comp : CompTree} {end : FormulaTree} {zs : List MonoTree}
-        {value : TermTree} {r : CompTree} {o : List Obligation} {k : ℕ} {v : Env} {w : Valuation}
-        → Runs env g mono state comp end zs value r o
+        {value : TermTree} {parts : List Part} {r : CompTree} {o : List Obligation} {k : ℕ} {v : Env} {w : Valuation}
+        → Runs env g mono state comp end zs value parts o
+        → Assembled parts value r
         → IsCanonicalMono (standings g) mono
         → IsCanonicalFormula (heads_of env) (at_state (standings g)) state
         → IsCanonicalContext (heads_of env) g
@@ -345,11 +346,12 @@ module _ (items : Items) (env : Environment) (e : HeadEntries) (known : IsCanoni
         → j ≤ n
         → (h : Heap) (cs : List ℕ)
         → AlikeOutcomes (mono_in w mono) (comp_result items (inner_result items j) (runner_of items j) v comp h cs) (comp_den e w r n h cs)
-    runs_do {v = v} {w = w} (runs_ret {term = term} {mono = mono} {term' = term'} p) mc sc c a j n below le h cs =
+    runs_do {v = v} {w = w} (runs_ret {term = term} {mono = mono} {term' = term'} p) assembled_end mc sc c a j n below le h cs =
         alike_with (mono_in w mono) (value_of j v term) (IsValue (mono_in w mono) (term_den e w term' sk_o)) (λ u. done u h cs)
         (ended (term_den e w term' sk_o) h cs) (value_do p c a j) (λ u hu. (hu.0, hu.1, refl, refl))
     runs_do {g = g} {k = k} {v = v} {w = w}
-        (runs_step {step = step} {step_mono = left} {part = part} {mono = mono} {others = others} {others' = others'} p q s) mc sc c a j n
+        (runs_step {step = step} {step_mono = left} {part = part} {mono = mono} {others = others} p q)
+        (assembled_part {others = others'} rest s) mc sc c a j n
         below le h cs =
         let x = moved env known c sc p in
         let inner = term_entry c (n_mono x.mono) in
@@ -359,14 +361,14 @@ module _ (items : Items) (env : Environment) (e : HeadEntries) (known : IsCanoni
         AlikeOutcomes (mono_in w mono)
         (then_run (step_result items (inner_result items j) (runner_of items j) v step h cs)
         (λ u l ds. comp_result items (inner_result items j) (runner_of items j) (with_value u v) others l ds)) (f n h cs))
-        (sym (joined_den s (items_valued written) (match_valued items a) x.part y.whole))
+        (sym (joined_den s (items_valued written) (match_valued items a) x.part (assembled_canonical y.parts rest)))
         (alike_then (mono_in w left) (mono_in w mono) (step_result items (inner_result items j) (runner_of items j) v step h cs)
         (part_den e w part n h cs) _ (λ u l ds. comp_den e (den_term sk_o u ∷ w) others' n l ds) (moves_do p sc c a j n below le h cs)
         (λ u l ds su.
         subst (λ t.
         AlikeOutcomes t (comp_result items (inner_result items j) (runner_of items j) (with_value (base u) v) others l ds)
         (comp_den e (den_term sk_o u ∷ w) others' n l ds)) (mono_renamed (agree_suc (den_term sk_o u) w) mono)
-        (runs_do q mc' x.state inner (match_value {ty = y_mono left} {u = base u} {d = u} (refl, su) a) j n below le l ds)))
+        (runs_do q rest mc' x.state inner (match_value {ty = y_mono left} {u = base u} {d = u} (refl, su) a) j n below le l ds)))
 
     moves_do : {g : Context} {state next : FormulaTree} {step : StepTree} {mono : MonoTree} {part : Part} {o : List Obligation} {k : ℕ}
         {v : Env} {w : Valuation}
@@ -419,7 +421,7 @@ module _ (items : Items) (env : Environment) (e : HeadEntries) (known : IsCanoni
         (comp_den e w comp n h cs) (given_do p c a j) (λ u hu. hu j n below le h cs)
     moves_do {g = g} {v = v} {w = w}
         (moves_if {mono = mono} {test = test} {test' = test'} {on_true = on_true} {on_true' = on_true'} {on_false = on_false}
-        {on_false' = on_false'} m p q s) sc c a j n below le h cs =
+        {on_false' = on_false'} m p q l s r) sc c a j n below le h cs =
         let x = term_den e w test' sk_o in
         let t = mono_in w mono in
         let y = canonical_fitted env known c (n_mono n_m_bool) p in
@@ -429,8 +431,8 @@ module _ (items : Items) (env : Environment) (e : HeadEntries) (known : IsCanoni
         alike_with t (value_of j v test) (IsValue m_bool x) (λ u. branch_result u yes no) o (value_do p c a j)
         (λ u hu. subst (λ z. AlikeOutcomes t (branch_result z yes no) o) (sym hu.0)
         (branch_alike t x yes no (comp_den e w on_true' n h cs) (comp_den e w on_false' n h cs) hu.1
-        (runs_do q (mono_canonical m) (branch_kept (standings g) true sc y.term) c a j n below le h cs)
-        (runs_do s (mono_canonical m) (branch_kept (standings g) false sc y.term) c a j n below le h cs)))
+        (runs_do q l (mono_canonical m) (branch_kept (standings g) true sc y.term) c a j n below le h cs)
+        (runs_do s r (mono_canonical m) (branch_kept (standings g) false sc y.term) c a j n below le h cs)))
     moves_do (moves_claim p) sc c a j n below le h cs = (refl, tt, refl, refl)
 
 pub denoted : TextIsDenoted

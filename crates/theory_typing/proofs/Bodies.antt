@@ -18,6 +18,7 @@ use Rattle.theory_typing.specs.Typing.{in_formula, FormsFormula, Gives, FitsBody
 use Rattle.theory_typing.specs.Typing.{fits_none, fits_more, gives_var, gives_val, gives_def, gives_word, gives_bool, gives_app, gives_inst, gives_bin}
 use Rattle.theory_typing.specs.Typing.{gives_fix, fits_given, header_param, header_body, fix_param, fix_body, fits_body, runs_ret, runs_step, moves_alloc}
 use Rattle.theory_typing.specs.Typing.{moves_get, moves_free, moves_run, moves_if, moves_claim, joined_step, joined_comp, joined_unit}
+use Rattle.theory_typing.specs.Typing.{assembled_end, assembled_part}
 use Rattle.theory_typing.specs.Laws.{none}
 use Rattle.theory_typing.specs.Examples.{file, returns_own, TheItems, TheBodies}
 
@@ -67,10 +68,10 @@ no_recursion A N o d = elim d [ ]
 
 no_truth : (E : CompTree) (o : List Obligation) → FitsBody none [] (c_ret (t_bool true)) (triple f_tt m_word f_tt) E o → ⊥
 unfolding plain_ty
-no_truth E o (fits_body (runs_ret (fits_given i gives_bool e))) = cc
+no_truth E o (fits_body (runs_ret (fits_given i gives_bool e)) a) = cc
 
 no_run : (E : CompTree) (o : List Obligation) → FitsBody none [] (c_step (s_run (t_word 3) None) (c_ret (t_var 0))) (triple f_tt m_word f_tt) E o → ⊥
-no_run E o (fits_body (runs_step (moves_run d) r j)) = elim d [ ]
+no_run E o (fits_body (runs_step (moves_run d) r) a) = elim d [ ]
 
 pub bodies : TheBodies
 unfolding lift lifts rename_mono rename_term past at_heaps at_heap at_result start owes_block owed after branch some_values within ending
@@ -80,24 +81,26 @@ bodies = record {
       fits_body (runs_step (moves_alloc forms_word (fits_given tt (gives_word (omega arith)) refl))
       (runs_step (moves_get forms_word (fits_given tt (gives_var type_here) refl))
       (runs_step (moves_free forms_word (fits_given tt (gives_var (type_there type_here)) refl))
-      (runs_ret (fits_given tt (gives_var (type_there type_here)) refl)) joined_step) joined_step) joined_step);
+      (runs_ret (fits_given tt (gives_var (type_there type_here)) refl)))))
+      (assembled_part (assembled_part (assembled_part assembled_end joined_step) joined_step) joined_step);
   value_run =
       fits_body (runs_step (moves_run (gives_val refl))
-      (runs_ret (fits_given tt (gives_bin (fits_given tt (gives_var type_here) refl) (fits_given tt (gives_word (omega arith)) refl)) refl))
-      (joined_comp (b_step (b_ret (u_ret (u_bin (u_reduced (r_var refl)) u_word))))));
+      (runs_ret (fits_given tt (gives_bin (fits_given tt (gives_var type_here) refl) (fits_given tt (gives_word (omega arith)) refl)) refl)))
+      (assembled_part assembled_end (joined_comp (b_step (b_ret (u_ret (u_bin (u_reduced (r_var refl)) u_word))))));
   claimed =
       fits_body (runs_step
       (moves_claim (forms_eq forms_word (fits_given tt (gives_word (omega arith)) refl) (fits_given tt (gives_word (omega arith)) refl)))
-      (runs_ret (fits_given tt (gives_var type_here) refl)) (joined_unit (u_ret (u_reduced (r_var refl)))));
+      (runs_ret (fits_given tt (gives_var type_here) refl))) (assembled_part assembled_end (joined_unit (u_ret (u_reduced (r_var refl)))));
   branched =
       fits_body (runs_step (moves_if forms_word (fits_given tt gives_bool refl) (runs_ret (fits_given tt (gives_word (omega arith)) refl))
-      (runs_ret (fits_given tt (gives_word (omega arith)) refl))) (runs_ret (fits_given tt (gives_var type_here) refl)) joined_step);
+      assembled_end (runs_ret (fits_given tt (gives_word (omega arith)) refl)) assembled_end)
+      (runs_ret (fits_given tt (gives_var type_here) refl))) (assembled_part assembled_end joined_step);
   recursion =
       gives_fix (header_param (forms_mono forms_word)
       (header_body (forms_triple forms_tt forms_word
       (forms_eq forms_word (fits_given tt (gives_var (type_there (type_there type_here))) refl)
       (fits_given tt (gives_var (type_there (type_there (type_there type_here)))) refl)))))
-      (fix_param (fix_body (fits_body (runs_ret (fits_given tt (gives_var (type_there type_here)) refl)))));
+      (fix_param (fix_body (fits_body (runs_ret (fits_given tt (gives_var (type_there type_here)) refl)) assembled_end)));
   no_recursion_in_formula = no_recursion;
   no_truth_returned = no_truth;
   no_run_of_a_word = no_run;

@@ -17,6 +17,7 @@ use Rattle.theory_substitution.specs.Substitution.{SubTerm, SubTy, SubComp, Bind
 use Rattle.theory_substitution.proofs.Once.{term_once, ty_once, comp_once, bind_once}
 use Rattle.theory_typing.specs.Contexts.{Context, Environment, Obligation, HasEntryType, type_here, type_there, en_mono, en_heap, en_term}
 use Rattle.theory_typing.specs.Typing.{Mode, Part, part_step, part_comp, Joined, joined_step, joined_comp, joined_unit, with_heaps, owes, FormsTy, FormsTriple}
+use Rattle.theory_typing.specs.Typing.{Assembled, assembled_end, assembled_part}
 use Rattle.theory_typing.specs.Typing.{FormsFormula, FitsAll, Gives, Fits, FormsHeader, FitsFix, FitsBody, Runs, Moves, forms_mono, forms_fun, forms_all}
 use Rattle.theory_typing.specs.Typing.{forms_hoare, forms_ty_at, forms_triple, forms_tt, forms_ff, forms_and, forms_or, forms_imp, forms_all_t, forms_ex_t}
 use Rattle.theory_typing.specs.Typing.{forms_all_h, forms_ex_h, forms_emp, forms_cell, forms_block, forms_join, forms_same, forms_eq, forms_rec}
@@ -26,34 +27,34 @@ use Rattle.theory_typing.specs.Typing.{gives_at, fits_lam, fits_lam_t, fits_pair
 use Rattle.theory_typing.specs.Typing.{fits_body, runs_ret, runs_step, moves_alloc, moves_get, moves_set, moves_free, moves_run, moves_if, moves_claim}
 
 -- the parts of equal trees
-fun_argument : {a b c d : TyTree} → y_fun a b ≡ y_fun c d → a ≡ c
+pub fun_argument : {a b c d : TyTree} → y_fun a b ≡ y_fun c d → a ≡ c
 fun_argument e = cc
 
-fun_answer : {a b c d : TyTree} → y_fun a b ≡ y_fun c d → b ≡ d
+pub fun_answer : {a b c d : TyTree} → y_fun a b ≡ y_fun c d → b ≡ d
 fun_answer e = cc
 
-all_body : {a b : TyTree} → y_all a ≡ y_all b → a ≡ b
+pub all_body : {a b : TyTree} → y_all a ≡ y_all b → a ≡ b
 all_body e = cc
 
-hoare_spec : {a b : TripleTree} → y_hoare a ≡ y_hoare b → a ≡ b
+pub hoare_spec : {a b : TripleTree} → y_hoare a ≡ y_hoare b → a ≡ b
 hoare_spec e = cc
 
-mono_of : {a b : MonoTree} → y_mono a ≡ y_mono b → a ≡ b
+pub mono_of : {a b : MonoTree} → y_mono a ≡ y_mono b → a ≡ b
 mono_of e = cc
 
-pair_left : {a b c d : MonoTree} → m_pair a b ≡ m_pair c d → a ≡ c
+pub pair_left : {a b c d : MonoTree} → m_pair a b ≡ m_pair c d → a ≡ c
 pair_left e = cc
 
-pair_right : {a b c d : MonoTree} → m_pair a b ≡ m_pair c d → b ≡ d
+pub pair_right : {a b c d : MonoTree} → m_pair a b ≡ m_pair c d → b ≡ d
 pair_right e = cc
 
-lam_body : {a b : TermTree} → t_lam a ≡ t_lam b → a ≡ b
+pub lam_body : {a b : TermTree} → t_lam a ≡ t_lam b → a ≡ b
 lam_body e = cc
 
-lam_t_body : {a b : TermTree} → t_lam_t a ≡ t_lam_t b → a ≡ b
+pub lam_t_body : {a b : TermTree} → t_lam_t a ≡ t_lam_t b → a ≡ b
 lam_t_body e = cc
 
-do_comp : {a b : CompTree} → t_do a ≡ t_do b → a ≡ b
+pub do_comp : {a b : CompTree} → t_do a ≡ t_do b → a ≡ b
 do_comp e = cc
 
 spec_pre : {a c d f : FormulaTree} {b e : MonoTree} → triple a b c ≡ triple d e f → a ≡ d
@@ -65,11 +66,11 @@ spec_mono h = cc
 spec_post : {a c d f : FormulaTree} {b e : MonoTree} → triple a b c ≡ triple d e f → c ≡ f
 spec_post h = cc
 
-first_mono : {a b : MonoTree} {xs ys : List MonoTree} → a ∷ xs ≡ b ∷ ys → a ≡ b
-first_mono e = cc
+first_of : {A : Type 0} {a b : A} {xs ys : List A} → a ∷ xs ≡ b ∷ ys → a ≡ b
+first_of e = cc
 
-other_monos : {a b : MonoTree} {xs ys : List MonoTree} → a ∷ xs ≡ b ∷ ys → xs ≡ ys
-other_monos e = cc
+others_of : {A : Type 0} {a b : A} {xs ys : List A} → a ∷ xs ≡ b ∷ ys → xs ≡ ys
+others_of e = cc
 
 part_is_step : {a b : StepTree} → part_step a ≡ part_step b → a ≡ b
 part_is_step e = cc
@@ -80,11 +81,11 @@ part_is_comp e = cc
 entry_moved : {g h : Context} {n : ℕ} {ty : TyTree} → g ≡ h → HasEntryType h n ty → HasEntryType g n ty
 entry_moved e d = rw e d
 
-entry_once : {g : Context} {n : ℕ} {a b : TyTree} → HasEntryType g n a → HasEntryType g n b → a ≡ b
+pub entry_once : {g : Context} {n : ℕ} {a b : TyTree} → HasEntryType g n a → HasEntryType g n b → a ≡ b
 entry_once type_here type_here = refl
 entry_once (type_there d) (type_there e) = ap (rename_ty suc) (entry_once d e)
 
-found_once : {A : Type 0} {o : Option A} {x y : A} → o ≡ Some x → o ≡ Some y → x ≡ y
+pub found_once : {A : Type 0} {o : Option A} {x y : A} → o ≡ Some x → o ≡ Some y → x ≡ y
 found_once {x = x} {y = y} p q = same_Some x y (sym p ∙ q)
 
 sub_term_once : {n n' : TermTree} {s s' : Skeleton} {t t' r q : TermTree} → n ≡ n' → s ≡ s' → t ≡ t' → SubTerm n s zero t r → SubTerm n' s' zero t' q → r ≡ q
@@ -109,6 +110,12 @@ joined_once a b (joined_comp p) joined_step = cc
 joined_once a b (joined_comp p) (joined_unit q) = cc
 joined_once a b (joined_unit p) joined_step = cc
 joined_once a b (joined_unit p) (joined_comp q) = cc
+
+pub assembled_once : {ps qs : List Part} {v w : TermTree} {r q : CompTree} → ps ≡ qs → v ≡ w → Assembled ps v r → Assembled qs w q → r ≡ q
+assembled_once a b assembled_end assembled_end = ap c_ret b
+assembled_once a b (assembled_part p i) (assembled_part q k) = joined_once (first_of a) (assembled_once (others_of a) b p q) i k
+assembled_once a b assembled_end (assembled_part q k) = cc
+assembled_once a b (assembled_part p i) assembled_end = cc
 
 module _ (env : Environment) where
   mutual
@@ -153,8 +160,8 @@ module _ (env : Environment) where
     pub terms_fit_once : {g h : Context} {t r q : TermTrees} {ms ns : List MonoTree} → g ≡ h → ms ≡ ns → FitsAll env g t ms r → FitsAll env h t ns q → r ≡ q
     terms_fit_once e f fits_none fits_none = refl
     terms_fit_once e f (fits_more a b) (fits_more c d) =
-        let x = (fits_once e (ap y_mono (first_mono f)) a c).0 in
-        let y = terms_fit_once e (other_monos f) b d in λ j. more_terms (x j) (y j)
+        let x = (fits_once e (ap y_mono (first_of f)) a c).0 in
+        let y = terms_fit_once e (others_of f) b d in λ j. more_terms (x j) (y j)
 
     pub gives_once : {m : Mode} {g h : Context} {t : TermTree} {a b : TyTree} {r q : TermTree} {o p : List Obligation}
         → g ≡ h
@@ -249,9 +256,9 @@ module _ (env : Environment) where
         → FitsBody env g t s r o
         → FitsBody env h t u q p
         → (r ≡ q) × (o ≡ p)
-    body_once e f (fits_body a) (fits_body c) =
+    body_once e f (fits_body a b) (fits_body c d) =
         let x = runs_once e (spec_mono f) (ap start (spec_pre f)) a c in (
-          x.3,
+          assembled_once x.3 x.2 b d,
           λ j.
               x.4 j ++ record {
                 context = with_heaps (en_term (y_mono (spec_mono f j)) ∷ e j);
@@ -259,19 +266,19 @@ module _ (env : Environment) where
               } ∷ [],
         )
 
-    pub runs_once : {g h : Context} {m n : MonoTree} {s u x y : FormulaTree} {t r q : CompTree} {zs ws : List MonoTree} {v w : TermTree}
-        {o p : List Obligation}
+    pub runs_once : {g h : Context} {m n : MonoTree} {s u x y : FormulaTree} {t : CompTree} {zs ws : List MonoTree} {v w : TermTree}
+        {r q : List Part} {o p : List Obligation}
         → g ≡ h
         → m ≡ n
         → s ≡ u
         → Runs env g m s t x zs v r o
         → Runs env h n u t y ws w q p
         → (x ≡ y) × (zs ≡ ws) × (v ≡ w) × (r ≡ q) × (o ≡ p)
-    runs_once e f i (runs_ret a) (runs_ret c) = let x = fits_once e (ap y_mono f) a c in (i, refl, x.0, (λ j. c_ret (x.0 j)), x.1)
-    runs_once e f i (runs_step a b c) (runs_step a2 b2 c2) =
+    runs_once e f i (runs_ret a) (runs_ret c) = let x = fits_once e (ap y_mono f) a c in (i, refl, x.0, refl, x.1)
+    runs_once e f i (runs_step a b) (runs_step a2 b2) =
         let x = moves_once e i a a2 in
         let y = runs_once (λ j. en_term (y_mono (x.0 j)) ∷ e j) (ap (rename_mono suc) f) x.1 b b2 in
-        (y.0, (λ j. x.0 j ∷ y.1 j), y.2, joined_once x.2 y.3 c c2, λ j. x.3 j ++ y.4 j)
+        (y.0, (λ j. x.0 j ∷ y.1 j), y.2, (λ j. x.2 j ∷ y.3 j), λ j. x.3 j ++ y.4 j)
 
     pub moves_once : {g h : Context} {s u : FormulaTree} {t : StepTree} {m n : MonoTree} {x y : FormulaTree} {r q : Part}
         {o p : List Obligation}
@@ -317,13 +324,13 @@ module _ (env : Environment) where
           (λ j. part_comp (do_comp x.1 j)),
           λ j. x.2 j ++ owes (e j) (owed (move_run (triple (spec_pre s j) (spec_mono s j) (spec_post s j))) (i j)),
         )
-    moves_once e i (moves_if {mono = mono} m a b c) (moves_if n a2 b2 c2) =
+    moves_once e i (moves_if {mono = mono} m a b k c l) (moves_if n a2 b2 k2 c2 l2) =
         let x = fits_once e refl a a2 in
         let y = runs_once e refl (λ j. branch (i j) (x.0 j) true) b b2 in
         let z = runs_once e refl (λ j. branch (i j) (x.0 j) false) c c2 in (
           refl,
           (λ j. merge (finish (y.0 j) (y.1 j) mono (y.2 j)) (finish (z.0 j) (z.1 j) mono (z.2 j))),
-          (λ j. part_step (s_if mono (x.0 j) (y.3 j) (z.3 j))),
+          (λ j. part_step (s_if mono (x.0 j) (assembled_once y.3 y.2 k k2 j) (assembled_once z.3 z.2 l l2 j))),
           λ j. x.1 j ++ y.4 j ++ z.4 j,
         )
     moves_once e i (moves_claim a) (moves_claim c) =

@@ -11,7 +11,7 @@ use Rattle.theory_substitution.specs.Substitution.{u_y_mono, u_bin, u_reduced, u
 use Rattle.theory_typing.specs.Positions.{plain_ty}
 use Rattle.theory_typing.specs.Contexts.{Obligation, type_here, forms_word, IsComparable}
 use Rattle.theory_typing.specs.Typing.{in_program, in_formula, Gives, Fits, forms_mono, forms_fun, forms_formula_at, forms_ex_t, forms_eq, gives_var}
-use Rattle.theory_typing.specs.Typing.{gives_word, gives_bool, gives_app, gives_ann, gives_bin, gives_eq, fits_lam, fits_given, fits_at, fits_body, runs_ret}
+use Rattle.theory_typing.specs.Typing.{gives_word, gives_bool, gives_app, gives_ann, gives_bin, gives_eq, fits_lam, fits_given, fits_at, fits_body, runs_ret, assembled_end}
 use Rattle.theory_typing.specs.Laws.{WorkedTyping, none, word_to_word}
 
 no_comparison_of_pairs : IsComparable (m_pair m_word m_word) → ⊥
@@ -32,7 +32,8 @@ no_equation_of_pairs M N R A o (gives_eq f c a b) = no_comparison_of_pairs c
 pub worked : WorkedTyping
 unfolding lift lifts rename_mono rename_term past at_heap start some_values within ending finish last skeleton contractum expansion closing plain_ty
 worked = record {
-  sum = fits_body (runs_ret (fits_given tt (gives_bin (fits_given tt (gives_word (omega arith)) refl) (fits_given tt (gives_word (omega arith)) refl)) refl));
+  sum = fits_body (runs_ret (fits_given tt (gives_bin (fits_given tt (gives_word (omega arith)) refl) (fits_given tt (gives_word (omega arith)) refl)) refl))
+      assembled_end;
   placed = fits_at (fits_given tt gives_bool refl);
   successor = fits_lam (fits_given tt (gives_bin (fits_given tt (gives_var type_here) refl) (fits_given tt (gives_word (omega arith)) refl)) refl);
   expanded = gives_var type_here;

@@ -4,3 +4,4 @@ pub mod Worlds
 pub mod Typing
 pub mod Laws
 pub mod Examples
+pub mod Orders

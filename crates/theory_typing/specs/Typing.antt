@@ -69,6 +69,15 @@ pub data Joined : Part → CompTree → CompTree → Type 0 where
   joined_comp : {comp others result : CompTree} → Bind comp others result → Joined (part_comp comp) others result
   joined_unit : {others result : CompTree} → SubComp t_unit sk_o zero others result → Joined part_unit others result
 
+-- the computation that a body or a branch becomes: its parts and its result, joined from the last part to
+-- the first
+pub data Assembled : List Part → TermTree → CompTree → Type 0 where
+  assembled_end : {last_value : TermTree} → Assembled [] last_value (c_ret last_value)
+  assembled_part : {parts : List Part} {last_value : TermTree} {others : CompTree} {part : Part} {result : CompTree}
+      → Assembled parts last_value others
+      → Joined part others result
+      → Assembled (part ∷ parts) last_value result
+
 mutual
   -- a type is formed, with its canonical form
   pub data FormsTy (env : Environment) : Context → TyTree → TyTree → Type 0 where
@@ -301,28 +310,29 @@ mutual
         → FitsFix env g whole (x_body spec comp) (y_hoare spec') (x_body spec' comp') o
 
   -- a computation is checked against a triple; its last obligation is that its end implies the
-  -- postcondition
+  -- postcondition, and after that it is assembled
   pub data FitsBody (env : Environment) : Context → CompTree → TripleTree → CompTree → List Obligation → Type 0 where
     fits_body : {g : Context} {mono : MonoTree} {pre : FormulaTree} {comp : CompTree} {end : FormulaTree}
-        {zs : List MonoTree} {last_value : TermTree} {comp' : CompTree} {o : List Obligation} {post : FormulaTree}
-        → Runs env g mono (start pre) comp end zs last_value comp' o
+        {zs : List MonoTree} {last_value : TermTree} {parts : List Part} {o : List Obligation} {comp' : CompTree}
+        {post : FormulaTree}
+        → Runs env g mono (start pre) comp end zs last_value parts o
+        → Assembled parts last_value comp'
         → FitsBody env g comp (triple pre mono post) comp' (o ++ owes_at_end g end zs mono last_value post)
 
   -- a computation runs from a state, for a result of this monotype, to an end: its state, the
-  -- monotypes of its steps' variables, and its result
+  -- monotypes of its steps' variables, its result, and what its steps become
   pub data Runs (env : Environment) : Context → MonoTree → FormulaTree → CompTree → FormulaTree → List MonoTree
-      → TermTree → CompTree → List Obligation → Type 0 where
+      → TermTree → List Part → List Obligation → Type 0 where
     runs_ret : {g : Context} {term : TermTree} {mono : MonoTree} {term' : TermTree} {o : List Obligation}
         {state : FormulaTree}
         → Fits env in_program g term (y_mono mono) term' o
-        → Runs env g mono state (c_ret term) state [] term' (c_ret term') o
+        → Runs env g mono state (c_ret term) state [] term' [] o
     runs_step : {g : Context} {state : FormulaTree} {step : StepTree} {step_mono : MonoTree} {next : FormulaTree}
         {part : Part} {o : List Obligation} {mono : MonoTree} {others : CompTree} {end : FormulaTree}
-        {zs : List MonoTree} {last_value : TermTree} {others' : CompTree} {p : List Obligation} {result : CompTree}
+        {zs : List MonoTree} {last_value : TermTree} {parts : List Part} {p : List Obligation}
         → Moves env g state step step_mono next part o
-        → Runs env (en_term (y_mono step_mono) ∷ g) (rename_mono suc mono) next others end zs last_value others' p
-        → Joined part others' result
-        → Runs env g mono state (c_step step others) end (step_mono ∷ zs) last_value result (o ++ p)
+        → Runs env (en_term (y_mono step_mono) ∷ g) (rename_mono suc mono) next others end zs last_value parts p
+        → Runs env g mono state (c_step step others) end (step_mono ∷ zs) last_value (part ∷ parts) (o ++ p)
 
   -- a step goes on from a state: the monotype of its variable, the next state, what it becomes, and
   -- what it owes, its terms first
@@ -357,13 +367,15 @@ mutual
         → Moves env g state (s_run term given) mono (after (move_run (triple pre mono post)) state) (part_comp comp)
         (o ++ owes g (owed (move_run (triple pre mono post)) state))
     moves_if : {g : Context} {mono : MonoTree} {test test' : TermTree} {o : List Obligation} {state : FormulaTree}
-        {on_true : CompTree} {yes_end : FormulaTree} {zs : List MonoTree} {yes_value : TermTree} {on_true' : CompTree}
-        {p : List Obligation} {on_false : CompTree} {no_end : FormulaTree} {ys : List MonoTree} {no_value : TermTree}
-        {on_false' : CompTree} {q : List Obligation}
+        {on_true : CompTree} {yes_end : FormulaTree} {zs : List MonoTree} {yes_value : TermTree}
+        {yes_parts : List Part} {p : List Obligation} {on_true' on_false : CompTree} {no_end : FormulaTree}
+        {ys : List MonoTree} {no_value : TermTree} {no_parts : List Part} {q : List Obligation} {on_false' : CompTree}
         → FormsMono g mono
         → Fits env in_program g test (y_mono m_bool) test' o
-        → Runs env g mono (branch state test' true) on_true yes_end zs yes_value on_true' p
-        → Runs env g mono (branch state test' false) on_false no_end ys no_value on_false' q
+        → Runs env g mono (branch state test' true) on_true yes_end zs yes_value yes_parts p
+        → Assembled yes_parts yes_value on_true'
+        → Runs env g mono (branch state test' false) on_false no_end ys no_value no_parts q
+        → Assembled no_parts no_value on_false'
         → Moves env g state (s_if mono test on_true on_false) mono
         (merge (finish yes_end zs mono yes_value) (finish no_end ys mono no_value))
         (part_step (s_if mono test' on_true' on_false')) (o ++ p ++ q)

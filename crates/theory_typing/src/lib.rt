@@ -3,6 +3,7 @@
 #![tactic(auto)]
 
 ghost use Rattle.theory_typing.specs.Examples.{TheBodies, TheItems};
+ghost use Rattle.theory_typing.specs.Orders.{RunsInOrder, StepsInOrder, TermsInOrder};
 ghost use Rattle.theory_typing.specs.Laws.{TypingGivesOne, WorkedTyping, WorldsGive};
 
 /// A world of a context gives each variable a thing of its sort: a closed monotype, a heap, or a value
@@ -26,4 +27,12 @@ pub fn worked_typing()
 pub fn worked_bodies()
     ensures items { TheItems }
     ensures bodies { TheBodies }
+{}
+
+/// The order of obligations, worked out by hand: of a phrase's terms from the left, of a step's terms
+/// before the step, and of what is run before the run.
+pub fn worked_orders()
+    ensures terms { TermsInOrder }
+    ensures steps { StepsInOrder }
+    ensures runs { RunsInOrder }
 {}

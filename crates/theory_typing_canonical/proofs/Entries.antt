@@ -14,7 +14,7 @@ use Rattle.theory_canonical.specs.Contexts.{Standing, as_mono, as_heap, as_term,
 use Rattle.theory_canonical.specs.Contexts.{KeepsStandings}
 use Rattle.theory_canonical.specs.Canonical.{IsCanonicalMono, IsCanonical, IsCanonicalComp, IsCanonicalStep, IsCanonicalTy, IsCanonicalTriple}
 use Rattle.theory_canonical.specs.Canonical.{IsCanonicalFormula, n_m_word, n_m_bool, n_m_loc, n_m_unit, n_m_pair, n_m_var, n_mono, n_fun, n_all, n_hoare}
-use Rattle.theory_canonical.specs.Canonical.{n_triple, n_lam, n_lam_t, n_do, n_step, n_unit}
+use Rattle.theory_canonical.specs.Canonical.{n_triple, n_lam, n_lam_t, n_do, n_ret, n_step, n_unit}
 use Rattle.theory_canonical.proofs.Renamed.{keeps_suc, skeleton_stays, mono_renamed, term_renamed, ty_renamed}
 use Rattle.theory_substitution_total.specs.Insertion.{ins_here}
 use Rattle.theory_substitution_total.specs.Laws.{MayBePut}
@@ -23,6 +23,7 @@ use Rattle.theory_typing.specs.Positions.{plain_ty}
 use Rattle.theory_typing.specs.Contexts.{en_term, Context, IsMonoEntry, mono_here, mono_there, IsHeapEntry, heap_here, heap_there, HasEntryType, type_here}
 use Rattle.theory_typing.specs.Contexts.{type_there, FormsMono, forms_word, forms_bool, forms_loc, forms_unit, forms_pair, forms_var, Obligation}
 use Rattle.theory_typing.specs.Typing.{Part, part_step, part_comp, part_unit, Joined, joined_step, joined_comp, joined_unit, with_heaps, owes}
+use Rattle.theory_typing.specs.Typing.{Assembled, assembled_end, assembled_part}
 use Rattle.theory_typing_canonical.specs.Environments.{standings, IsCanonicalContext, no_entry, mono_entry, heap_entry, term_entry, at_state, with_values}
 use Rattle.theory_typing_canonical.specs.Environments.{IsCanonicalRow}
 use Rattle.theory_typing_canonical.specs.Laws.{IsCanonicalOwed, AreCanonical}
@@ -154,6 +155,19 @@ pub joined_canonical : {heads : Heads} {g : List Standing} {part : Part} {others
 joined_canonical d e joined_step = n_step d e
 joined_canonical d e (joined_comp b) = bind_result d e b
 joined_canonical d e (joined_unit b) = comp_result (put_here n_unit) e b
+
+-- the parts of a body or a branch, each under the variables of those before it, and its result under all
+unfoldable pub AreCanonicalParts : Heads → List Standing → List Part → TermTree → Type 0
+AreCanonicalParts heads g [] value = IsCanonical heads g value sk_o
+AreCanonicalParts heads g (part ∷ parts) value = IsCanonicalPart heads g part × AreCanonicalParts heads (as_term sk_o ∷ g) parts value
+
+pub assembled_canonical : {heads : Heads} {g : List Standing} {parts : List Part} {value : TermTree} {result : CompTree}
+    → AreCanonicalParts heads g parts value
+    → Assembled parts value result
+    → IsCanonicalComp heads g result
+unfolding AreCanonicalParts
+assembled_canonical d assembled_end = n_ret d
+assembled_canonical d (assembled_part rest j) = joined_canonical d.0 (assembled_canonical d.1 rest) j
 
 -- the goals that are owed
 pub none_owed : (heads : Heads) → AreCanonical heads []

@@ -7,7 +7,7 @@ use Rattle.theory_canonical.specs.Skeletons.{Skeleton, sk_o, skeleton}
 use Rattle.theory_canonical.specs.Contexts.{Standing, as_term, Heads, KeepsStandings}
 use Rattle.theory_canonical.specs.Canonical.{IsCanonicalMono, IsCanonical, IsCanonicalTerms, IsCanonicalFix, IsCanonicalComp, IsCanonicalTy, IsCanonicalTriple}
 use Rattle.theory_canonical.specs.Canonical.{IsCanonicalFormula, n_m_word, n_m_bool, n_m_loc, n_m_unit, n_m_pair, n_word, n_bool, n_loc, n_unit, n_pair, n_lam}
-use Rattle.theory_canonical.specs.Canonical.{n_lam_t, n_do, e_var, e_val, e_fix, n_no_terms, n_more_terms, n_param, n_body, n_ret, n_alloc, n_get, n_set}
+use Rattle.theory_canonical.specs.Canonical.{n_lam_t, n_do, e_var, e_val, e_fix, n_no_terms, n_more_terms, n_param, n_body, n_alloc, n_get, n_set}
 use Rattle.theory_canonical.specs.Canonical.{n_free, n_if, n_mono, n_fun, n_all, n_hoare, n_triple, n_tt, n_ff, n_and, n_or, n_imp, n_all_t, n_ex_t, n_all_h}
 use Rattle.theory_canonical.specs.Canonical.{n_ex_h, n_emp, n_cell, n_block, n_join, n_same, n_equal, n_rec}
 use Rattle.theory_canonical.proofs.Renamed.{keeps_suc, skeleton_stays, mono_renamed, ty_renamed, triple_renamed}
@@ -36,19 +36,19 @@ use Rattle.theory_typing_canonical.proofs.StatesKept.{start_kept, owed_kept, aft
 use Rattle.theory_typing_canonical.proofs.Entries.{put_here, none_owed, one_owed, argument_part, answer_part, under_mono, spec_part, spec_mono, left_mono_part}
 use Rattle.theory_typing_canonical.proofs.Entries.{right_mono_part, mono_part, lam_body, lam_t_body, do_comp, owes_canonical, closed_mono, heap_stands}
 use Rattle.theory_typing_canonical.proofs.Entries.{mono_canonical, op_mono_canonical, same_skeleton, entry_canonical, variable_stands, closed_ty, closed_term}
-use Rattle.theory_typing_canonical.proofs.Entries.{head_of, IsCanonicalPart, joined_canonical, owed_joined, values_inside, row_inside}
+use Rattle.theory_typing_canonical.proofs.Entries.{head_of, IsCanonicalPart, AreCanonicalParts, assembled_canonical, owed_joined, values_inside, row_inside}
 
 identity_kept : (g : List Standing) → KeepsStandings (λ n. n) g g
 identity_kept g = record { at = λ n entry d. d }
 
 -- what an end of a computation has
 pub record AtEnd (heads :
-    Heads) (g : List Standing) (end : FormulaTree) (zs : List MonoTree) (result : TermTree) (comp : CompTree) (owed : List Obligation) :
+    Heads) (g : List Standing) (end : FormulaTree) (zs : List MonoTree) (result : TermTree) (becomes : List Part) (owed : List Obligation) :
     Type 0 where
   pub state : IsCanonicalFormula heads (at_state (with_values (length zs) g)) end
   pub row : IsCanonicalRow zero g zs
   pub value : IsCanonical heads (with_values (length zs) g) result sk_o
-  pub whole : IsCanonicalComp heads g comp
+  pub parts : AreCanonicalParts heads g becomes result
   pub all : AreCanonical heads owed
 
 -- what follows a step
@@ -69,7 +69,7 @@ pub record Given (heads : Heads) (g : List Standing) (a : TyTree) (r : TermTree)
 
 module _ (env : Environment) (known : IsCanonicalEnvironment env) where
   mutual
-    unfolding skeleton with_values IsCanonicalRow
+    unfolding skeleton with_values IsCanonicalRow AreCanonicalParts
 
     pub formed_ty : {g : Context} {t r : TyTree} → IsCanonicalContext (heads_of env) g → FormsTy env g t r → IsCanonicalTy (heads_of env) (standings g) r
     formed_ty c (forms_mono m) = n_mono (mono_canonical m)
@@ -246,18 +246,19 @@ module _ (env : Environment) (known : IsCanonicalEnvironment env) where
         → IsCanonicalTriple (heads_of env) (standings g) s
         → FitsBody env g t s r o
         → IsCanonicalComp (heads_of env) (standings g) r × AreCanonical (heads_of env) o
-    body {g = g} c (n_triple p m q) (fits_body {zs = zs} {o = o} a) =
+    body {g = g} c (n_triple p m q) (fits_body {zs = zs} {o = o} a b) =
         let x = ran c m (start_kept (standings g) p) a in
-        (x.whole, owed_joined o _ x.all (one_owed _ (last_kept _ (finish_kept (standings g) zs x.state x.row m x.value) q)))
+        (assembled_canonical x.parts b, owed_joined o _ x.all (one_owed _ (last_kept _ (finish_kept (standings g) zs x.state x.row m x.value) q)))
 
-    pub ran : {g : Context} {m : MonoTree} {s x : FormulaTree} {t r : CompTree} {zs : List MonoTree} {v : TermTree} {o : List Obligation}
+    pub ran : {g : Context} {m : MonoTree} {s x : FormulaTree} {t : CompTree} {zs : List MonoTree} {v : TermTree} {r : List Part}
+        {o : List Obligation}
         → IsCanonicalContext (heads_of env) g
         → IsCanonicalMono (standings g) m
         → IsCanonicalFormula (heads_of env) (at_state (standings g)) s
         → Runs env g m s t x zs v r o
         → AtEnd (heads_of env) (standings g) x zs v r o
-    ran c m s (runs_ret a) = let x = fitted c (n_mono m) a in record { state = s; row = tt; value = x.term; whole = n_ret x.term; all = x.all }
-    ran {g = g} c m s (runs_step {o = o} {end = end} {zs = zs} {last_value = last_value} {p = p} a b j) =
+    ran c m s (runs_ret a) = let x = fitted c (n_mono m) a in record { state = s; row = tt; value = x.term; parts = x.term; all = x.all }
+    ran {g = g} c m s (runs_step {o = o} {end = end} {zs = zs} {last_value = last_value} {p = p} a b) =
         let x = moved c s a in
         let y = ran (term_entry c (n_mono x.mono)) (mono_renamed m (keeps_suc (as_term sk_o) (standings g))) x.state b in
         let e = values_inside (length zs) (standings g) in
@@ -265,7 +266,7 @@ module _ (env : Environment) (known : IsCanonicalEnvironment env) where
           state = subst (λ (h : List Standing). IsCanonicalFormula (heads_of env) (at_state h) end) e y.state;
           row = (x.mono, row_inside zero (standings g) zs y.row);
           value = subst (λ (h : List Standing). IsCanonical (heads_of env) h last_value sk_o) e y.value;
-          whole = joined_canonical x.part y.whole j;
+          parts = (x.part, y.parts);
           all = owed_joined o p x.all y.all;
         }
 
@@ -323,7 +324,7 @@ module _ (env : Environment) (known : IsCanonicalEnvironment env) where
           part = do_comp x.term;
           all = owed_joined o _ x.all (owes_canonical g _ (owed_kept (standings g) step spec s));
         }
-    moved {g = g} c s (moves_if {o = o} {zs = zs} {p = p} {ys = ys} {q = q} m a b d) =
+    moved {g = g} c s (moves_if {o = o} {zs = zs} {p = p} {ys = ys} {q = q} m a b k d l) =
         let x = fitted c (n_mono n_m_bool) a in
         let y = ran c (mono_canonical m) (branch_kept (standings g) true s x.term) b in
         let z = ran c (mono_canonical m) (branch_kept (standings g) false s x.term) d in
@@ -332,7 +333,7 @@ module _ (env : Environment) (known : IsCanonicalEnvironment env) where
           state =
               merge_kept _ (finish_kept (standings g) zs y.state y.row (mono_canonical m) y.value)
               (finish_kept (standings g) ys z.state z.row (mono_canonical m) z.value);
-          part = n_if (mono_canonical m) x.term y.whole z.whole;
+          part = n_if (mono_canonical m) x.term (assembled_canonical y.parts k) (assembled_canonical z.parts l);
           all = owed_joined (o ++ p) q (owed_joined o p x.all y.all) z.all;
         }
     moved {g = g} c s (moves_claim {claim' = claim'} a) =

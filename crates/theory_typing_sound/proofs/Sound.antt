@@ -21,9 +21,9 @@ use Rattle.theory_typing.specs.Typing.{Mode, with_heaps, owes, Part, Gives, Fits
 use Rattle.theory_typing.specs.Typing.{gives_word, gives_bool, gives_loc, gives_unit, gives_app, gives_inst, gives_ann, gives_pair, gives_fst, gives_snd}
 use Rattle.theory_typing.specs.Typing.{gives_bin, gives_not, gives_eq, gives_sel, gives_fix, gives_at, fits_lam, fits_lam_t, fits_pair, fits_do, fits_given}
 use Rattle.theory_typing.specs.Typing.{fits_at, header_param, header_body, fix_param, fix_body, fits_body, runs_ret, runs_step, moves_alloc, moves_get}
-use Rattle.theory_typing.specs.Typing.{moves_set, moves_free, moves_run, moves_if, moves_claim}
+use Rattle.theory_typing.specs.Typing.{moves_set, moves_free, moves_run, moves_if, moves_claim, Assembled, assembled_end, assembled_part}
 use Rattle.theory_typing_canonical.specs.Environments.{standings, heads_of, at_state, IsCanonicalEnvironment, IsCanonicalContext, mono_entry, term_entry}
-use Rattle.theory_typing_canonical.proofs.Entries.{mono_canonical, argument_part, answer_part, under_mono, spec_part, lam_body, lam_t_body}
+use Rattle.theory_typing_canonical.proofs.Entries.{mono_canonical, argument_part, answer_part, under_mono, spec_part, lam_body, lam_t_body, assembled_canonical}
 use Rattle.theory_typing_canonical.proofs.StatesKept.{start_kept, branch_kept}
 use Rattle.theory_typing_canonical.proofs.Typed.{formed_ty, given as canonical_given, fitted as canonical_fitted, header, ran, moved}
 use Rattle.theory_denotation.specs.Outcomes.{Outcome, Running, branch_outcome}
@@ -267,23 +267,24 @@ module _ (table : List RecTree) (env : Environment) (e : HeadEntries) (enough : 
         → ContextMeans (recs_of table) e g w
         → AllTrue table e o
         → Meets (PreAt (recs_of table) e w spec) (answer_mono w spec) (PostAt (recs_of table) e w spec) (comp_den e w r)
-    body_means {g = g} {w = w} (fits_body {mono = mono} {end = end} {zs = zs} {last_value = value} {comp' = comp'} {o = o} {post = post} a)
+    body_means {g = g} {w = w} (fits_body {mono = mono} {end = end} {zs = zs} {last_value = value} {o = o} {comp' = comp'} {post = post} a b)
         (n_triple p m q) c k t = record {
           at = λ n before frame whole cs i j words holds.
-              let b = (part_is_heap j i).0 in
+              let bh = (part_is_heap j i).0 in
               let goal = (all_right table e o _ t).0 in
               ends_mapped (mono_in w mono) (EndPost table e w end zs value) _ before frame (comp_den e w comp' n whole cs)
               (λ v own io typed ends.
               last_true (finish end zs mono value) post (with_heaps (en_term (y_mono mono) ∷ g))
-              (den_heap own ∷ den_heap before ∷ den_term sk_o v ∷ w) goal (means_heap io (means_heap b (means_term typed k)))
+              (den_heap own ∷ den_heap before ∷ den_term sk_o v ∷ w) goal (means_heap io (means_heap bh (means_term typed k)))
               (finish_holds table e end zs mono value v before own w ends))
-              (runs_means a m (start_kept (standings g) p) c k (all_left table e o _ t) n before before frame whole cs
-              (record { is_heap = i; parts = j; words = words; state = moves_sound.starting table e w _ before holds }) b);
+              (runs_means a b m (start_kept (standings g) p) c k (all_left table e o _ t) n before before frame whole cs
+              (record { is_heap = i; parts = j; words = words; state = moves_sound.starting table e w _ before holds }) bh);
         }
 
     runs_means : {g : Context} {mono : MonoTree} {state : FormulaTree} {comp : CompTree} {end : FormulaTree} {zs : List MonoTree}
-        {value : TermTree} {r : CompTree} {o : List Obligation} {w : Valuation}
-        → Runs env g mono state comp end zs value r o
+        {value : TermTree} {parts : List Part} {r : CompTree} {o : List Obligation} {w : Valuation}
+        → Runs env g mono state comp end zs value parts o
+        → Assembled parts value r
         → IsCanonicalMono (standings g) mono
         → IsCanonicalFormula (heads_of env) (at_state (standings g)) state
         → IsCanonicalContext (heads_of env) g
@@ -293,17 +294,17 @@ module _ (table : List RecTree) (env : Environment) (e : HeadEntries) (enough : 
         → InState table e w state init mem frame whole cs
         → IsHeap init
         → EndsWell (mono_in w mono) (EndPost table e w end zs value) init frame (comp_den e w r n whole cs)
-    runs_means (runs_ret a) mc sc c k t n init mem frame whole cs s i =
+    runs_means (runs_ret a) assembled_end mc sc c k t n init mem frame whole cs s i =
         (record { own = mem; parts = s.parts; is_heap = s.is_heap; typed = value_means a c k t; holds = (s.state, refl) }, s.words)
     runs_means {g = g} {w = w}
         (runs_step {step_mono = left} {next = next} {part = part} {o = o} {mono = mono} {end = end} {zs = zs} {last_value = value}
-        {others' = others'} {p = p} a b j) mc sc c k t n init mem frame whole cs s i =
+        {p = p} a b) (assembled_part {others = others'} rest j) mc sc c k t n init mem frame whole cs s i =
         let x = moved env known c sc a in
         let inner = term_entry c (n_mono x.mono) in
         let mc' = mono_canonical_renamed mc (keeps_suc (as_term sk_o) (standings g)) in
         let y = ran env known inner mc' x.state b in
         subst (λ (f : Running). EndsWell (mono_in w mono) (EndPost table e w end (left ∷ zs) value) init frame (f n whole cs))
-        (sym (joined_den j (heads_valued valued) (context_valued table e k) x.part y.whole))
+        (sym (joined_den j (heads_valued valued) (context_valued table e k) x.part (assembled_canonical y.parts rest)))
         (ends_then (mono_in w left) (mono_in w mono) (NextState table e w next) (EndPost table e w end (left ∷ zs) value) init frame
         (part_den e w part n whole cs) (λ v h ds. comp_den e (den_term sk_o v ∷ w) others' n h ds)
         (λ v own h ds ih jh words typed holds.
@@ -312,7 +313,7 @@ module _ (table : List RecTree) (env : Environment) (e : HeadEntries) (enough : 
         (subst
         (λ u. EndsWell u (EndPost table e (den_term sk_o v ∷ w) end zs value) init frame (comp_den e (den_term sk_o v ∷ w) others' n h ds))
         (mono_renamed (agree_suc (den_term sk_o v) w) mono)
-        (runs_means b mc' x.state inner (means_term typed k) (all_right table e o p t) n init own frame h ds
+        (runs_means b rest mc' x.state inner (means_term typed k) (all_right table e o p t) n init own frame h ds
         (record { is_heap = ih; parts = jh; words = words; state = holds }) i)))
         (moves_mean a sc c k (all_left table e o p t) n init mem frame whole cs s i))
 
@@ -352,36 +353,36 @@ module _ (table : List RecTree) (env : Environment) (e : HeadEntries) (enough : 
         (part_is_heap s.parts s.is_heap).0)
     moves_mean {g = g} {w = w}
         (moves_if {mono = mono} {test' = test'} {o = o} {state = state} {yes_end = yes_end} {zs = zs} {yes_value = yes_value}
-        {on_true' = on_true'} {p = p} {no_end = no_end} {ys = ys} {no_value = no_value} {on_false' = on_false'} {q = q} m a b d) sc c k t n
+        {p = p} {on_true' = on_true'} {no_end = no_end} {ys = ys} {no_value = no_value} {q = q} {on_false' = on_false'} m a b l d r) sc c k t n
         init mem frame whole cs s i =
         let first = all_left table e (o ++ p) q t in
         let test = value_means a c k (all_left table e o p first) in
         let x = canonical_fitted env known c (n_mono n_m_bool) a in
-        let yes = λ (r : term_den e w test' sk_o ≡ v_bool true). ends_mapped (mono_in w mono) (EndPost table e w yes_end zs yes_value)
+        let yes = λ (is : term_den e w test' sk_o ≡ v_bool true). ends_mapped (mono_in w mono) (EndPost table e w yes_end zs yes_value)
         (NextState table e w (merge (finish yes_end zs mono yes_value) (finish no_end ys mono no_value))) init frame
         (comp_den e w on_true' n whole cs)
         (λ v own io typed ends.
         merged_left (finish yes_end zs mono yes_value) (finish no_end ys mono no_value) (den_heap own ∷ den_heap init ∷ den_term sk_o v ∷ w)
         (finish_holds table e yes_end zs mono yes_value v init own w ends))
-        (runs_means b (mono_canonical m) (branch_kept (standings g) true sc x.term) c k (all_right table e o p first) n init mem frame whole
+        (runs_means b l (mono_canonical m) (branch_kept (standings g) true sc x.term) c k (all_right table e o p first) n init mem frame whole
         cs (record {
           is_heap = s.is_heap;
           parts = s.parts;
           words = s.words;
-          state = moves_sound.branching table e w test' state true init mem s.state r;
+          state = moves_sound.branching table e w test' state true init mem s.state is;
         }) i) in
-        let no = λ (r : term_den e w test' sk_o ≡ v_bool false). ends_mapped (mono_in w mono) (EndPost table e w no_end ys no_value)
+        let no = λ (is : term_den e w test' sk_o ≡ v_bool false). ends_mapped (mono_in w mono) (EndPost table e w no_end ys no_value)
         (NextState table e w (merge (finish yes_end zs mono yes_value) (finish no_end ys mono no_value))) init frame
         (comp_den e w on_false' n whole cs)
         (λ v own io typed ends.
         merged_right (finish yes_end zs mono yes_value) (finish no_end ys mono no_value)
         (den_heap own ∷ den_heap init ∷ den_term sk_o v ∷ w) (finish_holds table e no_end ys mono no_value v init own w ends))
-        (runs_means d (mono_canonical m) (branch_kept (standings g) false sc x.term) c k (all_right table e (o ++ p) q t) n init mem frame
+        (runs_means d r (mono_canonical m) (branch_kept (standings g) false sc x.term) c k (all_right table e (o ++ p) q t) n init mem frame
         whole cs (record {
           is_heap = s.is_heap;
           parts = s.parts;
           words = s.words;
-          state = moves_sound.branching table e w test' state false init mem s.state r;
+          state = moves_sound.branching table e w test' state false init mem s.state is;
         }) i) in
         branches_mean (mono_in w mono) (NextState table e w (merge (finish yes_end zs mono yes_value) (finish no_end ys mono no_value)))
         init frame (comp_den e w on_true' n whole cs) (comp_den e w on_false' n whole cs) test yes no

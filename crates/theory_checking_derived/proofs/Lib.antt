@@ -1,0 +1,4 @@
+pub mod Pieces
+pub mod Derived
+pub mod Passing
+pub mod Passed
