@@ -1,11 +1,11 @@
 -- Where monotypes are put for variables, a canonical formula says what it did.
-use Rattle.std.proofs.Common.{◌≡◌, ◌≢◌, ℕ, List, length, true, false, nat_eq, refl, sym, ap, ◌∙◌, ◌⊎◌, inl, inr, arith}
+use Rattle.std.proofs.Common.{◌≡◌, ◌≢◌, ℕ, List, true, false, nat_eq, refl, sym, ap, ◌∙◌, ◌⊎◌, inl, inr, arith}
 use Rattle.htt_syntax.specs.Trees.{MonoTree, TripleTree, FormulaTree}
 use Rattle.theory_renaming.specs.Renaming.{Map}
 use Rattle.theory_values.specs.Values.{Value, HasType, encoding, width}
-use Rattle.theory_values.specs.Heaps.{Block, Heap, IsHeap, IsEmpty, IsOnly, IsJoin, IsSame}
+use Rattle.theory_values.specs.Heaps.{Heap, IsHeap, IsEmpty, IsOnly, IsJoin, IsSame}
 use Rattle.theory_truth.specs.TermValue.{word_of, loc_of}
-use Rattle.theory_truth.specs.Truth.{NotNot, Recs}
+use Rattle.theory_truth.specs.Truth.{NotNot, IsBlock, Recs}
 use Rattle.theory_truth.specs.Predicates.{recs_of}
 use Rattle.theory_truth.proofs.Renamed.{both_ways}
 use Rattle.theory_canonical.specs.Skeletons.{sk_o}
@@ -48,9 +48,8 @@ truth_filled R h (n_ex_h a) k z = λ j. NotNot ((l : Heap) × IsHeap l × truth_
 truth_filled R h (n_emp {heap = heap} d) k z = λ j. IsEmpty (heap_of_entry (k.heaps heap d j))
 truth_filled R h (n_cell {heap = heap} t d a b) k z =
     λ j. IsOnly (heap_of_entry (k.heaps heap d j)) (loc_of (term_filled h a k z j)) (encoding (term_filled h b k z j))
-truth_filled R h (n_block {heap = heap} t d a) k z = λ j.
-    NotNot
-    ((b : Block) × (length b ≡ width (mono_filled t k j)) × IsOnly (heap_of_entry (k.heaps heap d j)) (loc_of (term_filled h a k z j)) b)
+truth_filled R h (n_block {heap = heap} t d a) k z =
+    λ j. IsBlock (heap_of_entry (k.heaps heap d j)) (loc_of (term_filled h a k z j)) (width (mono_filled t k j))
 truth_filled R h (n_join {whole = whole} {left = left} {right = right} a b c) k z =
     λ j. IsJoin (heap_of_entry (k.heaps whole a j)) (heap_of_entry (k.heaps left b j)) (heap_of_entry (k.heaps right c j))
 truth_filled R h (n_same {left = left} {right = right} a b) k z = λ j. IsSame (heap_of_entry (k.heaps left a j)) (heap_of_entry (k.heaps right b j))
