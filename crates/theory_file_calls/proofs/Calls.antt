@@ -74,10 +74,22 @@ counts = u_f_eq (u_kept (k_var (λ q. no_zero (sym q)))) (u_bin (u_reduced (r_va
 counted_derived : IsDerived counted counted_proofs counted_env
 unfolding given_for contractum
 counted_derived =
-    derived_by counted_rows counted_owes
-    ((record { proof = second_part; only = refl; proves = returns_proved }, tt), ((record { proof = whole_heap; only = refl; proves = has_whole_heap },
-    (record { proof = one_more_known; only = refl; proves = one_more_proved counts }, tt)), ((record { proof = whole_heap; only = refl; proves = has_whole_heap },
-    (record { proof = one_more_known; only = refl; proves = one_more_proved counts }, tt)), tt)))
+    derived_by counted_rows counted_owes (
+      (record { proof = second_part; only = refl; proves = returns_proved }, tt),
+      (
+        (
+          record { proof = whole_heap; only = refl; proves = has_whole_heap },
+          (record { proof = one_more_known; only = refl; proves = one_more_proved counts }, tt),
+        ),
+        (
+          (
+            record { proof = whole_heap; only = refl; proves = has_whole_heap },
+            (record { proof = one_more_known; only = refl; proves = one_more_proved counts }, tt),
+          ),
+          tt,
+        ),
+      ),
+    )
     ((_, refl), ((_, refl), ((_, refl), ((_, refl), ((_, refl), tt)))))
 
 pub calls : ValuesThatCall

@@ -1,7 +1,8 @@
 -- A value that never ends, of which the proof of an earlier value speaks.
 use Rattle.std.proofs.Common.{ℕ, zero, suc, [], ◌∷◌, Some, refl, sym, arith}
 use Rattle.htt_syntax.specs.Trees.{m_word, y_mono, t_var, t_val, t_app, t_do, c_ret, c_step, s_run}
-use Rattle.theory_renaming.specs.Renaming.{lift, lifts, rename_mono, rename_ty, rename_triple, rename_term, rename_fix, rename_formula, rename_comp, rename_step}
+use Rattle.theory_renaming.specs.Renaming.{lift, lifts, rename_mono, rename_ty, rename_triple, rename_term, rename_fix, rename_formula, rename_comp}
+use Rattle.theory_renaming.specs.Renaming.{rename_step}
 use Rattle.theory_states.specs.States.{past, at_heaps, at_heap, at_result, start, owed, after, some_values, within, ending, finish, last}
 use Rattle.theory_canonical.specs.Skeletons.{sk_c, skeleton}
 use Rattle.theory_canonical.specs.Eta.{expansion}
@@ -79,7 +80,9 @@ k_of_g : Gives endless_env in_formula k_context (t_app (t_var 3) (t_val 1)) (y_m
 unfolding k_context rename_ty rename_triple rename_mono rename_term rename_formula lift expansion plain_ty plain_triple plain_formula skeleton closing
 k_of_g = gives_app (gives_var (type_there (type_there (type_there type_here)))) (fits_given tt (gives_val refl) refl) u_y_mono (k_of_g_put 3)
 
-k_of_g_raised : Gives endless_env in_formula (en_term (y_mono m_word) ∷ k_context) (t_app (t_var 4) (t_val 1)) (y_mono m_word) (t_app (t_var 4) (t_do (run_of 1))) []
+k_of_g_raised :
+    Gives endless_env in_formula (en_term (y_mono m_word) ∷ k_context) (t_app (t_var 4) (t_val 1)) (y_mono m_word)
+    (t_app (t_var 4) (t_do (run_of 1))) []
 unfolding k_context rename_ty rename_triple rename_mono rename_term rename_formula lift expansion plain_ty plain_triple plain_formula skeleton closing
 k_of_g_raised =
     gives_app (gives_var (type_there (type_there (type_there (type_there type_here))))) (fits_given tt (gives_val refl) refl) u_y_mono
@@ -113,12 +116,25 @@ outer_end_proved =
 endless_derived : IsDerived endless endless_proofs endless_env
 unfolding given_for
 endless_derived =
-    derived_by endless_rows endless_owes
-    ((record { proof = speaks_of_later; only = refl; proves = later_spoken_of }, tt), ((record { proof = whole_heap; only = refl; proves = has_whole_heap },
-    (record { proof = whole_heap; only = refl; proves = has_whole_heap },
-    (record { proof = never_back; only = refl; proves = inner_end_proved },
-    (record { proof = whole_heap; only = refl; proves = has_whole_heap },
-    (record { proof = never_back_behind; only = refl; proves = outer_end_proved }, tt))))), tt))
+    derived_by endless_rows endless_owes (
+      (record { proof = speaks_of_later; only = refl; proves = later_spoken_of }, tt),
+      (
+        (
+          record { proof = whole_heap; only = refl; proves = has_whole_heap },
+          (
+            record { proof = whole_heap; only = refl; proves = has_whole_heap },
+            (
+              record { proof = never_back; only = refl; proves = inner_end_proved },
+              (
+                record { proof = whole_heap; only = refl; proves = has_whole_heap },
+                (record { proof = never_back_behind; only = refl; proves = outer_end_proved }, tt),
+              ),
+            ),
+          ),
+        ),
+        tt,
+      ),
+    )
     ((_, refl), ((_, refl), ((_, refl), ((_, refl), ((_, refl), ((_, refl), tt))))))
 
 pub without_harm : EndlessValue

@@ -1,6 +1,7 @@
 -- What a run owes whose precondition is tt, and what is known behind it.
 use Rattle.std.proofs.Common.{◌≡◌, ℕ, zero, suc, List, [], ◌∷◌, Some, codes, refl, arith}
-use Rattle.htt_syntax.specs.Trees.{FormulaTree, ProofTree, p_axiom, m_word, t_var, t_do, c_ret, c_step, s_run, f_tt, f_and, f_imp, f_all_h, f_ex_h, f_emp, f_join, f_same}
+use Rattle.htt_syntax.specs.Trees.{FormulaTree, ProofTree, p_axiom, m_word, t_var, t_do, c_ret, c_step, s_run, f_tt, f_and, f_imp, f_all_h, f_ex_h, f_emp}
+use Rattle.htt_syntax.specs.Trees.{f_join, f_same}
 use Rattle.theory_renaming.specs.Renaming.{lift, rename_mono, rename_formula, rename_comp}
 use Rattle.theory_canonical.specs.Skeletons.{sk_c}
 use Rattle.theory_substitution.specs.Closing.{closing}

@@ -86,11 +86,25 @@ same_proved =
 takers_derived : IsDerived takers taker_proofs taker_env
 unfolding given_for
 takers_derived =
-    derived_by taker_rows takers_owe
-    ((record { proof = second_part; only = refl; proves = returns_proved }, tt), ((record { proof = whole_heap; only = refl; proves = has_whole_heap },
-    (record { proof = whole_heap; only = refl; proves = has_whole_heap },
-    (record { proof = both_known; only = refl; proves = both_proved }, tt))), ((record { proof = whole_heap; only = refl; proves = has_whole_heap },
-    (record { proof = same_known; only = refl; proves = same_proved }, tt)), tt)))
+    derived_by taker_rows takers_owe (
+      (record { proof = second_part; only = refl; proves = returns_proved }, tt),
+      (
+        (
+          record { proof = whole_heap; only = refl; proves = has_whole_heap },
+          (
+            record { proof = whole_heap; only = refl; proves = has_whole_heap },
+            (record { proof = both_known; only = refl; proves = both_proved }, tt),
+          ),
+        ),
+        (
+          (
+            record { proof = whole_heap; only = refl; proves = has_whole_heap },
+            (record { proof = same_known; only = refl; proves = same_proved }, tt),
+          ),
+          tt,
+        ),
+      ),
+    )
     ((_, refl), ((_, refl), ((_, refl), ((_, refl), ((_, refl), ((_, refl), tt))))))
 
 pub taken : ComputationTaken

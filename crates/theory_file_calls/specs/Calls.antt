@@ -1,8 +1,10 @@
 -- Values that run the one before them.
 use Rattle.std.specs.Prelude.{ℕ, List, [], ◌∷◌, None, codes}
 use Rattle.htt_syntax.specs.declared.mono.Op.TheVariants.{Add}
-use Rattle.htt_syntax.specs.Trees.{CompTree, ProofTree, m_word, y_mono, t_var, t_val, t_do, t_word, t_bin, c_ret, c_step, s_run}
-use Rattle.htt_syntax.specs.Trees.{f_and, f_imp, f_ex_t, f_eq, p_hyp, p_first, p_second, p_rewrite, p_axiom, p_block, d_intro, d_open, b_then}
+use Rattle.htt_syntax.specs.Trees.{CompTree, ProofTree, m_word, y_mono, t_var, t_val, t_do, t_word, t_bin, c_ret}
+use Rattle.htt_syntax.specs.Trees.{c_step, s_run}
+use Rattle.htt_syntax.specs.Trees.{f_and, f_imp, f_ex_t, f_eq, p_hyp, p_first, p_second, p_rewrite, p_axiom, p_block}
+use Rattle.htt_syntax.specs.Trees.{d_intro, d_open, b_then}
 use Rattle.htt_syntax.specs.Trees.{b_end}
 use Rattle.theory_typing.specs.Contexts.{en_term, Environment, Obligation}
 use Rattle.theory_typing.specs.Laws.{none}

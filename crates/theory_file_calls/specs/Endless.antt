@@ -2,7 +2,8 @@
 use Rattle.std.specs.Prelude.{List, [], ◌∷◌, None, codes}
 use Rattle.htt_syntax.specs.Trees.{TyTree, TermTree, FixTree, ProofTree, m_word, y_mono, y_fun, y_hoare, triple, t_var}
 use Rattle.htt_syntax.specs.Trees.{t_val, t_app, t_lam, t_do, t_fix, t_word, x_param, x_body, c_ret, c_step, s_run}
-use Rattle.htt_syntax.specs.Trees.{f_tt, f_ff, f_and, f_imp, f_ex_t, f_eq, a_term, p_hyp, p_trivial, p_refl, p_first, p_second}
+use Rattle.htt_syntax.specs.Trees.{f_tt, f_ff, f_and, f_imp, f_ex_t, f_eq, a_term, p_hyp, p_trivial, p_refl, p_first}
+use Rattle.htt_syntax.specs.Trees.{p_second}
 use Rattle.htt_syntax.specs.Trees.{p_give, p_axiom, p_block, d_intro, d_have, d_open, b_then, b_end}
 use Rattle.theory_typing.specs.Contexts.{en_term, Context, Environment, Obligation}
 use Rattle.theory_typing.specs.Laws.{none}
@@ -10,7 +11,8 @@ use Rattle.theory_typing.specs.Typing.{with_heaps}
 use Rattle.theory_items.specs.Items.{ItemTree, i_val}
 use Rattle.theory_file_derived.specs.Derived.{ProofItem, DerivesAll, IsDerived}
 use Rattle.theory_file_variants.specs.Variants.{impossible}
-use Rattle.theory_file_calls.specs.Parts.{proof_for, nothing_yet, some_part, after_one, after_more, whole_heap, used_run}
+use Rattle.theory_file_calls.specs.Parts.{proof_for, nothing_yet, some_part, after_one, after_more, whole_heap}
+use Rattle.theory_file_calls.specs.Parts.{used_run}
 use Rattle.theory_file_calls.specs.Calls.{run_goal}
 
 -- {tt} x : word {ff}, and (k : (c : {tt} x : word {ff}) -> word) -> {tt} z : word {tt}

@@ -1,8 +1,10 @@
 -- A value that takes a computation as its argument and runs it twice.
 use Rattle.std.specs.Prelude.{List, [], ◌∷◌, None, codes}
 use Rattle.htt_syntax.specs.declared.mono.Op.TheVariants.{Add}
-use Rattle.htt_syntax.specs.Trees.{TyTree, TermTree, ProofTree, m_word, y_mono, y_fun, t_var, t_val, t_app, t_lam, t_do, t_word}
-use Rattle.htt_syntax.specs.Trees.{t_bin, c_ret, c_step, s_run, f_and, f_imp, f_ex_t, f_eq, p_hyp, p_first, p_second, p_rewrite, p_axiom}
+use Rattle.htt_syntax.specs.Trees.{TyTree, TermTree, ProofTree, m_word, y_mono, y_fun, t_var, t_val, t_app, t_lam, t_do}
+use Rattle.htt_syntax.specs.Trees.{t_word}
+use Rattle.htt_syntax.specs.Trees.{t_bin, c_ret, c_step, s_run, f_and, f_imp, f_ex_t, f_eq, p_hyp, p_first, p_second}
+use Rattle.htt_syntax.specs.Trees.{p_rewrite, p_axiom}
 use Rattle.htt_syntax.specs.Trees.{p_block, d_intro, d_open, b_then, b_end}
 use Rattle.theory_typing.specs.Contexts.{en_term, Context, Environment, Obligation}
 use Rattle.theory_typing.specs.Laws.{none}
@@ -10,7 +12,8 @@ use Rattle.theory_typing.specs.Typing.{with_heaps}
 use Rattle.theory_items.specs.Items.{ItemTree, i_val}
 use Rattle.theory_file_derived.specs.Derived.{ProofItem, DerivesAll, IsDerived}
 use Rattle.theory_file_derived.specs.Examples.{second_part}
-use Rattle.theory_file_calls.specs.Parts.{gives, proof_for, nothing_yet, some_part, after_one, after_more, whole_heap, used_run}
+use Rattle.theory_file_calls.specs.Parts.{gives, proof_for, nothing_yet, some_part, after_one, after_more, whole_heap}
+use Rattle.theory_file_calls.specs.Parts.{used_run}
 use Rattle.theory_file_calls.specs.Calls.{returns_goal, run_goal}
 
 -- (c : {tt} x : word {x =[word] 1}) -> {tt} x : word {x =[word] 2}

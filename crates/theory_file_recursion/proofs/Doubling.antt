@@ -12,10 +12,22 @@ use Rattle.theory_file_recursion.proofs.Ends.{is_twice_proved, twice_two_proved}
 doubling_derived : IsDerived doubling_file doubling_proofs doubling_env
 unfolding given_for
 doubling_derived =
-    derived_by doubling_rows doubling_owes
-    (tt, ((record { proof = whole_heap; only = refl; proves = has_whole_heap },
-    (record { proof = is_twice; only = refl; proves = is_twice_proved }, tt)), ((record { proof = whole_heap; only = refl; proves = has_whole_heap },
-    (record { proof = twice_two; only = refl; proves = twice_two_proved }, tt)), tt)))
+    derived_by doubling_rows doubling_owes (
+      tt,
+      (
+        (
+          record { proof = whole_heap; only = refl; proves = has_whole_heap },
+          (record { proof = is_twice; only = refl; proves = is_twice_proved }, tt),
+        ),
+        (
+          (
+            record { proof = whole_heap; only = refl; proves = has_whole_heap },
+            (record { proof = twice_two; only = refl; proves = twice_two_proved }, tt),
+          ),
+          tt,
+        ),
+      ),
+    )
     ((_, refl), ((_, refl), ((_, refl), ((_, refl), tt))))
 
 pub recursion : RecursiveFile

@@ -14,9 +14,11 @@ use Rattle.theory_typing.specs.Contexts.{Context, IsHeapEntry, en_heap, en_term,
 use Rattle.theory_typing.specs.Typing.{FormsFormula, Fits, in_formula, forms_eq, forms_rec, fits_none, fits_more, gives_bin, fits_given}
 use Rattle.theory_logic_axioms.specs.Names.{sub_add, add_sub, eq_yes}
 use Rattle.theory_logic_axioms.specs.Table.{argument_sorts, SideCondition, formula_of}
-use Rattle.theory_logic_rules.specs.Sequents.{below_greatest, putting, raised_term, terms_of, put_none, put_term_first, put_heap_first, forms_no_monos, forms_more_monos}
+use Rattle.theory_logic_rules.specs.Sequents.{below_greatest, putting, raised_term, terms_of, put_none, put_term_first, put_heap_first, forms_no_monos}
+use Rattle.theory_logic_rules.specs.Sequents.{forms_more_monos}
 use Rattle.theory_logic_rules.specs.Sequents.{fits_no_args, fits_heap_arg, fits_term_arg}
-use Rattle.theory_logic_rules.specs.Rules.{Infers, Proves, infers_hyp, infers_first, infers_second, infers_app, infers_axiom, infers_the, infers_at_zero, infers_at_next}
+use Rattle.theory_logic_rules.specs.Rules.{Infers, Proves, infers_hyp, infers_first, infers_second, infers_app, infers_axiom, infers_the, infers_at_zero}
+use Rattle.theory_logic_rules.specs.Rules.{infers_at_next}
 use Rattle.theory_logic_rules.specs.Rules.{proves_case, proves_refl_term, proves_rewrite_term, proves_rewrite_heap, proves_inferred, proves_block, block_end}
 use Rattle.theory_logic_rules.specs.Rules.{block_intro, block_open_term, block_open_heap}
 use Rattle.theory_logic_rules.proofs.Examples.{put, kept}
@@ -34,7 +36,6 @@ atom_formed : {g : Context} {h : ℕ} {index index' word word' : TermTree}
     → FormsFormula doubling_env g (twice h index word) (twice h index' word')
 unfolding count_of
 atom_formed h index word = forms_rec refl h index refl (fits_more word fits_none)
-
 
 -- a word less a literal
 less_fits : {g : Context} {literal : ℕ} (index : ℕ)

@@ -1,6 +1,7 @@
 -- The predicate, the recursive function and main derive.
-use Rattle.std.proofs.Common.{[], ◌∷◌, refl, sym, arith}
-use Rattle.htt_syntax.specs.Trees.{m_word, y_mono, t_fix}
+use Rattle.std.proofs.Common.{Some, [], ◌∷◌, refl, sym, arith}
+use Rattle.htt_syntax.specs.declared.mono.Op.TheVariants.{Add}
+use Rattle.htt_syntax.specs.Trees.{FixTree, m_word, y_mono, t_var, t_app, t_fix, t_word, t_bin, t_eq, x_param, x_body, c_ret, c_step, s_run, s_if}
 use Rattle.theory_renaming.specs.Renaming.{lift, lifts, rename_mono, rename_ty, rename_triple, rename_term, rename_terms, rename_formula, rename_comp}
 use Rattle.theory_renaming.specs.Renaming.{rename_step}
 use Rattle.theory_states.specs.States.{past, at_heaps, at_heap, at_result, start, owed, after, branch, some_values, within, ending, finish, merge, last}
@@ -22,6 +23,7 @@ use Rattle.theory_items.proofs.Worked as items
 use Rattle.theory_file_derived.specs.Derived.{DerivesAll, derives_none, derives_more}
 use Rattle.theory_file_calls.proofs.Runs.{no_zero}
 use Rattle.theory_file_calls.proofs.Entries.{word_fits, literal_fits}
+use Rattle.theory_file_recursion.specs.Proofs.{one_less}
 use Rattle.theory_file_recursion.specs.Doubling.{gives_twice, doubles_word, doubling, doubling_file, doubling_env, doubling_rows, again_goal}
 use Rattle.theory_file_recursion.specs.Doubling.{is_twice_goal}
 
@@ -34,7 +36,15 @@ unfolding count_of
 twice_formed =
     forms_triple forms_tt forms_word (forms_rec refl heap_here (word_fits 3 refl) refl (fits_more (word_fits 2 refl) fits_none))
 
-function_given : Gives with_doubles in_program [] (t_fix 0 doubling) doubles_word (eta (t_fix 0 doubling) doubles_word) (again_goal ∷ is_twice_goal ∷ [])
+-- the function in canonical form: its run holds its monotype
+abbrev long_doubling : FixTree
+long_doubling =
+    x_param (y_mono m_word) (x_body gives_twice (c_step
+    (s_if m_word (t_eq m_word (t_word 0) (t_var 1)) (c_ret (t_word 0))
+    (c_step (s_run (t_app (t_var 0) (one_less (t_var 1))) (Some m_word)) (c_ret (t_bin Add (t_var 0) (t_word 2)))))
+    (c_ret (t_var 0))))
+
+function_given : Gives with_doubles in_program [] (t_fix 0 doubling) doubles_word (eta (t_fix 0 long_doubling) doubles_word) (again_goal ∷ is_twice_goal ∷ [])
 unfolding lift lifts rename_mono rename_ty rename_triple rename_term rename_terms rename_formula rename_comp rename_step past at_heaps at_heap
     at_result start owed after branch some_values within ending finish merge last skeleton contractum expansion closing plain_ty
 function_given =

@@ -18,11 +18,13 @@ use Rattle.theory_file_calls.proofs.Runs.{no_zero}
 use Rattle.theory_file_calls.proofs.Entries.{word_fits, literal_fits}
 use Rattle.theory_file_recursion.specs.Proofs.{one_less, has_next}
 
-module _ {env : Environment} {g : Context} {n count : ℕ} {z : ProofTree} {hs : List FormulaTree} where
-  less : slice_get g n ≡ Some (en_term (y_mono m_word)) → Fits env in_formula g (one_less (t_var n)) (y_mono m_word) (one_less (t_var n)) []
-  unfolding contractum
-  less entry = fits_given tt (gives_bin (word_fits n entry) (literal_fits (omega arith))) refl
+less : {env : Environment} {g : Context} {n : ℕ}
+    → slice_get g n ≡ Some (en_term (y_mono m_word))
+    → Fits env in_formula g (one_less (t_var n)) (y_mono m_word) (one_less (t_var n)) []
+unfolding contractum
+less {n = n} entry = fits_given tt (gives_bin (word_fits n entry) (literal_fits (omega arith))) refl
 
+module _ {env : Environment} {g : Context} {n count : ℕ} {z : ProofTree} {hs : List FormulaTree} where
   pub next_is_had : slice_get g n ≡ Some (en_term (y_mono m_word))
       → ((A : FormulaTree) → slice_get (hs ++ A ∷ []) count ≡ Some A)
       → ((A B : FormulaTree) → slice_get ((hs ++ A ∷ []) ++ B ∷ []) (suc count) ≡ Some B)

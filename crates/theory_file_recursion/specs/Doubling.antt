@@ -2,7 +2,8 @@
 use Rattle.std.specs.Prelude.{List, [], ◌∷◌, None, true, false}
 use Rattle.htt_syntax.specs.declared.mono.Op.TheVariants.{Add}
 use Rattle.htt_syntax.specs.Trees.{TyTree, TripleTree, FixTree, CompTree, FormulaTree, m_word, m_bool, y_mono}
-use Rattle.htt_syntax.specs.Trees.{y_fun, y_hoare, triple, t_var, t_val, t_app, t_do, t_fix, t_word, t_bool, t_bin, t_eq}
+use Rattle.htt_syntax.specs.Trees.{y_fun, y_hoare, triple, t_var, t_val, t_app, t_do, t_fix, t_word, t_bool, t_bin}
+use Rattle.htt_syntax.specs.Trees.{t_eq}
 use Rattle.htt_syntax.specs.Trees.{x_param, x_body, c_ret, c_step, s_run, s_if, f_tt, f_and, f_or, f_imp, f_ex_t}
 use Rattle.htt_syntax.specs.Trees.{f_same, f_eq}
 use Rattle.theory_typing.specs.Contexts.{en_term, Context, Environment, Obligation}
