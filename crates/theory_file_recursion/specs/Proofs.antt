@@ -19,8 +19,8 @@ one_less m = t_bin Sub m (t_word 1)
 -- case(axiom lt_total(n - 1, 18446744073709551615), a . a, c . case(c,
 --   d . absurd(app(axiom bool_ne(), rewrite(app(axiom eq_no[word](0, n), rewrite(d, t . [t + 1 =[word] n],
 --     axiom sub_add(n, 1))), t . [t =[bool] false], z))),
--- d . absurd(app(axiom bool_ne(), rewrite(app(axiom lt_step(18446744073709551615, n - 1), d), t . [t =[bool] false],
--- refl)))))
+--   d . absurd(app(axiom bool_ne(), rewrite(app(axiom lt_step(18446744073709551615, n - 1), d),
+--     t . [t =[bool] false], refl)))))
 -- with n as a variable, under t the next one, and the number of hypotheses before
 abbrev pub has_next : ℕ → ℕ → ProofTree → ProofTree
 has_next n count z =
