@@ -31,13 +31,14 @@ never_ends : (fuel : ℕ) (cs : List ℕ)
     → (v : RunValue) (left : Heap) (rest : List ℕ)
     → run_of_val (texts_of endless) 1 fuel cs h ≢ done v left rest
 unfolding Holds
-never_ends fuel cs words h heap v left rest q =
-    ((endless_is_met fuel cs words h empty_heap).ends_so h heap (join_commutes (join_of_empty h)) tt v left rest q).post
+never_ends fuel cs words h heap v left rest = λ q.
+    let m = endless_is_met fuel cs words h empty_heap in
+    let a = m.ends_so h heap (join_commutes (join_of_empty h)) tt v left rest q in
+    a.post
 
 never_faults : (fuel : ℕ) (cs : List ℕ) → All IsWord cs → (h : Heap) → IsHeap h → run_of_val (texts_of endless) 1 fuel cs h ≢ fault
 unfolding Holds
-never_faults fuel cs words h heap =
-    (endless_is_met fuel cs words h empty_heap).no_fault h heap (join_commutes (join_of_empty h)) tt
+never_faults fuel cs words h heap = let m = endless_is_met fuel cs words h empty_heap in m.no_fault h heap (join_commutes (join_of_empty h)) tt
 
 pub worked : WorkedRuns
 worked = record {
