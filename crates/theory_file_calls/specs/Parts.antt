@@ -30,17 +30,19 @@ nothing_yet = f_and f_tt (f_same 0 1)
 abbrev pub some_part : FormulaTree → FormulaTree
 some_part state = f_imp state (f_ex_h (f_ex_h (f_and (f_join 2 1 0) f_tt)))
 
+-- ex b : heap . [tt /\ Same(b, init)] /\ [all g : heap . all k : heap . [Join(b, g, k) /\ tt]
+--   => ex n : heap . Join(mem, n, k) /\ Q], with init and mem as variables under b and under n
+abbrev pub after_one : ℕ → ℕ → FormulaTree → FormulaTree
+after_one init mem post =
+    f_ex_h (f_and (f_and f_tt (f_same 0 init))
+    (f_all_h (f_all_h (f_imp (f_and (f_join 2 1 0) f_tt) (f_ex_h (f_and (f_join mem 0 1) post))))))
+
 -- ex h : heap . R /\ [all g : heap . all k : heap . [Join(h, g, k) /\ tt]
 --   => ex n : heap . Join(mem, n, k) /\ Q], with mem as a variable under n
 abbrev pub after_more : FormulaTree → ℕ → FormulaTree → FormulaTree
 after_more state mem post =
     f_ex_h (f_and state
     (f_all_h (f_all_h (f_imp (f_and (f_join 2 1 0) f_tt) (f_ex_h (f_and (f_join mem 0 1) post))))))
-
--- ex b : heap . [tt /\ Same(b, init)] /\ [all g : heap . all k : heap . [Join(b, g, k) /\ tt]
---   => ex n : heap . Join(mem, n, k) /\ Q], with init and mem as variables under b and under n
-abbrev pub after_one : ℕ → ℕ → FormulaTree → FormulaTree
-after_one init mem post = after_more (f_and f_tt (f_same 0 init)) mem post
 
 -- app(axiom join_emp(@h, @e), z)
 abbrev pub joins_empty : ℕ → ℕ → ProofTree → ProofTree
