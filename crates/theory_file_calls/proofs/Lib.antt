@@ -1,0 +1,6 @@
+pub mod Entries
+pub mod Rows
+pub mod Runs
+pub mod Calls
+pub mod Takers
+pub mod Endless

@@ -1,0 +1,4 @@
+pub mod Typed
+pub mod Words
+pub mod Ends
+pub mod Doubling
