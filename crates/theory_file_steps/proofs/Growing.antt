@@ -1,6 +1,5 @@
 -- A value or definition that is typed where the declarations before it hold, holds too.
-use Rattle.std.proofs.Common.{◌≡◌, ℕ, zero, suc, List, [], ◌∷◌, ◌++◌, length, Some, slice_get, refl, sym, ap, subst, ◌⊎◌, inl, inr}
-use Rattle.std.proofs.lemmas.Option.{same_Some}
+use Rattle.std.proofs.Common.{◌≡◌, ℕ, List, [], ◌∷◌, ◌++◌, length, Some, slice_get, sym, subst, ◌⊎◌, inl, inr}
 use Rattle.htt_syntax.specs.Trees.{TyTree, TermTree, y_fun, y_all, y_hoare, y_mono, y_at}
 use Rattle.theory_truth.specs.Predicates.{RecTree, recs_of}
 use Rattle.theory_meaning.specs.Closures.{nothing, Items}
@@ -11,6 +10,7 @@ use Rattle.theory_typing.specs.Typing.{in_program, FormsTy, Fits}
 use Rattle.theory_typing_canonical.specs.Environments.{heads_of, no_entry}
 use Rattle.theory_typing_canonical.proofs.Entries.{head_of}
 use Rattle.theory_typing_canonical.proofs.Typed.{formed_ty}
+use Rattle.theory_items.proofs.Lists.{appended}
 use Rattle.theory_items.specs.Items.{i_def, i_val, i_rec, Added, adds_def, adds_val, with_def, with_val, with_added, Derives, derives_def, derives_val, derives_rec}
 use Rattle.theory_items_sound.proofs.Kept.{items_keep_sound}
 use Rattle.theory_denotation.specs.Valuations.{den_term, HeadEntries}
@@ -25,13 +25,6 @@ use Rattle.theory_meaning_simulation.proofs.Valued.{entered_so}
 use Rattle.theory_meaning_simulation.proofs.Denoted.{fit_do}
 use Rattle.theory_file_steps.specs.Laws.{FileHolds, FilesAreSound}
 
--- what is found in a list with one more at the end
-found_in : {A : Type 0} (xs : List A) (x : A) (n : ℕ) (y : A) → slice_get (xs ++ x ∷ []) n ≡ Some y → (slice_get xs n ≡ Some y) ⊎ ((n ≡ length xs) × (x ≡ y))
-found_in [] x zero y q = inr (refl, same_Some x y q)
-found_in [] x (suc n) y q = absurd (cc)
-found_in (z ∷ xs) x zero y q = inl q
-found_in (z ∷ xs) x (suc n) y q = elim (found_in xs x n y q) [ inl p ↦ inl p | inr (p, r) ↦ inr (ap suc p, r) ]
-
 ends_run : (ty : TyTree) → EndsInHoare ty → EndsInRun (skeleton ty)
 unfolding skeleton
 ends_run (y_mono mono) r = absurd r
@@ -43,7 +36,7 @@ ends_run (y_at at ty) r = absurd r
 heads_run : (env : Environment) (ty : TyTree) → HeadsRun (heads_of env) → EndsInHoare ty → HeadsRun (heads_of (with_val env ty))
 heads_run env ty r ends = record {
   vals = λ n s d. let o = type_at (env.vals ++ ty ∷ []) n s d in
-      subst EndsInRun o.is (elim (found_in env.vals ty n o.ty o.found) [
+      subst EndsInRun o.is (elim (appended env.vals ty n o.ty o.found) [
         | inl p ↦ r.vals n (skeleton o.ty) (head_of env.vals n o.ty p)
         | inr (p, q) ↦ subst (λ t. EndsInRun (skeleton t)) q (ends_run ty ends)
       ]);
@@ -110,8 +103,8 @@ module _ (table : List RecTree) (items : Items) (env : Environment) (e : HeadEnt
   val_holds ty ty' term term' o f ends d t at is = record {
     sound = items_keep_sound.kept env (i_val ty term) (adds_val ty' term') o h.sound (derives_val f ends d);
     runs = heads_run env ty' h.runs ends;
-    means = record { vals = λ n u q. val_means n u f d t is (found_in env.vals ty' n u q); defs = h.means.defs };
-    does = record { vals = λ n u q. val_does n u f d at is (found_in env.vals ty' n u q); defs = h.does.defs };
+    means = record { vals = λ n u q. val_means n u f d t is (appended env.vals ty' n u q); defs = h.means.defs };
+    does = record { vals = λ n u q. val_does n u f d at is (appended env.vals ty' n u q); defs = h.does.defs };
   }
 
   -- one definition more
@@ -158,8 +151,8 @@ module _ (table : List RecTree) (items : Items) (env : Environment) (e : HeadEnt
   def_holds ty ty' term term' o f d t at = record {
     sound = items_keep_sound.kept env (i_def ty term) (adds_def ty' term') o h.sound (derives_def f d);
     runs = h.runs;
-    means = record { vals = h.means.vals; defs = λ n u q. def_means n u f d t (found_in env.defs (ty', term') n u q) };
-    does = record { vals = h.does.vals; defs = λ n u q. def_does n u f d at (found_in env.defs (ty', term') n u q) };
+    means = record { vals = h.means.vals; defs = λ n u q. def_means n u f d t (appended env.defs (ty', term') n u q) };
+    does = record { vals = h.does.vals; defs = λ n u q. def_does n u f d at (appended env.defs (ty', term') n u q) };
   }
 
 nothing_found : {A : Type 0} (n : ℕ) (x : A) → slice_get [] n ≡ Some x → ⊥
