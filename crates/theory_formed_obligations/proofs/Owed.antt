@@ -15,7 +15,7 @@ use Rattle.theory_formed_shapes.specs.Formed.{FileShapes, file_shapes, IsFormedM
 use Rattle.theory_formed_shapes.specs.Formed.{z_mono, z_fun, z_all, z_hoare, IsFormedTriple, z_triple, IsFormedFormula, IsClosedFile}
 use Rattle.theory_formed_shapes.proofs.Filled.{mono_raised}
 use Rattle.theory_formed_shapes.proofs.Renamed.{ty_renamed, triple_renamed, fills_suc}
-use Rattle.theory_formed_shapes.specs.Environments.{IsFormedContext, formed_none, formed_mono, formed_heap, formed_term, FormsEnvironment}
+use Rattle.theory_formed_shapes.specs.Environments.{IsFormedContext, formed_mono, formed_heap, formed_term, FormsEnvironment}
 use Rattle.theory_formed_typing.proofs.Closed.{file_closed}
 use Rattle.theory_formed_typing.proofs.Terms.{mono_formed}
 use Rattle.theory_formed_typing.proofs.Typed.{formed_ty, formed_formula, given_formed, fit_formed, header_formed}

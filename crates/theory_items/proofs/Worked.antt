@@ -7,7 +7,7 @@ use Rattle.theory_truth.specs.Atoms.{AtomsMeet}
 use Rattle.theory_canonical.specs.Folding.{contractum}
 use Rattle.theory_canonical.specs.Eta.{expansion}
 use Rattle.theory_typing.specs.Positions.{plain_ty}
-use Rattle.theory_typing.specs.Contexts.{Environment, Obligation, count_of, mono_here, mono_there, heap_here, type_here, type_there, FormsMono}
+use Rattle.theory_typing.specs.Contexts.{Obligation, count_of, mono_here, mono_there, heap_here, type_here, type_there, FormsMono}
 use Rattle.theory_typing.specs.Contexts.{forms_word, forms_var}
 use Rattle.theory_typing.specs.Typing.{FormsFormula, forms_mono, forms_fun, forms_hoare, forms_triple, forms_tt, forms_eq, forms_rec, fits_none, fits_more}
 use Rattle.theory_typing.specs.Typing.{gives_var, gives_word, gives_bin, fits_do, fits_given}

@@ -7,7 +7,7 @@ use Rattle.theory_values.specs.Heaps.{Heap}
 use Rattle.theory_meaning.specs.Closures.{RunValue, base, fix_of, Env, with_mono, with_value, PureResult, done, Items}
 use Rattle.theory_meaning.specs.Meaning.{base_or_fault, of_eq, item_result, application_result, instance_result, term_result, inner_result, run_with, then_run}
 use Rattle.theory_meaning.specs.Meaning.{start_result, alloc_result, get_result, set_result, free_result, branch_result, comp_result, step_result, runner_of}
-use Rattle.theory_canonical.specs.Skeletons.{Skeleton, sk_o, sk_c, sk_arrow, skeleton}
+use Rattle.theory_canonical.specs.Skeletons.{Skeleton, sk_o, sk_c, skeleton}
 use Rattle.theory_canonical.specs.Contexts.{as_term}
 use Rattle.theory_canonical.specs.Folding.{folding}
 use Rattle.theory_canonical.specs.Eta.{eta}
@@ -18,11 +18,11 @@ use Rattle.theory_substitution.specs.Monotypes.{put_mono, put_mono_ty, put_mono_
 use Rattle.theory_substitution.specs.Closing.{closing}
 use Rattle.theory_substitution.proofs.Skeletons.{skeleton_kept, skeleton_filled}
 use Rattle.theory_substitution_total.specs.Insertion.{ins_here}
-use Rattle.theory_typing.specs.Contexts.{Context, Environment, Obligation, EndsInHoare}
-use Rattle.theory_typing.specs.Typing.{Mode, Part, Gives, Fits, FormsHeader, FitsFix, FitsBody, Runs, Moves, gives_var, gives_val, gives_def, gives_word}
+use Rattle.theory_typing.specs.Contexts.{Context, Environment, Obligation}
+use Rattle.theory_typing.specs.Typing.{Mode, Part, Gives, Fits, FitsFix, FitsBody, Runs, Moves, gives_var, gives_val, gives_def, gives_word}
 use Rattle.theory_typing.specs.Typing.{gives_bool, gives_loc, gives_unit, gives_app, gives_inst, gives_ann, gives_pair, gives_fst, gives_snd, gives_bin}
 use Rattle.theory_typing.specs.Typing.{gives_not, gives_eq, gives_sel, gives_fix, gives_at, fits_lam, fits_lam_t, fits_pair, fits_do, fits_given, fits_at}
-use Rattle.theory_typing.specs.Typing.{header_param, header_body, fix_param, fix_body, fits_body, runs_ret, runs_step, moves_alloc, moves_get, moves_set}
+use Rattle.theory_typing.specs.Typing.{fix_param, fix_body, fits_body, runs_ret, runs_step, moves_alloc, moves_get, moves_set}
 use Rattle.theory_typing.specs.Typing.{moves_free, moves_run, moves_if, moves_claim, Assembled, assembled_end, assembled_part}
 use Rattle.theory_typing_canonical.specs.Environments.{standings, heads_of, at_state, IsCanonicalEnvironment, IsCanonicalContext, mono_entry, term_entry}
 use Rattle.theory_typing_canonical.proofs.Entries.{mono_canonical, argument_part, answer_part, under_mono, spec_part, lam_body, lam_t_body, assembled_canonical}
@@ -31,7 +31,7 @@ use Rattle.theory_typing_canonical.proofs.Typed.{formed_ty, given as canonical_g
 use Rattle.theory_denotation.specs.Outcomes.{Running, ended, alloc_outcome, get_outcome, set_outcome, free_outcome, branch_outcome}
 use Rattle.theory_denotation.specs.Valuations.{Domain, den_mono, den_term, Valuation, mono_in, HeadEntries}
 use Rattle.theory_denotation.specs.Recursion.{entered, turns, recursion}
-use Rattle.theory_denotation.specs.Denotation.{fix_skeleton, term_den, fix_den, comp_den}
+use Rattle.theory_denotation.specs.Denotation.{term_den, fix_den, comp_den}
 use Rattle.theory_denotation.specs.Satisfaction.{answer_mono}
 use Rattle.theory_denotation.proofs.HeadsDenote.{fix_value, valued_other}
 use Rattle.theory_denotation_renaming.specs.Insertion.{entry_here}
