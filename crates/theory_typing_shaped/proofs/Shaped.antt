@@ -94,7 +94,7 @@ fills_dropped {f = f} {g = g} {w = w} {w' = w'} a x k = record { at = λ n d. go
     go zero b d = elim d [ ]
     go (suc n) b (mono_further d) = k.at n d
 
-mono_entries : {t : MonoTree} {f : Filling} {g : Shapes} {w w' : Valuation}
+mono_entries : {g : Shapes} {t : MonoTree} {f : Filling} {w w' : Valuation}
     → IsFormedMono g t
     → FillsEntries f g w w'
     → mono_in w' (fill_mono f t) ≡ mono_in w t
