@@ -15,6 +15,7 @@ use Rattle.theory_typing.specs.Contexts.{Context, Environment, heap_here, heap_t
 use Rattle.theory_typing.specs.Laws.{none}
 use Rattle.theory_typing.specs.Typing.{FormsTy, forms_hoare, forms_triple, forms_tt, forms_eq, gives_val, gives_bin}
 use Rattle.theory_typing.specs.Typing.{fits_given, fits_do, fits_body, runs_ret, runs_step, moves_run, joined_comp}
+use Rattle.theory_typing.specs.Typing.{assembled_end, assembled_part}
 use Rattle.theory_items.specs.Items.{derives_val}
 use Rattle.theory_logic_rules.specs.Sequents.{putting}
 use Rattle.theory_logic_rules.specs.Rules.{Proves, infers_hyp, infers_first, infers_second, proves_rewrite_term, proves_inferred, proves_block, block_end}
@@ -36,15 +37,15 @@ unfolding lift lifts rename_mono rename_ty rename_term rename_formula past at_he
     finish last contractum expansion closing plain_ty
 counted_owes =
     derives_more (derives_val (gives_formed (omega arith)) tt
-    (fits_do (fits_body (runs_ret (literal_fits (omega arith))))))
+    (fits_do (fits_body (runs_ret (literal_fits (omega arith))) assembled_end)))
     (derives_more (derives_val (gives_formed (omega arith)) tt
     (fits_do (fits_body (runs_step (moves_run (gives_val refl))
-    (runs_ret (fits_given tt (gives_bin (word_fits 0 refl) (literal_fits (omega arith))) refl))
-    (joined_comp (b_step (b_ret (u_ret (u_bin (u_reduced (r_var refl)) u_word)))))))))
+    (runs_ret (fits_given tt (gives_bin (word_fits 0 refl) (literal_fits (omega arith))) refl)))
+    (assembled_part assembled_end (joined_comp (b_step (b_ret (u_ret (u_bin (u_reduced (r_var refl)) u_word)))))))))
     (derives_more (derives_val (gives_formed (omega arith)) tt
     (fits_do (fits_body (runs_step (moves_run (gives_val refl))
-    (runs_ret (fits_given tt (gives_bin (word_fits 0 refl) (literal_fits (omega arith))) refl))
-    (joined_comp (b_step (b_ret (u_ret (u_bin (u_reduced (r_var refl)) u_word)))))))))
+    (runs_ret (fits_given tt (gives_bin (word_fits 0 refl) (literal_fits (omega arith))) refl)))
+    (assembled_part assembled_end (joined_comp (b_step (b_ret (u_ret (u_bin (u_reduced (r_var refl)) u_word)))))))))
     derives_none))
 
 pub returns_proved : {env : Environment} {n : ℕ} → Proves env (returns_goal n).context [] second_part (returns_goal n).goal

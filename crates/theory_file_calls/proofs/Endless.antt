@@ -15,7 +15,7 @@ use Rattle.theory_typing.specs.Contexts.{Context, en_term, type_here, type_there
 use Rattle.theory_typing.specs.Laws.{none}
 use Rattle.theory_typing.specs.Typing.{in_formula, Gives, forms_mono, forms_fun, forms_hoare, forms_triple, forms_tt, forms_ff, forms_eq}
 use Rattle.theory_typing.specs.Typing.{forms_ex_t, gives_var, gives_val, gives_app, gives_fix, fits_given, fits_lam, fits_do, fits_body, runs_ret}
-use Rattle.theory_typing.specs.Typing.{runs_step, moves_run, joined_comp, header_param, header_body, fix_param, fix_body}
+use Rattle.theory_typing.specs.Typing.{runs_step, moves_run, joined_comp, assembled_end, assembled_part, header_param, header_body, fix_param, fix_body}
 use Rattle.theory_items.specs.Items.{derives_val}
 use Rattle.theory_logic_rules.specs.Sequents.{putting}
 use Rattle.theory_logic_rules.specs.Rules.{Proves, infers_hyp, infers_first, infers_second, proves_give_term, proves_trivial, proves_refl_term, proves_inferred}
@@ -35,7 +35,7 @@ endless_owes =
     derives_more (derives_val (forms_fun
     (forms_fun (forms_hoare (forms_triple forms_tt forms_word forms_ff)) (forms_mono forms_word))
     (forms_hoare (forms_triple forms_tt forms_word forms_tt))) tt
-    (fits_lam (fits_do (fits_body (runs_ret (literal_fits (omega arith)))))))
+    (fits_lam (fits_do (fits_body (runs_ret (literal_fits (omega arith))) assembled_end))))
     (derives_more (derives_val (forms_hoare (forms_triple forms_tt forms_word forms_ff)) tt
     (fits_do (fits_body
     (runs_step (moves_run (gives_app (gives_val refl) (fits_lam (literal_fits (omega arith)))
@@ -49,15 +49,16 @@ endless_owes =
     (moves_run (gives_app (gives_var type_here) (word_fits 1 refl)
     (u_y_hoare (u_triple u_f_tt u_f_ff))
     (u_do (u_step (u_run (k_app (k_var (λ q. no_zero (sym q))) (u_reduced (r_var refl)))) (u_ret (u_kept (k_var (λ q. no_zero q))))))))
-    (runs_ret (word_fits 0 refl))
-    (joined_comp (b_step (b_ret (u_ret (u_reduced (r_var refl)))))))))))
+    (runs_ret (word_fits 0 refl)))
+    (assembled_part assembled_end (joined_comp (b_step (b_ret (u_ret (u_reduced (r_var refl)))))))))))
     (literal_fits (omega arith))
     (u_y_hoare (u_triple u_f_tt u_f_ff))
     (u_do (u_step (u_run (k_app (k_fix (u_x_param u_y_mono (u_x_body (u_triple u_f_tt u_f_ff)
     (u_step (u_run (k_app (k_var (λ q. no_zero q)) (u_kept (k_var (λ q. omega (arith, q))))))
     (u_ret (u_kept (k_var (λ q. no_zero q)))))))) (u_reduced (r_var refl))))
     (u_ret (u_kept (k_var (λ q. no_zero q))))))))
-    (runs_ret (word_fits 0 refl))
+    (runs_ret (word_fits 0 refl))))
+    (assembled_part (assembled_part assembled_end
     (joined_comp (b_step (b_ret (u_ret (u_reduced (r_var refl)))))))
     (joined_comp (b_step (b_ret (u_step
     (u_run (k_app (k_fix (u_x_param u_y_mono (u_x_body (u_triple u_f_tt u_f_ff)

@@ -13,6 +13,7 @@ use Rattle.theory_typing.specs.Contexts.{type_here, type_there, heap_here, heap_
 use Rattle.theory_typing.specs.Laws.{none}
 use Rattle.theory_typing.specs.Typing.{forms_fun, forms_eq, gives_var, gives_val, gives_bin, gives_app, fits_given}
 use Rattle.theory_typing.specs.Typing.{fits_lam, fits_do, fits_body, runs_ret, runs_step, moves_run, joined_comp}
+use Rattle.theory_typing.specs.Typing.{assembled_end, assembled_part}
 use Rattle.theory_items.specs.Items.{derives_val}
 use Rattle.theory_logic_rules.specs.Sequents.{putting}
 use Rattle.theory_logic_rules.specs.Rules.{Proves, infers_hyp, infers_first, infers_second, proves_rewrite_term, proves_inferred, proves_block, block_end}
@@ -30,13 +31,14 @@ takers_owe : DerivesAll none takers taker_env taker_rows
 unfolding lift lifts rename_mono rename_ty rename_triple rename_term rename_formula rename_comp rename_step past at_heaps at_heap at_result
     start owed after some_values within ending finish last skeleton contractum expansion closing plain_ty plain_triple plain_formula plain_term
 takers_owe =
-    derives_more (derives_val (gives_formed (omega arith)) tt (fits_do (fits_body (runs_ret (literal_fits (omega arith))))))
+    derives_more (derives_val (gives_formed (omega arith)) tt (fits_do (fits_body (runs_ret (literal_fits (omega arith))) assembled_end)))
     (derives_more (derives_val (forms_fun (gives_formed (omega arith)) (gives_formed (omega arith))) tt
     (fits_lam (fits_do (fits_body
     (runs_step (moves_run (gives_var type_here))
     (runs_step (moves_run (gives_var (type_there type_here)))
     (runs_ret (fits_given tt
-    (gives_bin (word_fits 1 refl) (word_fits 0 refl)) refl))
+    (gives_bin (word_fits 1 refl) (word_fits 0 refl)) refl))))
+    (assembled_part (assembled_part assembled_end
     (joined_comp (b_step (b_ret (u_ret (u_bin (u_kept (k_var (λ q. no_zero (sym q)))) (u_reduced (r_var refl))))))))
     (joined_comp (b_step (b_ret (u_step (u_run (k_var (λ q. no_zero (sym q))))
     (u_ret (u_bin (u_reduced (r_var refl)) (u_kept (k_var (λ q. no_zero q))))))))))))))
@@ -45,8 +47,8 @@ takers_owe =
     (runs_step (moves_run (gives_app (gives_val refl) (fits_given tt (gives_val refl) refl)
     (u_y_hoare (u_triple u_f_tt (u_f_eq (u_kept (k_var (λ q. omega (arith, q)))) u_word)))
     (u_do (u_step (u_run (k_app k_val value_put)) (u_ret (u_kept (k_var (λ q. no_zero q))))))))
-    (runs_ret (word_fits 0 refl))
-    (joined_comp (b_step (b_ret (u_ret (u_reduced (r_var refl))))))))))
+    (runs_ret (word_fits 0 refl)))
+    (assembled_part assembled_end (joined_comp (b_step (b_ret (u_ret (u_reduced (r_var refl))))))))))
     derives_none))
 
 both_proved : Proves taker_env both_goal.context [] both_known both_goal.goal

@@ -17,6 +17,7 @@ use Rattle.theory_typing.specs.Laws.{none}
 use Rattle.theory_typing.specs.Typing.{forms_mono, forms_fun, forms_hoare, forms_triple, forms_tt, forms_rec, fits_none, fits_more, gives_var, gives_val}
 use Rattle.theory_typing.specs.Typing.{gives_bin, gives_eq, gives_app, gives_fix, fits_given, fits_do, header_param, header_body, fix_param, fix_body}
 use Rattle.theory_typing.specs.Typing.{fits_body, runs_ret, runs_step, moves_run, moves_if, joined_step, joined_comp, FormsTriple, in_program, Gives}
+use Rattle.theory_typing.specs.Typing.{assembled_end, assembled_part}
 use Rattle.theory_items.specs.Items.{with_rec, derives_val}
 use Rattle.theory_items.specs.Examples.{doubles}
 use Rattle.theory_items.proofs.Worked as items
@@ -52,14 +53,14 @@ function_given =
     (fix_param (fix_body (fits_body (runs_step
     (moves_if forms_word
     (fits_given tt (gives_eq forms_word compares_word (literal_fits (omega arith)) (word_fits 1 refl)) refl)
-    (runs_ret (literal_fits (omega arith)))
+    (runs_ret (literal_fits (omega arith))) assembled_end
     (runs_step (moves_run (gives_app (gives_var type_here)
     (fits_given tt (gives_bin (word_fits 1 refl) (literal_fits (omega arith))) refl)
     (u_y_hoare (u_triple u_f_tt (u_f_rec (u_reduced (r_var refl)) (u_more_terms (u_kept (k_var (λ q. omega (arith, q)))) u_no_terms))))
     (u_do (u_step (u_run (k_app (k_var (λ q. no_zero (sym q))) (u_reduced (r_var refl)))) (u_ret (u_kept (k_var (λ q. no_zero q))))))))
-    (runs_ret (fits_given tt (gives_bin (word_fits 0 refl) (literal_fits (omega arith))) refl))
-    (joined_comp (b_step (b_ret (u_ret (u_bin (u_reduced (r_var refl)) u_word)))))))
-    (runs_ret (word_fits 0 refl)) joined_step))))
+    (runs_ret (fits_given tt (gives_bin (word_fits 0 refl) (literal_fits (omega arith))) refl)))
+    (assembled_part assembled_end (joined_comp (b_step (b_ret (u_ret (u_bin (u_reduced (r_var refl)) u_word)))))))
+    (runs_ret (word_fits 0 refl))) (assembled_part assembled_end joined_step))))
 
 pub doubling_owes : DerivesAll none doubling_file doubling_env doubling_rows
 unfolding lift lifts rename_mono rename_ty rename_triple rename_term rename_terms rename_formula rename_comp rename_step past at_heaps at_heap
@@ -75,5 +76,5 @@ doubling_owes =
     (moves_run (gives_app (gives_val refl) (literal_fits (omega arith))
     (u_y_hoare (u_triple u_f_tt (u_f_rec (u_reduced (r_var refl)) (u_more_terms (u_kept (k_var (λ q. omega (arith, q)))) u_no_terms))))
     (u_do (u_step (u_run (k_app k_val (u_reduced (r_var refl)))) (u_ret (u_kept (k_var (λ q. no_zero q))))))))
-    (runs_ret (word_fits 0 refl)) (joined_comp (b_step (b_ret (u_ret (u_reduced (r_var refl))))))))))
+    (runs_ret (word_fits 0 refl))) (assembled_part assembled_end (joined_comp (b_step (b_ret (u_ret (u_reduced (r_var refl))))))))))
     derives_none))
