@@ -1,0 +1,5 @@
+pub mod Terms
+pub mod Bodies
+pub mod Codes
+pub mod Migration
+pub mod Examples
