@@ -134,14 +134,14 @@ dup_has = record {
 }
 
 -- the function that counts has no free variable, if what it passes has none
-module _ (passed : TermTree) (stays : {new : TermTree} {s : Skeleton} (y : ℕ) → SubTerm new s (suc (suc (suc y))) passed passed) where
+module _ (passed : TermTree) (stays : (new : TermTree) (s : Skeleton) (y : ℕ) → SubTerm new s (suc (suc (suc y))) passed passed) where
   counted_stays : {new : TermTree} {s : Skeleton} (y : ℕ) → SubFix new s y (counted passed) (counted passed)
   unfolding closing lift contractum rename_mono
   counted_stays y =
       u_x_param (u_y_fun u_y_mono u_y_mono) (u_x_param u_y_mono (u_x_body (u_triple u_f_tt u_f_tt)
       (u_step
       (u_s_if (u_eq (u_kept (k_var (λ q. omega (arith, q)))) u_word) (u_ret u_word)
-      (u_step (u_run (k_app (k_app (k_var (λ q. omega (arith, q))) (stays y)) (u_bin (u_kept (k_var (λ q. omega (arith, q)))) u_word)))
+      (u_step (u_run (k_app (k_app (k_var (λ q. omega (arith, q))) (stays _ _ y)) (u_bin (u_kept (k_var (λ q. omega (arith, q)))) u_word)))
       (u_ret (u_kept (k_app (k_var (λ q. omega (arith, q))) (u_kept (k_var (λ q. omega (arith, q)))))))))
       (u_ret (u_kept (k_var (λ q. omega (arith, q))))))))
 
@@ -157,13 +157,13 @@ module _ (passed : TermTree) (stays : {new : TermTree} {s : Skeleton} (y : ℕ) 
       (k_app (k_app (k_fix (counted_stays 0)) (u_lam (plus_two_of (u_kept (k_var (λ q. omega (arith, q))))))) (u_reduced (r_var refl)))) (u_ret (u_kept (k_var (λ q. omega (arith, q))))))))
       puts_none))
 
-passed_on_stays : {new : TermTree} {s : Skeleton} (y : ℕ) → SubTerm new s (suc (suc (suc y))) passed_on passed_on
+passed_on_stays : (new : TermTree) (s : Skeleton) (y : ℕ) → SubTerm new s (suc (suc (suc y))) passed_on passed_on
 unfolding closing lift
-passed_on_stays y = u_lam (u_kept (k_app (k_var (λ q. omega (arith, q))) (u_kept (k_var (λ q. omega (arith, q))))))
+passed_on_stays new s y = u_lam (u_kept (k_app (k_var (λ q. omega (arith, q))) (u_kept (k_var (λ q. omega (arith, q))))))
 
-changed_stays : {new : TermTree} {s : Skeleton} (y : ℕ) → SubTerm new s (suc (suc (suc y))) changed changed
+changed_stays : (new : TermTree) (s : Skeleton) (y : ℕ) → SubTerm new s (suc (suc (suc y))) changed changed
 unfolding closing lift
-changed_stays y =
+changed_stays new s y =
     u_lam (u_kept (k_app (k_var (λ q. omega (arith, q))) (u_kept (k_app (k_var (λ q. omega (arith, q))) (u_kept (k_var (λ q. omega (arith, q))))))))
 
 rep_main_is : (passed : TermTree) → IsMain (rep passed) 1

@@ -84,7 +84,7 @@ pub data HasBody (p : Program) (number : ℕ) (key : Key) : List TermTree → Co
   body_of_fix : {at : ℕ} {fix own : FixTree} {results : List TermTree} {comp : CompTree}
       → key.head ≡ t_fix at fix
       → own ≡ rename_fix (past_passed (skeleton (fix_ty fix))) fix
-      → Puts (opened_fix own) (opened_skeleton (skeleton (fix_ty fix)) fix)
-      (arguments_within (skeleton (fix_ty fix)) key ++ of_term (eta (made_of number (skeleton (fix_ty fix)) key) (fix_ty own)) ∷ [])
-      results (t_do comp)
+      → Puts (opened_fix own) (opened_skeleton (skeleton (fix_ty own)) own)
+      (arguments_within (skeleton (fix_ty own)) key
+      ++ of_term (eta (made_of number (skeleton (fix_ty own)) key) (fix_ty own)) ∷ []) results (t_do comp)
       → HasBody p number key results comp
