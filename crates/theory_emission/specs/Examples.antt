@@ -1,5 +1,5 @@
 -- Code that was worked out by hand, with its bytes.
-use Rattle.std.specs.Prelude.{◌≡◌, ℕ, List, [], ◌∷◌, length, sum_by, None}
+use Rattle.std.specs.Prelude.{◌≡◌, ℕ, List, [], ◌∷◌, true, length, sum_by, None}
 use Rattle.htt_syntax.specs.declared.mono.Op.TheVariants.{Add}
 use Rattle.htt_syntax.specs.Trees.{TermTree, m_word, m_unit, t_var, t_word, t_bool, t_unit, t_bin}
 use Rattle.word_loader_code.specs.declared.code.Code.{Code}

@@ -1,5 +1,5 @@
 -- Flat bodies that were worked out by hand, and what they come to.
-use Rattle.std.specs.Prelude.{◌≡◌, ℕ, List, [], ◌∷◌}
+use Rattle.std.specs.Prelude.{◌≡◌, ℕ, List, [], ◌∷◌, true, false}
 use Rattle.htt_syntax.specs.declared.mono.Op.TheVariants.{Add, Sub}
 use Rattle.htt_syntax.specs.Trees.{MonoTree, m_word, m_bool, m_loc, m_unit, m_pair, t_var, t_word, t_bool, t_unit}
 use Rattle.htt_syntax.specs.Trees.{t_pair, t_bin, t_eq}

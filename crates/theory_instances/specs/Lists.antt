@@ -83,10 +83,15 @@ pub data MeetsTooMany : List Key → List Key → Type 0 where
       → IsNew keys key
       → length keys ≡ instance_limit
       → MeetsTooMany keys (key ∷ others)
-  too_many_later : {keys before after others : List Key}
-      → Meets keys before after
-      → MeetsTooMany after others
-      → MeetsTooMany keys (before ++ others)
+  too_many_past_known : {keys others : List Key} {key : Key} (number : ℕ)
+      → IsKnownAs keys number key
+      → MeetsTooMany keys others
+      → MeetsTooMany keys (key ∷ others)
+  too_many_past_new : {keys others : List Key} {key : Key}
+      → IsNew keys key
+      → length keys < instance_limit
+      → MeetsTooMany (keys ++ key ∷ []) others
+      → MeetsTooMany keys (key ∷ others)
 
 -- The keys that the calls of a body name, which stands under these parameters.
 abbrev pub keys_met : Program → List MonoTree → CompTree → List Key
