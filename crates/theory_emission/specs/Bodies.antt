@@ -10,7 +10,7 @@ use Rattle.word_loader_code.specs.declared.code.Instr.TheVariants.{Mov, Alloc, G
 use Rattle.word_loader_code.specs.declared.code.Instr.TheVariants.{Tail}
 use Rattle.theory_flat.specs.Flat.{FlatTree, FlatStepTree, flat_ret, flat_step, flat_call, flat_alloc, flat_get}
 use Rattle.theory_flat.specs.Flat.{flat_set, flat_free, flat_if, Instance}
-use Rattle.theory_emission.specs.Terms.{Held, Emitted, EmittedTerms, at_new_place, emit_term, emit_terms, moves}
+use Rattle.theory_emission.specs.Terms.{Held, Emitted, EmittedTerms, standing_at, at_new_place, emit_term, emit_terms, moves}
 use Rattle.theory_emission.specs.Terms.{width_of_parts}
 
 -- What becomes of the result: it is held at a place, as that of a branch is; it is returned; or it is
@@ -22,14 +22,20 @@ abbrev pub ended_by : Ending → Emitted → Emitted
 ended_by is_held e = e
 ended_by ending e = record { instrs = e.instrs ++ Ret e.place ∷ []; place = e.place; next = e.next }
 
--- Whether a step stands in tail place: what follows it is its own variable alone.
+-- What follows a step is its own variable alone.
 abbrev pub gives_back : FlatTree → Bool
 gives_back (flat_ret (t_var zero)) = true
 gives_back flat = false
 
-abbrev pub in_tail_place : Ending → FlatTree → Bool
-in_tail_place is_tail others = gives_back others
-in_tail_place ending others = false
+-- A call or an `if` that ends a tail body, since what follows gives its result back.
+abbrev pub may_end : FlatStepTree → Bool
+may_end (flat_call number params) = true
+may_end (flat_if mono test on_true on_false) = true
+may_end step = false
+
+abbrev pub in_tail_place : Ending → FlatStepTree → FlatTree → Bool
+in_tail_place is_tail step others = if may_end step then gives_back others else false
+in_tail_place ending step others = false
 
 abbrev pub result_in : Option Instance → MonoTree
 result_in (Some instance) = instance.result
@@ -108,26 +114,22 @@ unfoldable mutual
   pub emit_flat : List Instance → Ending → List Held → ℕ → ℕ → FlatTree → Emitted
   emit_flat instances ending g next at (flat_ret term) = ended_by ending (emit_term g next term)
   emit_flat instances ending g next at (flat_step step others) =
-      if in_tail_place ending others then emit_last instances ending g next at step others else
-      emit_first instances ending g next at step others
-
-  -- a step that isn't in tail place, and what follows it
-  pub emit_first : List Instance → Ending → List Held → ℕ → ℕ → FlatStepTree → FlatTree → Emitted
-  emit_first instances ending g next at step others =
+      if in_tail_place ending step others then emit_last instances g next at step else
       let first = emit_step instances g next at step in
       in_row first
       (emit_flat instances ending (record { place = first.place; mono = flat_mono instances step } ∷ g) first.next
       (at + length first.instrs) others)
 
-  -- a step in tail place: a call replaces the frame, and the branches of an `if` are bodies
-  pub emit_last : List Instance → Ending → List Held → ℕ → ℕ → FlatStepTree → FlatTree → Emitted
-  emit_last instances ending g next at (flat_call number params) others = tail_called number (emit_terms g next params)
-  emit_last instances ending g next at (flat_if mono test on_true on_false) others =
+  -- a step in tail place: a call replaces the frame, and the branches of an `if` are tail bodies
+  pub emit_last : List Instance → List Held → ℕ → ℕ → FlatStepTree → Emitted
+  emit_last instances g next at (flat_call number params) = tail_called number (emit_terms g next params)
+  emit_last instances g next at (flat_if mono test on_true on_false) =
       let c = emit_term g next test in
-      let a = emit_flat instances ending g c.next (first_branch at c) on_true in
-      split at c a (emit_flat instances ending g a.next (second_branch at c a zero) on_false)
-  emit_last instances ending g next at step others = emit_first instances ending g next at step others
+      let a = emit_flat instances is_tail g c.next (first_branch at c) on_true in
+      split at c a (emit_flat instances is_tail g a.next (second_branch at c a zero) on_false)
+  emit_last instances g next at step = standing_at next next
 
+  -- another step: its instructions leave its value at a place
   pub emit_step : List Instance → List Held → ℕ → ℕ → FlatStepTree → Emitted
   emit_step instances g next at (flat_call number params) =
       called number (width (result_in (slice_get instances number))) (emit_terms g next params)

@@ -10,7 +10,6 @@ use Rattle.word_loader_format.specs.Layout.{code_bytes}
 use Rattle.theory_flat.specs.Flat.{FlatTree, Instance, flat_ret, flat_step, flat_call, flat_if}
 use Rattle.theory_flat.specs.Examples.{alone, sum_flat, cell_flat, blocks_flat, seven_flat, dup_flat, rep_flat}
 use Rattle.theory_emission.specs.Codes.{first_code, code_of, emit_refusal}
-use Rattle.theory_emission.specs.Migration.{retailed}
 
 -- The number of instructions of a code.
 abbrev pub instr_count : Code → ℕ
@@ -31,14 +30,6 @@ chosen result =
 abbrev pub unit_called : TermTree → List Instance
 unit_called result =
     alone m_unit (flat_step (flat_call 1 []) (flat_ret result)) ∷ alone m_unit (flat_ret t_unit) ∷ []
-
--- `call 1 0 0`, `ret 0` over one local, and `const 0 7`, `ret 0`, in version 1
-abbrev pub old_code : Code
-old_code = record {
-  version = 1;
-  functions = record { params = 0; locals = 1; result = 1; body = Call 1 0 0 ∷ Ret 0 ∷ [] } ∷
-      record { params = 0; locals = 1; result = 1; body = Const 0 7 ∷ Ret 0 ∷ [] } ∷ [];
-}
 
 pub record WorkedCode : Type 0 where
   pub cell_code : code_of cell_flat ≡ only 3 1 (Const 0 7 ∷ Alloc 1 0 1 ∷ Get 2 1 1 ∷ Free 1 1 ∷ Ret 2 ∷ [])
@@ -76,6 +67,14 @@ pub record WorkedCode : Type 0 where
   -- a tail call keeps no frame, and where the result is another term there is none
   pub tail_count : instr_count (code_of (unit_called (t_var 0))) ≡ 2
   pub call_count : instr_count (code_of (unit_called t_unit)) ≡ 3
+  -- version 1 has no tail calls
+  pub seven_code_of_one :
+      first_code seven_flat
+      ≡ record {
+        version = 1;
+        functions = record { params = 0; locals = 1; result = 1; body = Call 1 0 0 ∷ Ret 0 ∷ [] } ∷
+            record { params = 0; locals = 1; result = 1; body = Const 0 7 ∷ Ret 0 ∷ [] } ∷ [];
+      }
   -- branches in tail place are bodies, and others bring their results to one place
   pub branches_end :
       code_of (chosen (t_var 0))
@@ -106,19 +105,3 @@ pub record WorkedBytes : Type 0 where
       code_bytes (code_of seven_flat)
       ≡ 0x48 ∷ 0x54 ∷ 0x54 ∷ 0x57 ∷ 2 ∷ 2 ∷ 0 ∷ 0 ∷ 0 ∷ 0 ∷ 0 ∷ 0 ∷ 0 ∷ 1 ∷ 0 ∷ 1 ∷ 0 ∷ 0 ∷ 0 ∷ 0 ∷ 0 ∷ 1 ∷ 0 ∷ 1 ∷ 0 ∷ 2 ∷ 0 ∷
       0 ∷ 0 ∷ 0x0c ∷ 1 ∷ 0 ∷ 0 ∷ 0 ∷ 0 ∷ 0 ∷ 0 ∷ 0 ∷ 0 ∷ 7 ∷ 0 ∷ 0 ∷ 0 ∷ 0 ∷ 0 ∷ 0 ∷ 0 ∷ 0x0b ∷ 0 ∷ 0 ∷ []
-
-pub record WorkedMigrations : Type 0 where
-  -- the version 1 code of a call in tail place, and what it becomes: the return stays
-  pub seven_in_one : first_code seven_flat ≡ old_code
-  pub migrated :
-      retailed old_code
-      ≡ record {
-        version = 2;
-        functions = record { params = 0; locals = 1; result = 1; body = Tail 1 0 ∷ Ret 0 ∷ [] } ∷
-            record { params = 0; locals = 1; result = 1; body = Const 0 7 ∷ Ret 0 ∷ [] } ∷ [];
-      }
-  -- version 2 code is treated likewise, and this one has no such call
-  pub kept : retailed (code_of rep_flat) ≡ code_of rep_flat
-  -- another place is returned, and so the call stays
-  pub other_place :
-      retailed (only 2 1 (Call 0 0 0 ∷ Ret 1 ∷ [])) ≡ only 2 1 (Call 0 0 0 ∷ Ret 1 ∷ [])

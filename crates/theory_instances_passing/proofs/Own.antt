@@ -28,20 +28,20 @@ abbrev pub EachOwn : Skeleton → List TermTree → List Occurrence → Type 0
 EachOwn s params [] = Unit {0}
 EachOwn s params (o ∷ others) = OwnPasses s params (nat_eq o.variable zero) o × EachOwn s params others
 
-pub both : {s : Skeleton} {params : List TermTree} (xs ys : List Occurrence) → EachOwn s params (xs ++ ys) → EachOwn s params xs × EachOwn s params ys
-both [] ys m = (tt, m)
-both (x ∷ xs) ys m = let r = both xs ys (m.1) in ((m.0, r.0), r.1)
+pub both : (s : Skeleton) (params : List TermTree) (xs ys : List Occurrence) → EachOwn s params (xs ++ ys) → EachOwn s params xs × EachOwn s params ys
+both s params [] ys m = (tt, m)
+both s params (x ∷ xs) ys m = let r = both s params xs ys (m.1) in ((m.0, r.0), r.1)
 
 outside_itself : (d : ℕ) → outside d d ≡ Some zero
 outside_itself zero = refl
 outside_itself (suc d) = outside_itself d
 
 -- the variable itself, where it is applied to these arguments
-pub own_met : {s : Skeleton} {params : List TermTree} (d index : ℕ) (arguments : List Argument)
+pub own_met : (s : Skeleton) (params : List TermTree) (d index : ℕ) (arguments : List Argument)
     → index ≡ d
     → EachOwn s params (met d arguments (outside d index))
     → PassesOn s (map (rename_term (shifting zero d)) params) arguments
-own_met {s = s} {params = params} d index arguments q m =
+own_met s params d index arguments q m =
     (subst (λ o. EachOwn s params (met d arguments o)) (outside_itself d) (subst (λ n. EachOwn s params (met d arguments (outside d n))) q m)).0
 
 -- d binders inside of the valuation base, in which the parameters denote what is set
@@ -52,40 +52,40 @@ pub record Apart (whole : Skeleton) (own : Domain whole) (set : List AtEach) (ba
   pub along : (n : ℕ) → entry_at w (n + d) ≡ entry_at base n
   pub valued : ContextValued g w
 
+further : (d : ℕ) (w w' : Valuation) (x : ValuationEntry)
+    → ((n : ℕ) → (n ≡ d) ⊎ (entry_at w n ≡ entry_at w' n))
+    → (n : ℕ)
+    → (n ≡ suc d) ⊎ (entry_at (x ∷ w) n ≡ entry_at (x ∷ w') n)
+further d w w' x others zero = inr refl
+further d w w' x others (suc n) = elim (others n) [ inl q ↦ inl (ap suc q) | inr q ↦ inr q ]
+
+further_along : (base : Valuation) (d : ℕ) (w : Valuation) (x : ValuationEntry)
+    → ((n : ℕ) → entry_at w (n + d) ≡ entry_at base n)
+    → (n : ℕ)
+    → entry_at (x ∷ w) (n + suc d) ≡ entry_at base n
+further_along base d w x along n =
+    let q : n + suc d ≡ suc (n + d) = omega arith in ap (entry_at (x ∷ w)) q ∙ along n
+
 module _ {whole : Skeleton} {own : Domain whole} {set : List AtEach} {base : Valuation} where
-  further : {d : ℕ} {w w' : Valuation} (x : ValuationEntry)
-      → ((n : ℕ) → (n ≡ d) ⊎ (entry_at w n ≡ entry_at w' n))
-      → (n : ℕ)
-      → (n ≡ suc d) ⊎ (entry_at (x ∷ w) n ≡ entry_at (x ∷ w') n)
-  further x others zero = inr refl
-  further x others (suc n) = elim (others n) [ inl q ↦ inl (ap suc q) | inr q ↦ inr q ]
-
-  further_along : {d : ℕ} {w : Valuation} (x : ValuationEntry)
-      → ((n : ℕ) → entry_at w (n + d) ≡ entry_at base n)
-      → (n : ℕ)
-      → entry_at (x ∷ w) (n + suc d) ≡ entry_at base n
-  further_along {d = d} {w = w} x along n =
-      let q : n + suc d ≡ suc (n + d) = omega arith in ap (entry_at (x ∷ w)) q ∙ along n
-
   pub next_term : {d : ℕ} {g : List Standing} {w w' : Valuation} (s : Skeleton) (x : Domain s)
       → Apart whole own set base d g w w'
       → Apart whole own set base (suc d) (as_term s ∷ g) (den_term s x ∷ w) (den_term s x ∷ w')
-  next_term s x a = record {
+  next_term {d = d} {w = w} {w' = w'} s x a = record {
     here = a.here;
     pinned_here = a.pinned_here;
-    others = further (den_term s x) a.others;
-    along = further_along (den_term s x) a.along;
+    others = further d w w' (den_term s x) a.others;
+    along = further_along base d w (den_term s x) a.along;
     valued = valued_term s x a.valued;
   }
 
   pub next_mono : {d : ℕ} {g : List Standing} {w w' : Valuation} (t : MonoTree)
       → Apart whole own set base d g w w'
       → Apart whole own set base (suc d) (as_mono ∷ g) (den_mono t ∷ w) (den_mono t ∷ w')
-  next_mono t a = record {
+  next_mono {d = d} {w = w} {w' = w'} t a = record {
     here = a.here;
     pinned_here = a.pinned_here;
-    others = further (den_mono t) a.others;
-    along = further_along (den_mono t) a.along;
+    others = further d w w' (den_mono t) a.others;
+    along = further_along base d w (den_mono t) a.along;
     valued = (valued_other (den_mono t) a.valued).0;
   }
 
@@ -147,25 +147,25 @@ pinned_fixed sk_c t i k set f d = refl
 pinned_fixed (sk_arrow r s) t i k set f d = refl
 pinned_fixed (sk_all s) t i k set f d = refl
 
-pub agreed_applied : {e : HeadEntries} {w w' : Valuation} {s t : Skeleton} {pending : List Argument} {x y : ValuationEntry} {argument : TermTree}
+pub agreed_applied : {e : HeadEntries} {w : Valuation} (w' : Valuation) {s t : Skeleton} {pending : List Argument} {x y : ValuationEntry} {argument : TermTree}
     → Agreeing e w (sk_arrow s t) (of_term argument ∷ pending) x y
     → IsOf (sk_arrow s t) x
     → term_den e w argument s ≡ term_den e w' argument s
     → Agreeing e w t pending (applied_entry x (term_den e w argument)) (applied_entry y (term_den e w' argument))
-agreed_applied {e = e} {w = w} {w' = w'} {argument = argument} (agree_same q) o r =
+agreed_applied {e = e} {w = w} w' {argument = argument} (agree_same q) o r =
     agree_same (sym (applied_same (term_den e w argument) (term_den e w' argument) o (sym q) (sym r)))
-agreed_applied {e = e} {w = w} {w' = w'} {argument = argument} (agree_own f c (passes_value {t = t} pass) (denote_value {set = set} m) p q) o r =
+agreed_applied {e = e} {w = w} w' {argument = argument} (agree_own f c (passes_value {t = t} pass) (denote_value {set = set} m) p q) o r =
     let parts = arrow_parts c in
     agree_own (f (term_den e w argument sk_o)) (parts.1) pass m (ap (λ v. applied_entry v (term_den e w argument)) p)
     (ap (λ v. applied_entry v (term_den e w' argument)) q
     ∙ ap (λ v. den_term t (pinned t set (f v))) (sym (subst (λ u. term_den e w argument u ≡ term_den e w' argument u) (parts.0) r)))
-agreed_applied (agree_own f c (passes_value pass) (denote_fixed i d m) p q) o r = absurd i
-agreed_applied {e = e} {w = w} {w' = w'} {argument = argument} (agree_own f c (passes_fixed {t = t} pass) (denote_value {set = set} m) p q) o r =
+agreed_applied w' (agree_own f c (passes_value pass) (denote_fixed i d m) p q) o r = absurd i
+agreed_applied {e = e} {w = w} w' {argument = argument} (agree_own f c (passes_fixed {t = t} pass) (denote_value {set = set} m) p q) o r =
     let parts = arrow_parts c in
     agree_own (f (term_den e w argument sk_o)) (parts.1) pass m (ap (λ v. applied_entry v (term_den e w argument)) p)
     (ap (λ v. applied_entry v (term_den e w' argument)) q
     ∙ ap (λ v. den_term t (pinned t set (f v))) (sym (subst (λ u. term_den e w argument u ≡ term_den e w' argument u) (parts.0) r)))
-agreed_applied {e = e} {w = w} {w' = w'} {argument = argument} (agree_own f c (passes_fixed {s = s} {t = t} pass) (denote_fixed {x = k} {set = set} i d m) p q) o r =
+agreed_applied {e = e} {w = w} w' {argument = argument} (agree_own f c (passes_fixed {s = s} {t = t} pass) (denote_fixed {x = k} {set = set} i d m) p q) o r =
     agree_own (f (k s)) ((arrow_parts c).1) pass m
     (ap (λ v. applied_entry v (term_den e w argument)) p ∙ ap (λ v. den_term t (f v)) d)
     (ap (λ v. applied_entry v (term_den e w' argument)) q ∙ ap (den_term t) (pinned_fixed s t i k set f (term_den e w' argument s)))

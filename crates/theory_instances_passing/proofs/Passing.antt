@@ -43,20 +43,20 @@ module _ (heads : Heads) (e : HeadEntries) (h : HeadsValued heads e) (whole : Sk
     term_agrees n_loc a m = refl
     term_agrees n_unit a m = refl
     term_agrees {d = d} (n_pair {left = left} {right = right} b c) a m =
-        let r = both (met_in_term d [] left) (met_in_term d [] right) m in
+        let r = both whole params (met_in_term d [] left) (met_in_term d [] right) m in
         λ j. v_pair (term_agrees b a (r.0) j) (term_agrees c a (r.1) j)
     term_agrees (n_fst b q) a m = λ j. value_or_unit (value_of_fst (term_agrees b a m j))
     term_agrees (n_snd b q) a m = λ j. value_or_unit (value_of_snd (term_agrees b a m j))
     term_agrees (n_not b q) a m = λ j. value_or_unit (value_of_not (term_agrees b a m j))
     term_agrees {d = d} (n_bin {op = op} {left = left} {right = right} b c q) a m =
-        let r = both (met_in_term d [] left) (met_in_term d [] right) m in
+        let r = both whole params (met_in_term d [] left) (met_in_term d [] right) m in
         λ j. value_or_unit (value_of_op op (term_agrees b a (r.0) j) (term_agrees c a (r.1) j))
     term_agrees {d = d} (n_eq {mono = mono} {left = left} {right = right} t b c q) a m =
-        let r = both (met_in_term d [] left) (met_in_term d [] right) m in
+        let r = both whole params (met_in_term d [] left) (met_in_term d [] right) m in
         λ j. value_or_unit (value_of_eq (mono_agrees a mono j) (term_agrees b a (r.0) j) (term_agrees c a (r.1) j))
     term_agrees {d = d} (n_sel {test = test} {on_true = on_true} {on_false = on_false} t b c f q) a m =
-        let r = both (met_in_term d [] test) (met_in_term d [] on_true ++ met_in_term d [] on_false) m in
-        let k = both (met_in_term d [] on_true) (met_in_term d [] on_false) (r.1) in
+        let r = both whole params (met_in_term d [] test) (met_in_term d [] on_true ++ met_in_term d [] on_false) m in
+        let k = both whole params (met_in_term d [] on_true) (met_in_term d [] on_false) (r.1) in
         λ j. value_or_unit (value_of_sel (term_agrees b a (r.0) j) (term_agrees c a (k.0) j) (term_agrees f a (k.1) j))
     term_agrees (n_lam {s = s} b) a m = λ j x. term_agrees b (next_term s x a) m j
     term_agrees (n_lam_t b) a m = λ j t. term_agrees b (next_mono t a) m j
@@ -71,7 +71,7 @@ module _ (heads : Heads) (e : HeadEntries) (h : HeadsValued heads e) (whole : Sk
         → terms_den e w terms ≡ terms_den e w' terms
     terms_agree n_no_terms a m = refl
     terms_agree {d = d} (n_more_terms {term = term} {others = others} b c) a m =
-        let r = both (met_in_term d [] term) (met_in_terms d others) m in
+        let r = both whole params (met_in_term d [] term) (met_in_terms d others) m in
         λ j. term_agrees b a (r.0) j ∷ terms_agree c a (r.1) j
 
     head_agrees : {term : TermTree} {s : Skeleton} {d : ℕ} {g : List Standing} {w w' : Valuation}
@@ -84,7 +84,7 @@ module _ (heads : Heads) (e : HeadEntries) (h : HeadsValued heads e) (whole : Sk
         elim (a.others index) [
           inl q ↦ agree_own own
               (ap skeleton_of_entry (sym (a.valued.at index s stands).is ∙ ap (entry_at w) q ∙ a.here))
-              (own_met d index pending q m) (denote_within a denoted)
+              (own_met whole params d index pending q m) (denote_within a denoted)
               (ap (entry_at w) q ∙ a.here)
               (ap (entry_at w') q ∙ a.pinned_here)
         | inr q ↦ agree_same q
@@ -95,9 +95,9 @@ module _ (heads : Heads) (e : HeadEntries) (h : HeadsValued heads e) (whole : Sk
         agree_same (ap (fix_entry e w fix) (fix_is_of b)
         ∙ (λ j. den_term s (recursion s (λ (c : Domain s). fix_agrees b c a m j)))
         ∙ sym (ap (fix_entry e w' fix) (fix_is_of b)))
-    head_agrees {d = d} {w = w} (e_app {function = function} {argument = argument} b c) a pending m =
-        let r = both (met_in_term d (of_term argument ∷ pending) function) (met_in_term d [] argument) m in
-        agreed_applied (head_agrees b a (of_term argument ∷ pending) (r.0)) (head_is_of h a.valued b) (term_agrees c a (r.1))
+    head_agrees {d = d} {w = w} {w' = w'} (e_app {function = function} {argument = argument} b c) a pending m =
+        let r = both whole params (met_in_term d (of_term argument ∷ pending) function) (met_in_term d [] argument) m in
+        agreed_applied w' (head_agrees b a (of_term argument ∷ pending) (r.0)) (head_is_of h a.valued b) (term_agrees c a (r.1))
     head_agrees (e_inst {mono = mono} b t) a pending m = agreed_instance (head_agrees b a (of_mono mono ∷ pending) m) (mono_agrees a mono)
 
     fix_agrees : {fix : FixTree} {inner s : Skeleton} {d : ℕ} {g : List Standing} {w w' : Valuation}
@@ -107,10 +107,10 @@ module _ (heads : Heads) (e : HeadEntries) (h : HeadsValued heads e) (whole : Sk
         → EachOwn whole params (met_in_fix d fix)
         → fix_den e w (den_term inner c) fix s ≡ fix_den e w' (den_term inner c) fix s
     fix_agrees {d = d} (n_param {s = s} {ty = ty} {others = others} b q rest) c a m =
-        let r = both (met_in_ty d ty) (met_in_fix (suc d) others) m in
+        let r = both whole params (met_in_ty d ty) (met_in_fix (suc d) others) m in
         λ j x. fix_agrees rest c (next_term s x a) (r.1) j
     fix_agrees {d = d} (n_body {whole = inner} {spec = spec} {comp = comp} b rest) c a m =
-        let r = both (met_in_triple d spec) (met_in_comp (suc d) comp) m in
+        let r = both whole params (met_in_triple d spec) (met_in_comp (suc d) comp) m in
         comp_agrees rest (next_term inner c a) (r.1)
 
     pub comp_agrees : {comp : CompTree} {d : ℕ} {g : List Standing} {w w' : Valuation}
@@ -120,7 +120,7 @@ module _ (heads : Heads) (e : HeadEntries) (h : HeadsValued heads e) (whole : Sk
         → comp_den e w comp ≡ comp_den e w' comp
     comp_agrees (n_ret b) a m = λ j n l cs. ended (term_agrees b a m j) l cs
     comp_agrees {d = d} (n_step {step = step} {others = others} b c) a m =
-        let r = both (met_in_step d step) (met_in_comp (suc d) others) m in
+        let r = both whole params (met_in_step d step) (met_in_comp (suc d) others) m in
         λ j n l cs. then_outcome (step_agrees b a (r.0) j n l cs) (λ v i ds. comp_agrees c (next_term sk_o v a) (r.1) j n i ds)
 
     step_agrees : {step : StepTree} {d : ℕ} {g : List Standing} {w w' : Valuation}
@@ -132,10 +132,10 @@ module _ (heads : Heads) (e : HeadEntries) (h : HeadsValued heads e) (whole : Sk
     step_agrees (n_alloc t b) a m = λ j n l cs. alloc_outcome (term_agrees b a m j) l cs
     step_agrees (n_get {mono = mono} t b) a m = λ j n l cs. get_outcome (mono_agrees a mono j) (term_agrees b a m j) l cs
     step_agrees {d = d} (n_set {mono = mono} {place = place} {value = value} t b c) a m =
-        let r = both (met_in_term d [] place) (met_in_term d [] value) m in
+        let r = both whole params (met_in_term d [] place) (met_in_term d [] value) m in
         λ j n l cs. set_outcome (mono_agrees a mono j) (term_agrees b a (r.0) j) (term_agrees c a (r.1) j) l cs
     step_agrees (n_free {mono = mono} t b) a m = λ j n l cs. free_outcome (mono_agrees a mono j) (term_agrees b a m j) l cs
     step_agrees {d = d} (n_if {test = test} {on_true = on_true} {on_false = on_false} t b c f) a m =
-        let r = both (met_in_term d [] test) (met_in_comp d on_true ++ met_in_comp d on_false) m in
-        let k = both (met_in_comp d on_true) (met_in_comp d on_false) (r.1) in
+        let r = both whole params (met_in_term d [] test) (met_in_comp d on_true ++ met_in_comp d on_false) m in
+        let k = both whole params (met_in_comp d on_true) (met_in_comp d on_false) (r.1) in
         λ j n l cs. branch_outcome (term_agrees b a (r.0) j) (comp_agrees c a (k.0) j n l cs) (comp_agrees f a (k.1) j n l cs)

@@ -115,7 +115,7 @@ each_own : (s : Skeleton) (params : List TermTree) (xs : List Occurrence)
     → All (λ (o : Occurrence). OwnPasses s params true o) (filter (λ (o : Occurrence). nat_eq o.variable zero) xs)
     → EachOwn s params xs
 each_own s params [] m = tt
-each_own s params (x ∷ xs) m = by (nat_eq x.variable zero) m
+each_own s params (x ∷ xs) m = by (nat_eq x.variable zero) m (λ a. each_own s params xs a)
   where
     P : Occurrence → Type 0
     P o = OwnPasses s params true o
@@ -123,9 +123,9 @@ each_own s params (x ∷ xs) m = by (nat_eq x.variable zero) m
     own : List Occurrence
     own = filter (λ (o : Occurrence). nat_eq o.variable zero) xs
 
-    by : (b : Bool) → All P (cond b (x ∷ own) own) → OwnPasses s params b x × EachOwn s params xs
-    by true a = (All-head P x own a, each_own s params xs (All-tail P x own a))
-    by false a = (tt, each_own s params xs a)
+    by : (b : Bool) → All P (cond b (x ∷ own) own) → (All P own → EachOwn s params xs) → OwnPasses s params b x × EachOwn s params xs
+    by true a go = (All-head P x own a, go (All-tail P x own a))
+    by false a go = (tt, go a)
 
 skeleton_of_fix : (fix : FixTree) (s : Skeleton) {heads : Heads} {g : List Standing} {whole : Skeleton} → IsCanonicalFix heads g whole fix s → skeleton (fix_ty fix) ≡ s
 unfolding skeleton fix_ty
