@@ -57,7 +57,7 @@ unmoved : (g : List Standing) → KeepsStandings (λ n. n) g g
 unmoved g = record { at = λ n entry d. d }
 
 module _ {heads : Heads} {e : HeadEntries} {g0 g : List Standing} {w0 w : Valuation} (h : HeadsValued heads e) (z0 : ContextValued g0 w0) (z : ContextValued g w) where
-  fix_body : {number at : ℕ} {key : Key} {fix : FixTree} {s : Skeleton} {set : List AtEach} {results : List TermTree} {comp : CompTree}
+  fix_body : {number : ℕ} (at : ℕ) {key : Key} {fix : FixTree} {s : Skeleton} {set : List AtEach} {results : List TermTree} {comp : CompTree}
       → KeepsStandings (past_passed s) g0 g
       → AgreeAlong (past_passed s) w0 w
       → IsCanonicalFix heads g0 s fix s
@@ -70,7 +70,7 @@ module _ {heads : Heads} {e : HeadEntries} {g0 g : List Standing} {w0 w : Valuat
       → den_term sk_c (comp_den e w comp)
       ≡ applied_to (den_term s (fix_den e w0 (den_term s (recursion s (λ own. fix_den e w0 (den_term s own) fix s))) fix s)) (map (given e w) (arguments_within s key))
   unfolding term_den
-  fix_body {number = number} {at = at} {key = key} {fix = fix} {s = s} {set = set} {comp = comp} keeps along c never neutral arguments made puts =
+  fix_body {number = number} at {key = key} {fix = fix} {s = s} {set = set} {comp = comp} keeps along c never neutral arguments made puts =
       let own : FixTree = rename_fix (past_passed s) fix in
       let made_term : TermTree = made_of number s key in
       let c' : IsCanonicalFix heads g s own s = fix_renamed c keeps in
@@ -98,7 +98,7 @@ fixes_denote heads e g0 g w0 w h z0 z p number at key fix s set results comp q k
         is_own ∙ ap (λ (f : FixTree). rename_fix (past_passed (skeleton (fix_ty f))) f) (same_fix (sym r ∙ q))
         ∙ ap (λ (u : Skeleton). rename_fix (past_passed u) fix) (fix_ty_skeleton c) in
     let skeleton_of : skeleton (fix_ty (rename_fix (past_passed s) fix)) ≡ s = fix_ty_skeleton (fix_renamed c keeps) in
-    fix_body h z0 z keeps along c never neutral arguments made
+    fix_body h z0 z at keeps along c never neutral arguments made
     (subst (λ (u : Skeleton).
     Puts (opened_fix (rename_fix (past_passed s) fix)) (opened_skeleton u (rename_fix (past_passed s) fix))
     (arguments_within u key ++ of_term (eta (made_of number u key) (fix_ty (rename_fix (past_passed s) fix))) ∷ []) results (t_do comp)) skeleton_of
