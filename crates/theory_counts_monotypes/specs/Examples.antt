@@ -11,6 +11,8 @@ pub record WorkedCounts : Type 0 where
   pub cell : greatest_in_term (t_lam (t_do (c_step (s_alloc (m_pair m_word m_bool) (t_var 0)) (c_ret (t_var 0))))) ≡ 3
   -- fix f (n : word) : {tt} z : word {z =[word * (word * word)] z} . y <- f n; ret y: the postcondition has it
   pub written :
-      greatest_in_term (t_fix 9 (x_param (y_mono m_word)
-      (x_body (triple f_tt m_word (f_eq (m_pair m_word (m_pair m_word m_word)) (t_var 2) (t_var 2)))
-      (c_step (s_run (t_var 0) (Some m_word)) (c_ret (t_var 0)))))) ≡ 5
+      greatest_in_term (t_fix 9
+      (x_param (y_mono m_word) (x_body
+      (triple f_tt m_word (f_eq (m_pair m_word (m_pair m_word m_word)) (t_var 2) (t_var 2)))
+      (c_step (s_run (t_var 0) (Some m_word)) (c_ret (t_var 0))))))
+      ≡ 5

@@ -10,7 +10,8 @@ use Rattle.word_loader_code.specs.declared.code.Instr.TheVariants.{Mov, Alloc, G
 use Rattle.word_loader_code.specs.declared.code.Instr.TheVariants.{Tail}
 use Rattle.theory_flat.specs.Flat.{FlatTree, FlatStepTree, flat_ret, flat_step, flat_call, flat_alloc, flat_get}
 use Rattle.theory_flat.specs.Flat.{flat_set, flat_free, flat_if, Instance}
-use Rattle.theory_emission.specs.Terms.{Held, Emitted, EmittedTerms, standing_at, at_new_place, emit_term, emit_terms, moves}
+use Rattle.theory_emission.specs.Terms.{Held, Emitted, EmittedTerms, standing_at, at_new_place, emit_term, emit_terms}
+use Rattle.theory_emission.specs.Terms.{moves}
 use Rattle.theory_emission.specs.Terms.{width_of_parts}
 
 -- What becomes of the result: it is held at a place, as that of a branch is; it is returned; or it is
@@ -146,7 +147,8 @@ unfoldable mutual
 -- The parameters in order, from a place on, over what is held already.
 abbrev pub with_params : List Held → ℕ → List MonoTree → List Held
 with_params g place [] = g
-with_params g place (mono ∷ others) = with_params (record { place = place; mono = mono } ∷ g) (place + width mono) others
+with_params g place (mono ∷ others) =
+    with_params (record { place = place; mono = mono } ∷ g) (place + width mono) others
 
 abbrev pub width_of_monos : List MonoTree → ℕ
 width_of_monos [] = zero

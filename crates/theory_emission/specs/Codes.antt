@@ -25,7 +25,8 @@ pub data EmitRefusal : Type 0 where
 
 abbrev pub wide_function : ℕ → List Function → Option ℕ
 wide_function number [] = None
-wide_function number (f ∷ others) = if nat_lt word_limit f.locals then Some number else wide_function (suc number) others
+wide_function number (f ∷ others) =
+    if nat_lt word_limit f.locals then Some number else wide_function (suc number) others
 
 abbrev pub length_refusal : ℕ → Option EmitRefusal
 length_refusal count = if nat_lt instr_limit count then Some too_long else None

@@ -4,7 +4,8 @@ use Rattle.htt_syntax.specs.declared.mono.Op.TheVariants.{Add}
 use Rattle.htt_syntax.specs.Trees.{TermTree, m_word, m_unit, t_var, t_word, t_bool, t_unit, t_bin}
 use Rattle.word_loader_code.specs.declared.code.Code.{Code}
 use Rattle.word_loader_code.specs.declared.code.Instr.{Instr}
-use Rattle.word_loader_code.specs.declared.code.Instr.TheVariants.{Const, Mov, Op, Alloc, Get, Free, Jump, Jz, Call, Ret}
+use Rattle.word_loader_code.specs.declared.code.Instr.TheVariants.{Const, Mov, Op, Alloc, Get, Free, Jump, Jz, Call}
+use Rattle.word_loader_code.specs.declared.code.Instr.TheVariants.{Ret}
 use Rattle.word_loader_code.specs.declared.code.Instr.TheVariants.{Tail}
 use Rattle.word_loader_format.specs.Layout.{code_bytes}
 use Rattle.theory_flat.specs.Flat.{FlatTree, Instance, flat_ret, flat_step, flat_call, flat_if}
@@ -76,32 +77,26 @@ pub record WorkedCode : Type 0 where
             record { params = 0; locals = 1; result = 1; body = Const 0 7 ∷ Ret 0 ∷ [] } ∷ [];
       }
   -- branches in tail place are bodies, and others bring their results to one place
-  pub branches_end :
-      code_of (chosen (t_var 0))
+  pub branches_end : code_of (chosen (t_var 0))
       ≡ only 3 1 (Const 0 1 ∷ Jz 0 4 ∷ Const 1 1 ∷ Ret 1 ∷ Const 2 2 ∷ Ret 2 ∷ [])
-  pub branches_join :
-      code_of (chosen (t_bin Add (t_var 0) (t_word 1)))
-      ≡ only 6 1
-      (Const 0 1 ∷ Jz 0 5 ∷ Const 2 1 ∷ Mov 1 2 1 ∷ Jump 7 ∷ Const 3 2 ∷ Mov 1 3 1 ∷ Const 4 1 ∷ Op 5 0 1 4 ∷ Ret 5 ∷ [])
+  pub branches_join : code_of (chosen (t_bin Add (t_var 0) (t_word 1)))
+      ≡ only 6 1 (Const 0 1 ∷ Jz 0 5 ∷ Const 2 1 ∷ Mov 1 2 1 ∷ Jump 7 ∷ Const 3 2 ∷ Mov 1 3 1 ∷ Const 4 1 ∷ Op 5 0 1 4 ∷
+      Ret 5 ∷ [])
   pub none_refused : emit_refusal (code_of rep_flat) ≡ None
 
 pub record WorkedBytes : Type 0 where
   -- 33 bytes
-  pub sum_bytes :
-      code_bytes (first_code sum_flat)
-      ≡ 0x48 ∷ 0x54 ∷ 0x54 ∷ 0x57 ∷ 1 ∷ 1 ∷ 0 ∷ 0 ∷ 0 ∷ 0 ∷ 0 ∷ 1 ∷ 0 ∷ 1 ∷ 0 ∷ 2 ∷ 0 ∷ 0 ∷ 0 ∷ 0 ∷ 0 ∷ 0 ∷ 5 ∷ 0 ∷ 0 ∷ 0 ∷ 0 ∷
-      0 ∷ 0 ∷ 0 ∷ 0x0b ∷ 0 ∷ 0 ∷ []
-  pub sum_bytes_of_two :
-      code_bytes (code_of sum_flat)
-      ≡ 0x48 ∷ 0x54 ∷ 0x54 ∷ 0x57 ∷ 2 ∷ 1 ∷ 0 ∷ 0 ∷ 0 ∷ 0 ∷ 0 ∷ 1 ∷ 0 ∷ 1 ∷ 0 ∷ 2 ∷ 0 ∷ 0 ∷ 0 ∷ 0 ∷ 0 ∷ 0 ∷ 5 ∷ 0 ∷ 0 ∷ 0 ∷ 0 ∷
-      0 ∷ 0 ∷ 0 ∷ 0x0b ∷ 0 ∷ 0 ∷ []
+  pub sum_bytes : code_bytes (first_code sum_flat)
+      ≡ 0x48 ∷ 0x54 ∷ 0x54 ∷ 0x57 ∷ 1 ∷ 1 ∷ 0 ∷ 0 ∷ 0 ∷ 0 ∷ 0 ∷ 1 ∷ 0 ∷ 1 ∷ 0 ∷ 2 ∷ 0 ∷ 0 ∷ 0 ∷ 0 ∷ 0 ∷ 0 ∷ 5 ∷ 0 ∷ 0 ∷
+      0 ∷ 0 ∷ 0 ∷ 0 ∷ 0 ∷ 0x0b ∷ 0 ∷ 0 ∷ []
+  pub sum_bytes_of_two : code_bytes (code_of sum_flat)
+      ≡ 0x48 ∷ 0x54 ∷ 0x54 ∷ 0x57 ∷ 2 ∷ 1 ∷ 0 ∷ 0 ∷ 0 ∷ 0 ∷ 0 ∷ 1 ∷ 0 ∷ 1 ∷ 0 ∷ 2 ∷ 0 ∷ 0 ∷ 0 ∷ 0 ∷ 0 ∷ 0 ∷ 5 ∷ 0 ∷ 0 ∷
+      0 ∷ 0 ∷ 0 ∷ 0 ∷ 0 ∷ 0x0b ∷ 0 ∷ 0 ∷ []
   -- 52 bytes
-  pub cell_bytes :
-      code_bytes (code_of cell_flat)
-      ≡ 0x48 ∷ 0x54 ∷ 0x54 ∷ 0x57 ∷ 2 ∷ 1 ∷ 0 ∷ 0 ∷ 0 ∷ 0 ∷ 0 ∷ 3 ∷ 0 ∷ 1 ∷ 0 ∷ 5 ∷ 0 ∷ 0 ∷ 0 ∷ 0 ∷ 0 ∷ 0 ∷ 7 ∷ 0 ∷ 0 ∷ 0 ∷ 0 ∷
-      0 ∷ 0 ∷ 0 ∷ 4 ∷ 1 ∷ 0 ∷ 0 ∷ 0 ∷ 1 ∷ 0 ∷ 5 ∷ 2 ∷ 0 ∷ 1 ∷ 0 ∷ 1 ∷ 0 ∷ 7 ∷ 1 ∷ 0 ∷ 1 ∷ 0 ∷ 0x0b ∷ 2 ∷ 0 ∷ []
+  pub cell_bytes : code_bytes (code_of cell_flat)
+      ≡ 0x48 ∷ 0x54 ∷ 0x54 ∷ 0x57 ∷ 2 ∷ 1 ∷ 0 ∷ 0 ∷ 0 ∷ 0 ∷ 0 ∷ 3 ∷ 0 ∷ 1 ∷ 0 ∷ 5 ∷ 0 ∷ 0 ∷ 0 ∷ 0 ∷ 0 ∷ 0 ∷ 7 ∷ 0 ∷ 0 ∷
+      0 ∷ 0 ∷ 0 ∷ 0 ∷ 0 ∷ 4 ∷ 1 ∷ 0 ∷ 0 ∷ 0 ∷ 1 ∷ 0 ∷ 5 ∷ 2 ∷ 0 ∷ 1 ∷ 0 ∷ 1 ∷ 0 ∷ 7 ∷ 1 ∷ 0 ∷ 1 ∷ 0 ∷ 0x0b ∷ 2 ∷ 0 ∷ []
   -- 50 bytes, with a call in tail place
-  pub seven_bytes :
-      code_bytes (code_of seven_flat)
-      ≡ 0x48 ∷ 0x54 ∷ 0x54 ∷ 0x57 ∷ 2 ∷ 2 ∷ 0 ∷ 0 ∷ 0 ∷ 0 ∷ 0 ∷ 0 ∷ 0 ∷ 1 ∷ 0 ∷ 1 ∷ 0 ∷ 0 ∷ 0 ∷ 0 ∷ 0 ∷ 1 ∷ 0 ∷ 1 ∷ 0 ∷ 2 ∷ 0 ∷
-      0 ∷ 0 ∷ 0x0c ∷ 1 ∷ 0 ∷ 0 ∷ 0 ∷ 0 ∷ 0 ∷ 0 ∷ 0 ∷ 0 ∷ 7 ∷ 0 ∷ 0 ∷ 0 ∷ 0 ∷ 0 ∷ 0 ∷ 0 ∷ 0x0b ∷ 0 ∷ 0 ∷ []
+  pub seven_bytes : code_bytes (code_of seven_flat)
+      ≡ 0x48 ∷ 0x54 ∷ 0x54 ∷ 0x57 ∷ 2 ∷ 2 ∷ 0 ∷ 0 ∷ 0 ∷ 0 ∷ 0 ∷ 0 ∷ 0 ∷ 1 ∷ 0 ∷ 1 ∷ 0 ∷ 0 ∷ 0 ∷ 0 ∷ 0 ∷ 1 ∷ 0 ∷ 1 ∷ 0 ∷
+      2 ∷ 0 ∷ 0 ∷ 0 ∷ 0x0c ∷ 1 ∷ 0 ∷ 0 ∷ 0 ∷ 0 ∷ 0 ∷ 0 ∷ 0 ∷ 0 ∷ 7 ∷ 0 ∷ 0 ∷ 0 ∷ 0 ∷ 0 ∷ 0 ∷ 0 ∷ 0x0b ∷ 0 ∷ 0 ∷ []

@@ -11,7 +11,8 @@ use Rattle.theory_instances.specs.Calls.{ProgramVal}
 use Rattle.theory_instances.specs.Lists.{Refusal, RefusesInstances}
 use Rattle.theory_flat.specs.Flat.{Instance, HasFlatInstances}
 use Rattle.theory_emission.specs.Codes.{EmitRefusal, code_of, emit_refusal}
-use Rattle.theory_extraction.specs.Extraction.{HasVals, vals_none, vals_of_val, vals_of_other, program, HasCode, ExtractionRefusal, of_list, of_code, RefusesExtraction, refuses_list, refuses_code}
+use Rattle.theory_extraction.specs.Extraction.{HasVals, vals_none, vals_of_val, vals_of_other, program, HasCode, ExtractionRefusal, of_list, of_code}
+use Rattle.theory_extraction.specs.Extraction.{RefusesExtraction, refuses_list, refuses_code}
 use Rattle.theory_extraction_once.specs.Laws.{CodeIsOne}
 use Rattle.theory_extraction_once.proofs.Lists.{list_or_not, refusal_once, none_or_some}
 use Rattle.theory_extraction_once.proofs.Flat.{flat_instances_once}
@@ -29,7 +30,8 @@ vals_once {env = env} (vals_of_val {items = items} f h a rest) (vals_of_val {val
     λ j. record { ty = x j; term = (y.0) j } ∷ z j
 vals_once {env = env} (vals_of_val f h a rest) (vals_of_other (derives_val {ty' = t} g k b) q again) = absurd (no_longer env.vals t q)
 vals_once {env = env} (vals_of_other (derives_val {ty' = t} g k b) q again) (vals_of_val f h a rest) = absurd (no_longer env.vals t q)
-vals_once {env = env} (vals_of_other {next = next} {item = item} {owed = owed} {items = items} d q rest) (vals_of_other {next = next'} {owed = owed'} {vals = vals'} e r again) =
+vals_once {env = env} (vals_of_other {next = next} {item = item} {owed = owed} {items = items} d q rest)
+    (vals_of_other {next = next'} {owed = owed'} {vals = vals'} e r again) =
     let x = (items_give_one env item next next' owed owed' d e).0 in
     vals_once rest (subst (λ n. HasVals n items vals') (sym x) again)
 

@@ -6,8 +6,10 @@ use Rattle.theory_canonical.specs.Skeletons.{skeleton}
 use Rattle.theory_instances.specs.Calls.{Program, Site, head_of, arguments_of, passed_of, head_ty, list_of}
 use Rattle.theory_instances.specs.Keys.{Key, keys_of_head, keys_of_site, key_of_site, plain_key}
 use Rattle.theory_instances.specs.Lists.{Taken}
-use Rattle.theory_flat.specs.Flat.{FlatTree, FlatStepTree, flat_ret, flat_step, flat_call, flat_if, Instance, Names, names_key, names_made, Flattens, flattens_ret, flattens_step}
-use Rattle.theory_flat.specs.Flat.{FlattensStep, flattens_run, flattens_alloc, flattens_get, flattens_set, flattens_free, flattens_if, IsFlat, AreFlat, flat_none, flat_more, HasFlatInstances}
+use Rattle.theory_flat.specs.Flat.{FlatTree, FlatStepTree, flat_ret, flat_step, flat_call, flat_if, Instance, Names, names_key, names_made, Flattens}
+use Rattle.theory_flat.specs.Flat.{flattens_ret, flattens_step}
+use Rattle.theory_flat.specs.Flat.{FlattensStep, flattens_run, flattens_alloc, flattens_get, flattens_set, flattens_free, flattens_if, IsFlat, AreFlat}
+use Rattle.theory_flat.specs.Flat.{flat_none, flat_more, HasFlatInstances}
 use Rattle.theory_extraction_once.specs.Laws.{InstancesAreOne}
 use Rattle.theory_extraction_once.proofs.Lists.{Distinct, lists_once, list_or_not, refusal_once, keys_distinct}
 
@@ -43,13 +45,17 @@ module _ {p : Program} {keys : List Key} (distinct : Distinct keys) where
     flat_once flattens_ret flattens_ret = refl
     flat_once (flattens_step a b) (flattens_step c d) = let x = step_once a c in let y = flat_once b d in λ j. flat_step (x j) (y j)
 
-    step_once : {g : List MonoTree} {step : StepTree} {flat other : FlatStepTree} → FlattensStep p keys g step flat → FlattensStep p keys g step other → flat ≡ other
+    step_once : {g : List MonoTree} {step : StepTree} {flat other : FlatStepTree}
+        → FlattensStep p keys g step flat
+        → FlattensStep p keys g step other
+        → flat ≡ other
     step_once (flattens_run a) (flattens_run b) = let x = names_once a b in λ j. flat_call ((x.0) j) ((x.1) j)
     step_once flattens_alloc flattens_alloc = refl
     step_once flattens_get flattens_get = refl
     step_once flattens_set flattens_set = refl
     step_once flattens_free flattens_free = refl
-    step_once (flattens_if {mono = mono} {test = test} a b) (flattens_if c d) = let x = flat_once a c in let y = flat_once b d in λ j. flat_if mono test (x j) (y j)
+    step_once (flattens_if {mono = mono} {test = test} a b) (flattens_if c d) =
+        let x = flat_once a c in let y = flat_once b d in λ j. flat_if mono test (x j) (y j)
 
   instance_once : {taken : Taken} {instance other : Instance} → IsFlat p keys taken instance → IsFlat p keys taken other → instance ≡ other
   instance_once a b =

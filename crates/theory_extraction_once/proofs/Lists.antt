@@ -4,8 +4,10 @@ use Rattle.std.proofs.lemmas.Option.{same_Some}
 use Rattle.htt_syntax.specs.Trees.{TripleTree, y_hoare}
 use Rattle.theory_instances.specs.Calls.{ProgramVal, Program}
 use Rattle.theory_instances.specs.Keys.{Key, IsSameKey, plain_key}
-use Rattle.theory_instances.specs.Lists.{Refusal, IsKnownAs, IsNew, instance_limit, Meets, meets_none, meets_known, meets_new, MeetsTooMany, too_many_here, too_many_past_known}
-use Rattle.theory_instances.specs.Lists.{too_many_past_new, keys_met, Taken, TakesUp, RefusesUp, TakesAll, takes_end, takes_next, RefusesAll, refuses_up, refuses_calls, refuses_later}
+use Rattle.theory_instances.specs.Lists.{Refusal, IsKnownAs, IsNew, instance_limit, Meets, meets_none, meets_known, meets_new, MeetsTooMany, too_many_here}
+use Rattle.theory_instances.specs.Lists.{too_many_past_known}
+use Rattle.theory_instances.specs.Lists.{too_many_past_new, keys_met, Taken, TakesUp, RefusesUp, TakesAll, takes_end, takes_next, RefusesAll, refuses_up}
+use Rattle.theory_instances.specs.Lists.{refuses_calls, refuses_later}
 use Rattle.theory_instances.specs.Lists.{main_key, IsMain, HasInstances, RefusesInstances, refuses_no_main, refuses_parameters, refuses_list}
 use Rattle.theory_extraction_once.proofs.Taken.{taken_once, up_once, up_or_not}
 
@@ -32,7 +34,10 @@ module _ {p : Program} where
   up_at : {number : ℕ} {key other : Key} {taken : Taken} → key ≡ other → TakesUp p number other taken → TakesUp p number key taken
   up_at {number = number} {taken = taken} q u = subst (λ k. TakesUp p number k taken) (sym q) u
 
-  met_by : {keys after : List Key} {taken other : Taken} → taken ≡ other → Meets keys (keys_met p other.params other.body) after → Meets keys (keys_met p taken.params taken.body) after
+  met_by : {keys after : List Key} {taken other : Taken}
+      → taken ≡ other
+      → Meets keys (keys_met p other.params other.body) after
+      → Meets keys (keys_met p taken.params taken.body) after
   met_by {keys = keys} {after = after} q m = subst (λ (t : Taken). Meets keys (keys_met p t.params t.body) after) (sym q) m
 
   pub takes_once : {keys final other : List Key} {number : ℕ} {rows more : List Taken}
@@ -42,13 +47,17 @@ module _ {p : Program} where
   takes_once (takes_end q) (takes_end r) = (refl, refl)
   takes_once (takes_end q) (takes_next r u m rest) = absurd (none_or_some (sym q ∙ r))
   takes_once (takes_next r u m rest) (takes_end q) = absurd (none_or_some (sym q ∙ r))
-  takes_once {number = number} (takes_next {key = key} {taken = taken} r u m rest) (takes_next {key = key'} {taken = taken'} {others = others'} {final = final'} s v n again) =
+  takes_once {number = number} (takes_next {key = key} {taken = taken} r u m rest)
+      (takes_next {key = key'} {taken = taken'} {others = others'} {final = final'} s v n again) =
       let same = taken_once u (up_at (same_Some key key' (sym r ∙ s)) v) in
       let after = meets_once m (met_by same n) in
       let one = takes_once rest (subst (λ l. TakesAll p l (suc number) others' final') (sym after) again) in
       ((λ j. same j ∷ (one.0) j), one.1)
 
-  pub refused_once : {keys : List Key} {number : ℕ} {refusal other : Refusal} → RefusesAll p keys number refusal → RefusesAll p keys number other → refusal ≡ other
+  pub refused_once : {keys : List Key} {number : ℕ} {refusal other : Refusal}
+      → RefusesAll p keys number refusal
+      → RefusesAll p keys number other
+      → refusal ≡ other
   refused_once {number = number} (refuses_up {key = key} q u) (refuses_up {key = key'} {refusal = y} r v) =
       up_once u (subst (λ k. RefusesUp p number k y) (sym (same_Some key key' (sym q ∙ r))) v)
   refused_once {number = number} (refuses_up {key = key} {refusal = x} q u) (refuses_calls {key = key'} r v m) =
@@ -68,7 +77,10 @@ module _ {p : Program} where
       let after = meets_once m (met_by (taken_once u (up_at (same_Some key key' (sym q ∙ r)) v)) n) in
       refused_once rest (subst (λ l. RefusesAll p l (suc number) y) (sym after) again)
 
-  pub takes_or_not : {keys final : List Key} {number : ℕ} {rows : List Taken} {refusal : Refusal} → TakesAll p keys number rows final → RefusesAll p keys number refusal → ⊥
+  pub takes_or_not : {keys final : List Key} {number : ℕ} {rows : List Taken} {refusal : Refusal}
+      → TakesAll p keys number rows final
+      → RefusesAll p keys number refusal
+      → ⊥
   takes_or_not (takes_end q) (refuses_up r v) = none_or_some (sym q ∙ r)
   takes_or_not (takes_end q) (refuses_calls r v n) = none_or_some (sym q ∙ r)
   takes_or_not (takes_end q) (refuses_later r v n rest) = none_or_some (sym q ∙ r)
@@ -97,7 +109,12 @@ module _ {p : Program} where
       takes_or_not a.all (subst (λ n. RefusesAll p (main_key n ∷ []) zero refusal) (main_once m a.main) r)
 
   -- the reason is one
-  main_or_not : {n number : ℕ} {val : ProgramVal} → IsMain p n → p.main ≡ Some number → slice_get p.vals number ≡ Some val → ((spec : TripleTree) → val.ty ≢ y_hoare spec) → ⊥
+  main_or_not : {n number : ℕ} {val : ProgramVal}
+      → IsMain p n
+      → p.main ≡ Some number
+      → slice_get p.vals number ≡ Some val
+      → ((spec : TripleTree) → val.ty ≢ y_hoare spec)
+      → ⊥
   main_or_not {n = n} {number = number} {val = val} m q there d =
       let same = same_Some number n (sym q ∙ m.named) in
       let v = same_Some val m.val (sym there ∙ ap (λ k. slice_get p.vals k) same ∙ m.there) in

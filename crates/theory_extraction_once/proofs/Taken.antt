@@ -12,8 +12,10 @@ use Rattle.theory_substitution.proofs.Once.{app_once}
 use Rattle.theory_instances.specs.Calls.{ProgramVal, Program, Argument, of_term, fix_ty}
 use Rattle.theory_instances.specs.Occurrences.{Occurrence}
 use Rattle.theory_instances.specs.Keys.{Key}
-use Rattle.theory_instances.specs.Bodies.{Puts, puts_none, puts_term, puts_mono, opened_fix, opened_skeleton, arguments_within, past_passed, made_of, HasBody, body_of_val, body_of_fix}
-use Rattle.theory_instances.specs.Varying.{PassesOn, passes_value, passes_fixed, VariesAt, varies_here, varies_past_value, varies_past_fixed, PassesOnAt, NeverVaries, Varies, own_occurrences, expanded_at}
+use Rattle.theory_instances.specs.Bodies.{Puts, puts_none, puts_term, puts_mono, opened_fix, opened_skeleton, arguments_within, past_passed, made_of, HasBody}
+use Rattle.theory_instances.specs.Bodies.{body_of_val, body_of_fix}
+use Rattle.theory_instances.specs.Varying.{PassesOn, passes_value, passes_fixed, VariesAt, varies_here, varies_past_value, varies_past_fixed, PassesOnAt}
+use Rattle.theory_instances.specs.Varying.{NeverVaries, Varies, own_occurrences, expanded_at}
 use Rattle.theory_instances.specs.Lists.{Refusal, is_varying, result_refusal, mono_refusal, Taken, TakesUp, RefusesUp, up_varies, up_result, up_mono}
 
 pub no_fix : {n a : ℕ} {f : FixTree} → t_val n ≡ t_fix a f → ⊥
@@ -55,14 +57,18 @@ pub body_once : {p : Program} {number : ℕ} {key : Key} {results more : List Te
     → (results ≡ more) × (comp ≡ other)
 body_once {p = p} {key = key} {more = more} {other = other} (body_of_val {n = n} {v = v} q found puts) (body_of_val {n = m} {v = u} r there again) =
     let same : u ≡ v = same_Some u v (sym there ∙ ap (λ k. slice_get p.vals k) (same_val (sym r ∙ q)) ∙ found) in
-    let one = puts_once refl puts (subst (λ (x : ProgramVal). Puts x.term (skeleton x.ty) (arguments_within (skeleton x.ty) key) more (t_do other)) same again) in
+    let one =
+    puts_once refl puts
+    (subst (λ (x : ProgramVal). Puts x.term (skeleton x.ty) (arguments_within (skeleton x.ty) key) more (t_do other)) same again) in
     (one.0, same_do (one.1))
-body_once {number = number} {key = key} {more = more} {other = other} (body_of_fix {fix = fix} {own = own} q is_own puts) (body_of_fix {fix = fix'} {own = own'} r is_own' again) =
+body_once {number = number} {key = key} {more = more} {other = other} (body_of_fix {fix = fix} {own = own} q is_own puts)
+    (body_of_fix {fix = fix'} {own = own'} r is_own' again) =
     let same : own' ≡ own =
         is_own' ∙ ap (λ (f : FixTree). rename_fix (past_passed (skeleton (fix_ty f))) f) (same_fix (sym r ∙ q)) ∙ sym is_own in
     let one = puts_once refl puts (subst (λ (o : FixTree).
         Puts (opened_fix o) (opened_skeleton (skeleton (fix_ty o)) o)
-        (arguments_within (skeleton (fix_ty o)) key ++ of_term (eta (made_of number (skeleton (fix_ty o)) key) (fix_ty o)) ∷ []) more (t_do other)) same again) in
+        (arguments_within (skeleton (fix_ty o)) key ++ of_term (eta (made_of number (skeleton (fix_ty o)) key) (fix_ty o)) ∷ []) more
+        (t_do other)) same again) in
     (one.0, same_do (one.1))
 body_once (body_of_val q found puts) (body_of_fix r own again) = absurd (no_fix (sym q ∙ r))
 body_once (body_of_fix q own puts) (body_of_val r found again) = absurd (no_fix (sym r ∙ q))

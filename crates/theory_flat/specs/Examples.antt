@@ -76,14 +76,11 @@ pub record WorkedReadings : Type 0 where
   -- a call takes one fuel
   pub call_lacks_fuel : flat_run seven_flat 0 0 [] empty_heap [] ≡ out_of_fuel
   pub call_ends : flat_run seven_flat 1 0 [] empty_heap [] ≡ ended (v_word 7) empty_heap []
-  pub pairs :
-      flat_run dup_flat 1 0 [] empty_heap []
-      ≡ ended
-      (v_pair (v_pair (v_word 3) (v_word 3)) (v_pair (v_pair (v_word 4) (v_bool true)) (v_pair (v_word 4) (v_bool true))))
-      empty_heap []
+  pub pairs : flat_run dup_flat 1 0 [] empty_heap []
+      ≡ ended (v_pair (v_pair (v_word 3) (v_word 3))
+      (v_pair (v_pair (v_word 4) (v_bool true)) (v_pair (v_word 4) (v_bool true)))) empty_heap []
   -- two empty blocks at 1 and 2, with one choice over, and with one too few
-  pub blocks_differ :
-      flat_run blocks_flat 0 0 [] empty_heap (1 ∷ 2 ∷ 3 ∷ [])
+  pub blocks_differ : flat_run blocks_flat 0 0 [] empty_heap (1 ∷ 2 ∷ 3 ∷ [])
       ≡ ended (v_bool false) (with_block (with_block empty_heap 1 []) 2 []) (3 ∷ [])
   pub blocks_ask : flat_run blocks_flat 0 0 [] empty_heap (1 ∷ []) ≡ asking
   -- seven calls: of rep, and of the loop from 5 down to 0

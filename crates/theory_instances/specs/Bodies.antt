@@ -21,7 +21,8 @@ filled_further f mono (suc n) = f n
 -- The monotypes of the arguments that are passed, and that of the result, where the type's own monotype
 -- variables are filled by the fixed arguments.
 abbrev pub passed_monos : Filling → TyTree → List Argument → List MonoTree
-passed_monos f (y_fun (y_mono mono) answer) fixed = fill_mono f mono ∷ passed_monos (filled_further f m_unit) answer fixed
+passed_monos f (y_fun (y_mono mono) answer) fixed =
+    fill_mono f mono ∷ passed_monos (filled_further f m_unit) answer fixed
 passed_monos f (y_fun argument answer) (x ∷ fixed) = passed_monos (filled_further f m_unit) answer fixed
 passed_monos f (y_all body) (of_mono mono ∷ fixed) = passed_monos (filled_further f mono) body fixed
 passed_monos f ty fixed = []
@@ -44,7 +45,8 @@ result_of p key = result_mono m_var (head_ty p key.head) key.fixed
 -- A function is given arguments, one after the other: what is left of it after each, and after all.
 pub data Puts : TermTree → Skeleton → List Argument → List TermTree → TermTree → Type 0 where
   puts_none : {function : TermTree} {s : Skeleton} → Puts function s [] [] function
-  puts_term : {function argument next last : TermTree} {s t : Skeleton} {others : List Argument} {results : List TermTree}
+  puts_term : {function argument next last : TermTree} {s t : Skeleton} {others : List Argument}
+      {results : List TermTree}
       → App function s argument next
       → Puts next t others results last
       → Puts function (sk_arrow s t) (of_term argument ∷ others) (next ∷ results) last
@@ -85,6 +87,6 @@ pub data HasBody (p : Program) (number : ℕ) (key : Key) : List TermTree → Co
       → key.head ≡ t_fix at fix
       → own ≡ rename_fix (past_passed (skeleton (fix_ty fix))) fix
       → Puts (opened_fix own) (opened_skeleton (skeleton (fix_ty own)) own)
-      (arguments_within (skeleton (fix_ty own)) key
-      ++ of_term (eta (made_of number (skeleton (fix_ty own)) key) (fix_ty own)) ∷ []) results (t_do comp)
+      (arguments_within (skeleton (fix_ty own)) key ++
+      of_term (eta (made_of number (skeleton (fix_ty own)) key) (fix_ty own)) ∷ []) results (t_do comp)
       → HasBody p number key results comp

@@ -2,7 +2,8 @@
 -- argument that is a function, a family over monotypes or a computation, is fixed.
 use Rattle.std.specs.Prelude.{ℕ, zero, suc, List, [], ◌∷◌, ◌++◌, map, Option, Some, None, slice_get}
 use Rattle.htt_syntax.specs.Trees.{MonoTree, TyTree, TermTree, FixTree, CompTree, StepTree, TermTrees, m_loc, m_unit}
-use Rattle.htt_syntax.specs.Trees.{y_mono, y_fun, y_hoare, t_var, t_val, t_app, t_inst, t_fix, x_param, x_body, c_ret, c_step}
+use Rattle.htt_syntax.specs.Trees.{y_mono, y_fun, y_hoare, t_var, t_val, t_app, t_inst, t_fix, x_param, x_body, c_ret}
+use Rattle.htt_syntax.specs.Trees.{c_step}
 use Rattle.htt_syntax.specs.Trees.{s_run, s_alloc, s_get, s_if, no_terms, more_terms}
 use Rattle.theory_renaming.specs.Renaming.{Map, rename_mono, rename_term}
 use Rattle.theory_canonical.specs.Skeletons.{Skeleton, sk_o, sk_arrow, sk_all}

@@ -2,13 +2,16 @@
 use Rattle.std.specs.Prelude.{◌≡◌, ℕ, List, [], ◌∷◌, true, Some, None}
 use Rattle.htt_syntax.specs.declared.mono.Op.TheVariants.{Add, Sub}
 use Rattle.htt_syntax.specs.Trees.{MonoTree, TyTree, TermTree, FixTree, CompTree, m_word, m_bool, m_loc, m_unit, m_pair}
-use Rattle.htt_syntax.specs.Trees.{m_var, y_mono, y_fun, y_all, y_hoare, triple, t_var, t_val, t_app, t_inst, t_lam, t_lam_t}
-use Rattle.htt_syntax.specs.Trees.{t_do, t_fix, t_word, t_bool, t_unit, t_pair, t_bin, t_eq, t_made, x_param, x_body, c_ret}
+use Rattle.htt_syntax.specs.Trees.{m_var, y_mono, y_fun, y_all, y_hoare, triple, t_var, t_val, t_app, t_inst, t_lam}
+use Rattle.htt_syntax.specs.Trees.{t_lam_t}
+use Rattle.htt_syntax.specs.Trees.{t_do, t_fix, t_word, t_bool, t_unit, t_pair, t_bin, t_eq, t_made, x_param, x_body}
+use Rattle.htt_syntax.specs.Trees.{c_ret}
 use Rattle.htt_syntax.specs.Trees.{c_step, s_run, s_alloc, s_get, s_free, s_if, f_tt, f_eq, no_terms}
 use Rattle.theory_instances.specs.Calls.{Program, of_term, of_mono}
 use Rattle.theory_instances.specs.Keys.{Key, key_of_site}
 use Rattle.theory_instances.specs.Varying.{Varies}
-use Rattle.theory_instances.specs.Lists.{Taken, HasInstances, RefusesInstances, no_main, has_parameters, is_varying, main_key}
+use Rattle.theory_instances.specs.Lists.{Taken, HasInstances, RefusesInstances, no_main, has_parameters, is_varying}
+use Rattle.theory_instances.specs.Lists.{main_key}
 
 -- {tt} x : t {tt}
 abbrev pub always : MonoTree → TyTree
@@ -196,8 +199,11 @@ pub record WorkedInstances : Type 0 where
   -- the function that is passed varies: the byte of `fix`, and the first parameter
   pub changed_varies : RefusesInstances (rep changed) (is_varying 100 1)
   pub unnamed : RefusesInstances (record { vals = []; main = None }) no_main
-  pub function : RefusesInstances (record { vals = record { ty = y_fun (y_mono m_word) (always m_word);
-      term = t_lam (t_do (c_ret (t_var 0))) } ∷ []; main = Some 0 }) has_parameters
+  pub function :
+      RefusesInstances (record {
+        vals = record { ty = y_fun (y_mono m_word) (always m_word); term = t_lam (t_do (c_ret (t_var 0))) } ∷ [];
+        main = Some 0;
+      }) has_parameters
 
 pub record WorkedKeys : Type 0 where
   -- k is met first, in the precondition, and becomes the outer one of the two; the call is (fix f ..) 2

@@ -1,7 +1,7 @@
 -- Which instance a call names: its head with its fixed arguments, and the monotypes of the variables that
 -- these capture. The captured variables are numbered as they are first met, the first one being outermost.
-use Rattle.std.specs.Prelude.{◌≡◌, ℕ, zero, suc, List, [], ◌∷◌, ◌++◌, map, flat_map, if◌then◌else◌, nat_eq}
-use Rattle.std.specs.List.{list_any}
+use Rattle.std.specs.Prelude.{◌≡◌, ℕ, zero, suc, List, [], ◌∷◌, ◌++◌, map, flat_map, Bool, true, false}
+use Rattle.std.specs.Prelude.{if◌then◌else◌, nat_eq}
 use Rattle.htt_syntax.specs.Trees.{MonoTree, TyTree, TermTree, m_unit, t_val, t_fix}
 use Rattle.theory_renaming.specs.Renaming.{Map, rename_term}
 use Rattle.theory_canonical.specs.Skeletons.{Skeleton, skeleton}
@@ -17,10 +17,14 @@ pub record Key : Type 0 where
   pub fixed : List Argument
   pub captured : List MonoTree
 
+abbrev pub is_among : ℕ → List ℕ → Bool
+is_among n [] = false
+is_among n (m ∷ others) = if nat_eq n m then true else is_among n others
+
 -- The variables so far, the last met first, and then those of a list, each where it is met first.
 abbrev pub met_after : List ℕ → List ℕ → List ℕ
 met_after known [] = known
-met_after known (n ∷ others) = met_after (if list_any (nat_eq n) known then known else n ∷ known) others
+met_after known (n ∷ others) = met_after (if is_among n known then known else n ∷ known) others
 
 abbrev pub variables_met : TermTree → List Argument → List ℕ
 variables_met head fixed =
@@ -30,9 +34,9 @@ variables_met head fixed =
 abbrev pub captured_of : TermTree → List Argument → List ℕ
 captured_of head fixed = met_after [] (variables_met head fixed)
 
--- What index a captured variable has. What it says of another one is never used.
+-- What index a captured variable has. Another one, which doesn't occur, goes past all of them.
 abbrev pub number_in : List ℕ → Map
-number_in [] n = zero
+number_in [] n = n
 number_in (m ∷ others) n = if nat_eq n m then zero else suc (number_in others n)
 
 abbrev pub mono_at : List MonoTree → ℕ → MonoTree

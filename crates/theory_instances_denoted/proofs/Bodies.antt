@@ -24,7 +24,8 @@ use Rattle.theory_instances_passing.specs.Pinned.{AtEach, GivenArgument, given_t
 use Rattle.theory_instances_passing.proofs.Walked.{agrees}
 use Rattle.theory_instances_denoted.specs.Arguments.{CanonicalArguments}
 use Rattle.theory_instances_denoted.specs.Laws.{ValBodiesDenote, FixBodiesDenote, MadeIsPinned}
-use Rattle.theory_instances_denoted.proofs.Put.{put_denotes, given_append, opened_denotes, opened_canonical, opened_arguments, fix_ty_canonical, fix_ty_skeleton}
+use Rattle.theory_instances_denoted.proofs.Put.{put_denotes, given_append, opened_denotes, opened_canonical, opened_arguments, fix_ty_canonical}
+use Rattle.theory_instances_denoted.proofs.Put.{fix_ty_skeleton}
 
 same_val : {n m : ℕ} → t_val n ≡ t_val m → n ≡ m
 same_val q = cc
@@ -56,8 +57,10 @@ eta_denotes e w term ty v q =
 unmoved : (g : List Standing) → KeepsStandings (λ n. n) g g
 unmoved g = record { at = λ n entry d. d }
 
-module _ {heads : Heads} {e : HeadEntries} {g0 g : List Standing} {w0 w : Valuation} (h : HeadsValued heads e) (z0 : ContextValued g0 w0) (z : ContextValued g w) where
-  fix_body : {number : ℕ} (at : ℕ) {key : Key} {fix : FixTree} {s : Skeleton} {set : List AtEach} {results : List TermTree} {comp : CompTree}
+module _ {heads : Heads} {e : HeadEntries} {g0 g : List Standing} {w0 w : Valuation} (h : HeadsValued heads e) (z0 : ContextValued g0 w0)
+    (z : ContextValued g w) where
+  fix_body : {number : ℕ} (at : ℕ) {key : Key} {fix : FixTree} {s : Skeleton} {set : List AtEach} {results : List TermTree}
+      {comp : CompTree}
       → KeepsStandings (past_passed s) g0 g
       → AgreeAlong (past_passed s) w0 w
       → IsCanonicalFix heads g0 s fix s
@@ -68,7 +71,8 @@ module _ {heads : Heads} {e : HeadEntries} {g0 g : List Standing} {w0 w : Valuat
       → Puts (opened_fix (rename_fix (past_passed s) fix)) (opened_skeleton s (rename_fix (past_passed s) fix))
       (arguments_within s key ++ of_term (eta (made_of number s key) (fix_ty (rename_fix (past_passed s) fix))) ∷ []) results (t_do comp)
       → den_term sk_c (comp_den e w comp)
-      ≡ applied_to (den_term s (fix_den e w0 (den_term s (recursion s (λ own. fix_den e w0 (den_term s own) fix s))) fix s)) (map (given e w) (arguments_within s key))
+      ≡ applied_to (den_term s (fix_den e w0 (den_term s (recursion s (λ own. fix_den e w0 (den_term s own) fix s))) fix s))
+      (map (given e w) (arguments_within s key))
   unfolding term_den
   fix_body {number = number} at {key = key} {fix = fix} {s = s} {set = set} {comp = comp} keeps along c never neutral arguments made puts =
       let own : FixTree = rename_fix (past_passed s) fix in
@@ -93,7 +97,8 @@ module _ {heads : Heads} {e : HeadEntries} {g0 g : List Standing} {w0 w : Valuat
 pub fixes_denote : FixBodiesDenote
 fixes_denote heads e g0 g w0 w h z0 z p number at key fix s set results comp q keeps along c never neutral arguments made (body_of_val r found puts) =
     absurd (no_fix (sym r ∙ q))
-fixes_denote heads e g0 g w0 w h z0 z p number at key fix s set results comp q keeps along c never neutral arguments made (body_of_fix {fix = other} {own = own} r is_own puts) =
+fixes_denote heads e g0 g w0 w h z0 z p number at key fix s set results comp q keeps along c never neutral arguments made
+    (body_of_fix {fix = other} {own = own} r is_own puts) =
     let same : own ≡ rename_fix (past_passed s) fix =
         is_own ∙ ap (λ (f : FixTree). rename_fix (past_passed (skeleton (fix_ty f))) f) (same_fix (sym r ∙ q))
         ∙ ap (λ (u : Skeleton). rename_fix (past_passed u) fix) (fix_ty_skeleton c) in

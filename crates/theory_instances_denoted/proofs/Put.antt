@@ -27,7 +27,9 @@ pub put_denotes : {heads : Heads} {e : HeadEntries} {g : List Standing} {w : Val
     → CanonicalArguments heads g s arguments t
     → den_term t (term_den e w last t) ≡ applied_to (den_term s (term_den e w function s)) (map (given e w) arguments)
 put_denotes h z puts_none c arguments_none = refl
-put_denotes {heads = heads} {e = e} {g = g} {w = w} h z (puts_term {function = function} {argument = argument} {next = next} {s = s} {t = t} {others = others} a rest) c (arguments_term d more) =
+put_denotes {heads = heads} {e = e} {g = g} {w = w} h z
+    (puts_term {function = function} {argument = argument} {next = next} {s = s} {t = t} {others = others} a rest) c (arguments_term d more)
+    =
     put_denotes h z rest (app_result c d a) more
     ∙ ap (λ x. applied_to (den_term t x) (map (given e w) others)) (application.terms heads e g w h z function argument next s t a c d)
 put_denotes {heads = heads} {e = e} {g = g} {w = w} h z (puts_mono {body = body} {mono = mono} {s = s} {others = others} rest) c (arguments_mono d more) =
@@ -39,11 +41,12 @@ given_append e w [] ys = refl
 given_append e w (x ∷ xs) ys = λ j. given e w x ∷ given_append e w xs ys j
 
 -- a recursive function as a function of itself, last
-pub opened_denotes : {heads : Heads} {g : List Standing} {inner s : Skeleton} (e : HeadEntries) (fix : FixTree) (w : Valuation) (whole : Skeleton) (x : AtEach) (arguments : List GivenArgument)
-    (set : List AtEach)
+pub opened_denotes : {heads : Heads} {g : List Standing} {inner s : Skeleton} (e : HeadEntries) (fix : FixTree) (w : Valuation)
+    (whole : Skeleton) (x : AtEach) (arguments : List GivenArgument) (set : List AtEach)
     → IsCanonicalFix heads g inner fix s
     → Splits s arguments set
-    → applied_to (den_term (opened_skeleton whole fix) (term_den e w (opened_fix fix) (opened_skeleton whole fix))) (arguments ++ given_term x ∷ [])
+    → applied_to (den_term (opened_skeleton whole fix) (term_den e w (opened_fix fix) (opened_skeleton whole fix)))
+    (arguments ++ given_term x ∷ [])
     ≡ applied_to (den_term (skeleton (fix_ty fix)) (fix_den e w (den_term whole (x whole)) fix (skeleton (fix_ty fix)))) arguments
 unfolding term_den skeleton fix_ty opened_fix opened_skeleton
 opened_denotes e (x_param ty others) w whole x arguments set (n_param b q rest) (splits_value {argument = argument} {arguments = more} {set = set'} split) =
@@ -70,7 +73,9 @@ opened_arguments {heads = heads} {h = h} (n_param b q rest) (arguments_term {ter
     arguments_term (subst (IsCanonical heads h term) (sym q) d) (opened_arguments rest more c)
 opened_arguments (n_body b d) arguments_none c = arguments_term c arguments_none
 
-pub fix_ty_canonical : {heads : Heads} {fix : FixTree} {whole s : Skeleton} {g : List Standing} → IsCanonicalFix heads g whole fix s → IsCanonicalTy heads g (fix_ty fix)
+pub fix_ty_canonical : {heads : Heads} {fix : FixTree} {whole s : Skeleton} {g : List Standing}
+    → IsCanonicalFix heads g whole fix s
+    → IsCanonicalTy heads g (fix_ty fix)
 unfolding fix_ty
 fix_ty_canonical (n_param b q rest) = n_fun b q (fix_ty_canonical rest)
 fix_ty_canonical (n_body b c) = n_hoare b

@@ -36,11 +36,11 @@ ValBodiesDenote =
 -- The instance's own made function denotes its recursive function, whose fixed parameters are pinned to the
 -- key's arguments, whatever a call gives for them. The recursive function is valued with the captured
 -- variables, which w0 has; w has the passed ones before them.
-pub record MadeIsPinned (e : HeadEntries) (number : ℕ) (key : Key) (fix : FixTree) (s : Skeleton) (set : List AtEach)
-    (w0 w : Valuation) : Type 0 where
+pub record MadeIsPinned (e :
+    HeadEntries) (number : ℕ) (key : Key) (fix : FixTree) (s : Skeleton) (set : List AtEach) (w0 w : Valuation) :
+    Type 0 where
   pub splits : Splits s (map (given e w) (arguments_within s key)) set
-  pub is_pinned :
-      head_den e w (made_of number s key)
+  pub is_pinned : head_den e w (made_of number s key)
       ≡ den_term s (pinned s set (recursion s (λ own. fix_den e w0 (den_term s own) fix s)))
 
 -- The head is a recursive function that never varies: the body denotes its computation at the arguments, where
@@ -63,5 +63,6 @@ FixBodiesDenote =
     → MadeIsPinned e number key fix s set w0 w
     → HasBody p number key results comp
     → den_term sk_c (comp_den e w comp)
-    ≡ applied_to (den_term s (fix_den e w0 (den_term s (recursion s (λ own. fix_den e w0 (den_term s own) fix s))) fix s))
+    ≡ applied_to
+    (den_term s (fix_den e w0 (den_term s (recursion s (λ own. fix_den e w0 (den_term s own) fix s))) fix s))
     (map (given e w) (arguments_within s key))

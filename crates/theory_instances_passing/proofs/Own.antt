@@ -1,11 +1,13 @@
 -- Two valuations that differ in one entry, which is a recursive function, and the same with its fixed
 -- parameters pinned; and heads that are applied to what passes these on.
-use Rattle.std.proofs.Common.{◌≡◌, ℕ, zero, suc, ◌+◌, List, [], ◌∷◌, ◌++◌, map, Bool, true, false, nat_eq, Option, Some, None, ◌⊎◌, inl, inr, refl, sym, ap, ◌∙◌, subst, arith}
+use Rattle.std.proofs.Common.{◌≡◌, ℕ, zero, suc, ◌+◌, List, [], ◌∷◌, ◌++◌, map, Bool, true, false, nat_eq, Option, Some, None, ◌⊎◌, inl, inr, refl, sym, ap}
+use Rattle.std.proofs.Common.{◌∙◌, subst, arith}
 use Rattle.htt_syntax.specs.Trees.{MonoTree, TermTree, m_word, m_bool, m_loc, m_unit, m_pair, m_var}
 use Rattle.theory_renaming.specs.Renaming.{lifts, shifting, rename_term}
 use Rattle.theory_canonical.specs.Skeletons.{Skeleton, sk_o, sk_c, sk_arrow, sk_all}
 use Rattle.theory_canonical.specs.Contexts.{Standing, as_mono, as_term, Stands}
-use Rattle.theory_denotation.specs.Valuations.{Domain, ValuationEntry, den_mono, den_heap, den_term, Valuation, entry_at, mono_of_entry, applied_entry, instance_entry, mono_in}
+use Rattle.theory_denotation.specs.Valuations.{Domain, ValuationEntry, den_mono, den_heap, den_term, Valuation, entry_at, mono_of_entry, applied_entry}
+use Rattle.theory_denotation.specs.Valuations.{instance_entry, mono_in}
 use Rattle.theory_denotation.specs.Valuations.{HeadEntries}
 use Rattle.theory_denotation.specs.Denotation.{term_den}
 use Rattle.theory_denotation.specs.Valued.{IsOf, ContextValued}

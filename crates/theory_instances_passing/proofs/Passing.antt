@@ -21,15 +21,16 @@ use Rattle.theory_instances.specs.Calls.{Argument, of_term, of_mono}
 use Rattle.theory_instances.specs.Occurrences.{met_in_term, met_in_terms, met_in_fix, met_in_comp, met_in_step, met_in_ty, met_in_triple}
 use Rattle.theory_instances_passing.specs.Pinned.{AtEach, Denote}
 use Rattle.theory_canonical.specs.Skeletons.{sk_c}
-use Rattle.theory_instances_passing.proofs.Own.{EachOwn, both, own_met, Apart, next_term, next_mono, mono_agrees, denote_within, Agreeing, agree_same, agree_own, agreed_run, agreed_value, agreed_instance}
+use Rattle.theory_instances_passing.proofs.Own.{EachOwn, both, own_met, Apart, next_term, next_mono, mono_agrees, denote_within, Agreeing, agree_same}
+use Rattle.theory_instances_passing.proofs.Own.{agree_own, agreed_run, agreed_value, agreed_instance}
 use Rattle.theory_instances_passing.proofs.Own.{agreed_applied}
 
 abbrev skeleton_of_entry : ValuationEntry → Skeleton
 skeleton_of_entry (den_term s d) = s
 skeleton_of_entry x = sk_o
 
-module _ (heads : Heads) (e : HeadEntries) (h : HeadsValued heads e) (whole : Skeleton) (params : List TermTree) (own : Domain whole) (set : List AtEach) (base : Valuation)
-    (denoted : Denote e base whole sk_c params set) where
+module _ (heads : Heads) (e : HeadEntries) (h : HeadsValued heads e) (whole : Skeleton) (params : List TermTree) (own : Domain whole)
+    (set : List AtEach) (base : Valuation) (denoted : Denote e base whole sk_c params set) where
   mutual
     unfolding term_den met_in_term
 

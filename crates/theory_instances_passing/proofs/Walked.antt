@@ -1,6 +1,7 @@
 -- From the parameters of a recursive function to its body: what is set for the fixed ones is what their
 -- eta-expansions denote there.
-use Rattle.std.proofs.Common.{◌≡◌, ℕ, zero, suc, ◌+◌, List, [], ◌∷◌, ◌++◌, map, filter, All, Bool, true, false, nat_eq, cond, ◌⊎◌, inl, inr, refl, sym, ap, ◌∙◌, subst, arith}
+use Rattle.std.proofs.Common.{◌≡◌, ℕ, zero, suc, ◌+◌, List, [], ◌∷◌, ◌++◌, map, filter, All, Bool, true, false, nat_eq, cond, ◌⊎◌, inl, inr, refl, sym, ap, ◌∙◌}
+use Rattle.std.proofs.Common.{subst, arith}
 use Rattle.std.proofs.lemmas.List.Elements.{All-head, All-tail}
 use Rattle.htt_syntax.specs.Trees.{TyTree, TermTree, FixTree, CompTree, x_param, x_body, t_var, t_fix}
 use Rattle.theory_renaming.specs.Renaming.{rename_term}
@@ -18,7 +19,8 @@ use Rattle.theory_denotation_renaming.proofs.Expanded.{expanded}
 use Rattle.theory_instances.specs.Calls.{fix_ty, fix_comp}
 use Rattle.theory_instances.specs.Occurrences.{Occurrence, met_in_comp}
 use Rattle.theory_instances.specs.Varying.{PassesOnAt, own_occurrences, expanded_params, NeverVaries}
-use Rattle.theory_instances_passing.specs.Pinned.{AtEach, GivenArgument, IsFixed, pinned, applied_to, Splits, splits_end, splits_value, splits_fixed, Denote, denote_end, denote_value, denote_fixed}
+use Rattle.theory_instances_passing.specs.Pinned.{AtEach, GivenArgument, IsFixed, pinned, applied_to, Splits, splits_end, splits_value, splits_fixed, Denote}
+use Rattle.theory_instances_passing.specs.Pinned.{denote_end, denote_value, denote_fixed}
 use Rattle.theory_instances_passing.specs.Laws.{PassingOnAgrees}
 use Rattle.theory_instances_passing.proofs.Own.{OwnPasses, EachOwn, Apart}
 use Rattle.theory_instances_passing.proofs.Passing.{comp_agrees}
@@ -90,7 +92,8 @@ module _ (heads : Heads) (e : HeadEntries) (h : HeadsValued heads e) (whole : Sk
       apart_at zero = inl refl
       apart_at (suc n) = inr refl
 
-  walked : {fix : FixTree} {t : Skeleton} {g : List Standing} {w : Valuation} {params : List TermTree} (before : List AtEach) (arguments : List GivenArgument) (after : List AtEach)
+  walked : {fix : FixTree} {t : Skeleton} {g : List Standing} {w : Valuation} {params : List TermTree} (before : List AtEach)
+      (arguments : List GivenArgument) (after : List AtEach)
       → IsCanonicalFix heads g whole fix t
       → ContextValued g w
       → Denote e w whole t params before
@@ -99,13 +102,17 @@ module _ (heads : Heads) (e : HeadEntries) (h : HeadsValued heads e) (whole : Sk
       → applied_to (den_term t (fix_den e w (den_term whole own) fix t)) arguments
       ≡ applied_to (den_term t (fix_den e w (den_term whole (pinned whole (before ++ after) own)) fix t)) arguments
   unfolding term_den fix_comp
-  walked {w = w} before arguments after (n_param {s = s} {t = t} {ty = ty} {others = others} b q rest) z m (splits_value {argument = x} {arguments = more} split) passes =
+  walked {w = w} before arguments after (n_param {s = s} {t = t} {ty = ty} {others = others} b q rest) z m
+      (splits_value {argument = x} {arguments = more} split) passes =
       walked before more after rest (valued_term s (x s) z)
       (then_value (expansion suc (t_var zero) ty) (further (den_term s (x s)) m)) split passes
-  walked {w = w} before arguments after (n_param {s = s} {t = t} {ty = ty} {others = others} b q rest) z m (splits_fixed {argument = x} {arguments = more} {set = later} i split) passes =
+  walked {w = w} before arguments after (n_param {s = s} {t = t} {ty = ty} {others = others} b q rest) z m
+      (splits_fixed {argument = x} {arguments = more} {set = later} i split) passes =
       walked (before ++ x ∷ []) more later rest (valued_term s (x s) z)
       (then_fixed (expansion suc (t_var zero) ty) x i (param_denotes e w ty q (x s)) (further (den_term s (x s)) m)) split passes
-      ∙ ap (λ (l : List AtEach). applied_to (den_term t (fix_den e (den_term s (x s) ∷ w) (den_term whole (pinned whole l own)) others t)) more) (append_one before x later)
+      ∙ ap
+      (λ (l : List AtEach). applied_to (den_term t (fix_den e (den_term s (x s) ∷ w) (den_term whole (pinned whole l own)) others t)) more)
+      (append_one before x later)
   walked {w = w} before arguments after (n_body {comp = comp} spec b) z m splits_end passes =
       ap (den_term sk_c) (body_agrees before b z m passes)
       ∙ ap (λ (l : List AtEach). den_term sk_c (comp_den e (den_term whole (pinned whole l own) ∷ w) comp)) (sym (append_none before))
@@ -127,7 +134,9 @@ each_own s params (x ∷ xs) m = by (nat_eq x.variable zero) m (λ a. each_own s
     by true a go = (All-head P x own a, go (All-tail P x own a))
     by false a go = (tt, go a)
 
-skeleton_of_fix : (fix : FixTree) (s : Skeleton) {heads : Heads} {g : List Standing} {whole : Skeleton} → IsCanonicalFix heads g whole fix s → skeleton (fix_ty fix) ≡ s
+skeleton_of_fix : (fix : FixTree) (s : Skeleton) {heads : Heads} {g : List Standing} {whole : Skeleton}
+    → IsCanonicalFix heads g whole fix s
+    → skeleton (fix_ty fix) ≡ s
 unfolding skeleton fix_ty
 skeleton_of_fix (x_param ty others) s (n_param {t = t} b q rest) = λ j. sk_arrow (q j) (skeleton_of_fix others t rest j)
 skeleton_of_fix (x_body spec comp) s (n_body a b) = refl

@@ -3,7 +3,8 @@
 use Rattle.std.specs.Prelude.{◌≡◌, List, [], ◌∷◌}
 use Rattle.htt_syntax.specs.Trees.{MonoTree, TermTree}
 use Rattle.theory_canonical.specs.Skeletons.{Skeleton, sk_o, sk_c, sk_arrow, sk_all}
-use Rattle.theory_denotation.specs.Valuations.{Domain, ValuationEntry, Valuation, applied_entry, instance_entry, mono_in}
+use Rattle.theory_denotation.specs.Valuations.{Domain, ValuationEntry, Valuation, applied_entry, instance_entry}
+use Rattle.theory_denotation.specs.Valuations.{mono_in}
 use Rattle.theory_denotation.specs.Valuations.{HeadEntries}
 use Rattle.theory_denotation.specs.Denotation.{term_den}
 use Rattle.theory_instances.specs.Calls.{Argument, of_term, of_mono}

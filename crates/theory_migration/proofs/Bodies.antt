@@ -1,5 +1,6 @@
 -- Where the functions and instructions of migrated code stand.
-use Rattle.std.proofs.Common.{◌≡◌, ℕ, zero, suc, List, [], ◌∷◌, length, map, Bool, true, false, nat_eq, if◌then◌else◌, Option, Some, None, slice_get, refl, ap, arith}
+use Rattle.std.proofs.Common.{◌≡◌, ℕ, zero, suc, List, [], ◌∷◌, length, map, Bool, true, false, nat_eq, if◌then◌else◌, Option, Some, None, slice_get, refl, ap}
+use Rattle.std.proofs.Common.{arith}
 use Rattle.word_loader_code.specs.declared.code.Code.{Code}
 use Rattle.word_loader_code.specs.declared.code.Function.{Function}
 use Rattle.word_loader_code.specs.declared.code.Instr.{Instr}

@@ -1,5 +1,6 @@
 -- What an instruction does in migrated code, which goes on with the merged stack.
-use Rattle.std.proofs.Common.{◌≡◌, ℕ, zero, suc, ◌+◌, List, [], ◌∷◌, ◌++◌, length, take, drop, Bool, true, false, nat_eq, if◌then◌else◌, Option, Some, None, slice_get, refl, sym, ap, ◌∙◌, subst, arith}
+use Rattle.std.proofs.Common.{◌≡◌, ℕ, zero, suc, ◌+◌, List, [], ◌∷◌, ◌++◌, length, take, drop, Bool, true, false, nat_eq, if◌then◌else◌, Option, Some, None}
+use Rattle.std.proofs.Common.{slice_get, refl, sym, ap, ◌∙◌, subst, arith}
 use Rattle.htt_syntax_words.specs.declared.words.Kind.{Kind}
 use Rattle.htt_syntax_words.specs.declared.words.Kind.TheVariants as kind
 use Rattle.theory_values.specs.Heaps.{Heap, Block, with_block, without_block}
@@ -7,11 +8,13 @@ use Rattle.word_loader_code.specs.declared.code.Code.{Code}
 use Rattle.word_loader_code.specs.declared.code.Function.{Function}
 use Rattle.word_loader_code.specs.declared.code.Instr.{Instr}
 use Rattle.word_loader_code.specs.declared.code.Instr.TheVariants.{Const, Mov, Op, Sel, Alloc, Get, Set, Free, Jump, Jz, Call, Ret, Tail}
-use Rattle.word_loader_code.specs.Machine.{Frame, Stack, bottom, above, top, with_top, goes_on, Machine, going, halted, faulted, asking, words_at, with_words, local_at, operation_result}
+use Rattle.word_loader_code.specs.Machine.{Frame, Stack, bottom, above, top, with_top, goes_on, Machine, going, halted, faulted, asking, words_at, with_words}
+use Rattle.word_loader_code.specs.Machine.{local_at, operation_result}
 use Rattle.word_loader_code.specs.Machine.{entered_frame, with_choice, is_fresh, at_block, returned, called, replaced, effect}
 use Rattle.theory_migration.specs.Migration.{returns_as, is_returned, tail_or_call, retailed_instr, retailed_function, retailed}
 use Rattle.theory_migration.proofs.Bodies.{function_or_none, function_there}
-use Rattle.theory_migration.proofs.Merged.{waits_in, waits, merged_above, merged, merged_machine, top_merged, merged_with, merged_goes_on, merged_call, tail_merged}
+use Rattle.theory_migration.proofs.Merged.{waits_in, waits, merged_above, merged, merged_machine, top_merged, merged_with, merged_goes_on, merged_call}
+use Rattle.theory_migration.proofs.Merged.{tail_merged}
 
 if_merged : (code : Code) (b : Bool) (x y u v : Machine)
     → u ≡ merged_machine code x
@@ -43,7 +46,8 @@ module _ (code : Code) (f f' : Function) (h : Heap) (stack : Stack) (choices : L
   t : top (merged code stack) ≡ top stack
   t = top_merged code stack
 
-  goes : (heap : Heap) (next : ℕ) (locals left : List ℕ) → going heap (goes_on (merged code stack) next locals) left ≡ merged_machine code (going heap (goes_on stack next locals) left)
+  goes : (heap : Heap) (next : ℕ) (locals left : List ℕ)
+      → going heap (goes_on (merged code stack) next locals) left ≡ merged_machine code (going heap (goes_on stack next locals) left)
   goes heap next locals left = ap (λ s. going heap s left) (sym (merged_goes_on code stack next locals))
 
   pub effect_merged : (i : Instr) → Stays i → effect (retailed code) f' i h (merged code stack) choices ≡ merged_machine code (effect code f i h stack choices)
@@ -54,21 +58,34 @@ module _ (code : Code) (f f' : Function) (h : Heap) (stack : Stack) (choices : L
       (λ j. going h (goes_on (merged code stack) ((t j).next + 1) (with_words (t j).locals d (words_at (t j).locals x n))) choices)
       ∙ goes h ((top stack).next + 1) (with_words (top stack).locals d (words_at (top stack).locals x n)) choices
   effect_merged (Op d o a b) s =
-      (λ j. going h (goes_on (merged code stack) ((t j).next + 1) (with_words (t j).locals d (operation_result o (local_at (t j).locals a) (local_at (t j).locals b) ∷ []))) choices)
-      ∙ goes h ((top stack).next + 1) (with_words (top stack).locals d (operation_result o (local_at (top stack).locals a) (local_at (top stack).locals b) ∷ [])) choices
+      (λ j.
+      going h (goes_on (merged code stack) ((t j).next + 1)
+      (with_words (t j).locals d (operation_result o (local_at (t j).locals a) (local_at (t j).locals b) ∷ []))) choices)
+      ∙ goes h ((top stack).next + 1)
+      (with_words (top stack).locals d (operation_result o (local_at (top stack).locals a) (local_at (top stack).locals b) ∷ [])) choices
   effect_merged (Sel d c a b n) s =
       (λ j. going h (goes_on (merged code stack) ((t j).next + 1)
       (with_words (t j).locals d (if nat_eq (local_at (t j).locals c) 0 then words_at (t j).locals b n else words_at (t j).locals a n))) choices)
       ∙ goes h ((top stack).next + 1)
-      (with_words (top stack).locals d (if nat_eq (local_at (top stack).locals c) 0 then words_at (top stack).locals b n else words_at (top stack).locals a n)) choices
+      (with_words (top stack).locals d
+      (if nat_eq (local_at (top stack).locals c) 0 then words_at (top stack).locals b n else words_at (top stack).locals a n)) choices
   effect_merged (Alloc d x n) s =
-      (λ j. with_choice h choices (λ l left. going (with_block h l (words_at (t j).locals x n)) (goes_on (merged code stack) ((t j).next + 1) (with_words (t j).locals d (l ∷ []))) left))
+      (λ j.
+      with_choice h choices (λ l left.
+      going (with_block h l (words_at (t j).locals x n)) (goes_on (merged code stack) ((t j).next + 1) (with_words (t j).locals d (l ∷ [])))
+      left))
       ∙ choice_merged code h choices
-      (λ l left. going (with_block h l (words_at (top stack).locals x n)) (goes_on stack ((top stack).next + 1) (with_words (top stack).locals d (l ∷ []))) left)
-      (λ l left. going (with_block h l (words_at (top stack).locals x n)) (goes_on (merged code stack) ((top stack).next + 1) (with_words (top stack).locals d (l ∷ []))) left)
+      (λ l left.
+      going (with_block h l (words_at (top stack).locals x n))
+      (goes_on stack ((top stack).next + 1) (with_words (top stack).locals d (l ∷ []))) left)
+      (λ l left.
+      going (with_block h l (words_at (top stack).locals x n))
+      (goes_on (merged code stack) ((top stack).next + 1) (with_words (top stack).locals d (l ∷ []))) left)
       (λ l left. goes (with_block h l (words_at (top stack).locals x n)) ((top stack).next + 1) (with_words (top stack).locals d (l ∷ [])) left)
   effect_merged (Get d p n) s =
-      (λ j. at_block kind.Get (local_at (t j).locals p) (h (local_at (t j).locals p)) n (λ block. going h (goes_on (merged code stack) ((t j).next + 1) (with_words (t j).locals d block)) choices))
+      (λ j.
+      at_block kind.Get (local_at (t j).locals p) (h (local_at (t j).locals p)) n
+      (λ block. going h (goes_on (merged code stack) ((t j).next + 1) (with_words (t j).locals d block)) choices))
       ∙ block_merged code kind.Get (local_at (top stack).locals p) (h (local_at (top stack).locals p)) n
       (λ block. going h (goes_on stack ((top stack).next + 1) (with_words (top stack).locals d block)) choices)
       (λ block. going h (goes_on (merged code stack) ((top stack).next + 1) (with_words (top stack).locals d block)) choices)
@@ -77,8 +94,12 @@ module _ (code : Code) (f f' : Function) (h : Heap) (stack : Stack) (choices : L
       (λ j. at_block kind.Set (local_at (t j).locals p) (h (local_at (t j).locals p)) n
       (λ block. going (with_block h (local_at (t j).locals p) (words_at (t j).locals x n)) (goes_on (merged code stack) ((t j).next + 1) (t j).locals) choices))
       ∙ block_merged code kind.Set (local_at (top stack).locals p) (h (local_at (top stack).locals p)) n
-      (λ block. going (with_block h (local_at (top stack).locals p) (words_at (top stack).locals x n)) (goes_on stack ((top stack).next + 1) (top stack).locals) choices)
-      (λ block. going (with_block h (local_at (top stack).locals p) (words_at (top stack).locals x n)) (goes_on (merged code stack) ((top stack).next + 1) (top stack).locals) choices)
+      (λ block.
+      going (with_block h (local_at (top stack).locals p) (words_at (top stack).locals x n))
+      (goes_on stack ((top stack).next + 1) (top stack).locals) choices)
+      (λ block.
+      going (with_block h (local_at (top stack).locals p) (words_at (top stack).locals x n))
+      (goes_on (merged code stack) ((top stack).next + 1) (top stack).locals) choices)
       (λ block. goes (with_block h (local_at (top stack).locals p) (words_at (top stack).locals x n)) ((top stack).next + 1) (top stack).locals choices)
   effect_merged (Free p n) s =
       (λ j. at_block kind.Free (local_at (t j).locals p) (h (local_at (t j).locals p)) n
@@ -94,7 +115,8 @@ module _ (code : Code) (f f' : Function) (h : Heap) (stack : Stack) (choices : L
           else going h (goes_on (merged code stack) ((t j).next + 1) (t j).locals) choices)
       ∙ if_merged code (nat_eq (local_at (top stack).locals c) 0)
       (going h (goes_on stack target (top stack).locals) choices) (going h (goes_on stack ((top stack).next + 1) (top stack).locals) choices)
-      (going h (goes_on (merged code stack) target (top stack).locals) choices) (going h (goes_on (merged code stack) ((top stack).next + 1) (top stack).locals) choices)
+      (going h (goes_on (merged code stack) target (top stack).locals) choices)
+      (going h (goes_on (merged code stack) ((top stack).next + 1) (top stack).locals) choices)
       (goes h target (top stack).locals choices) (goes h ((top stack).next + 1) (top stack).locals choices)
   effect_merged (Call g a d) s = absurd s
   effect_merged (Ret x) s = absurd s
@@ -106,13 +128,15 @@ module _ (code : Code) (f f' : Function) (h : Heap) (stack : Stack) (choices : L
       → waits code (top (goes_on stack ((top stack).next + 1) (top stack).locals)) d g ≡ b
       → effect (retailed code) f' (tail_or_call b g a d) h (merged code stack) choices ≡ merged_machine code (called o h stack g choices a d)
   call_merged None true g a d q w = ap (λ k. replaced k h (merged code stack) g choices a) (function_there code code.functions g ∙ ap (function_or_none code) q)
-  call_merged None false g a d q w = ap (λ k. called k h (merged code stack) g choices a d) (function_there code code.functions g ∙ ap (function_or_none code) q)
+  call_merged None false g a d q w =
+      ap (λ k. called k h (merged code stack) g choices a d) (function_there code code.functions g ∙ ap (function_or_none code) q)
   call_merged (Some k) true g a d q w =
       let frame : Frame = entered_frame g k (words_at (top stack).locals a k.params) in
       ap (λ o. replaced o h (merged code stack) g choices a) (function_there code code.functions g ∙ ap (function_or_none code) q)
       ∙ (λ j. going h (with_top (merged code stack) (entered_frame g k (words_at (t j).locals a k.params))) choices)
       ∙ ap (λ s. going h s choices)
-      (sym (merged_call code stack frame d ((top stack).next + 1) (top stack).locals true w ∙ tail_merged (merged code stack) frame ((top stack).next + 1) (top stack).locals))
+      (sym (merged_call code stack frame d ((top stack).next + 1) (top stack).locals true w
+      ∙ tail_merged (merged code stack) frame ((top stack).next + 1) (top stack).locals))
   call_merged (Some k) false g a d q w =
       let frame : Frame = entered_frame g k (words_at (top stack).locals a k.params) in
       ap (λ o. called o h (merged code stack) g choices a d) (function_there code code.functions g ∙ ap (function_or_none code) q)
@@ -135,10 +159,14 @@ module _ (code : Code) (f f' : Function) (h : Heap) (stack : Stack) (choices : L
       call_merged (slice_get code.functions g) (is_returned code f g d (slice_get f.body (suc (top stack).next))) g a d refl
       (waits_on g d ∙ waits_behind g d ((top stack).next + 1) q next)
     where
-      waits_on : (g d : ℕ) → waits code (top (goes_on stack ((top stack).next + 1) (top stack).locals)) d g ≡ waits_in code (slice_get code.functions (top stack).function) ((top stack).next + 1) d g
+      waits_on : (g d : ℕ)
+          → waits code (top (goes_on stack ((top stack).next + 1) (top stack).locals)) d g
+          ≡ waits_in code (slice_get code.functions (top stack).function) ((top stack).next + 1) d g
       waits_on g d = on_stack stack g d
 
-      on_stack : (s : Stack) (g d : ℕ) → waits code (top (goes_on s ((top s).next + 1) (top s).locals)) d g ≡ waits_in code (slice_get code.functions (top s).function) ((top s).next + 1) d g
+      on_stack : (s : Stack) (g d : ℕ)
+          → waits code (top (goes_on s ((top s).next + 1) (top s).locals)) d g
+          ≡ waits_in code (slice_get code.functions (top s).function) ((top s).next + 1) d g
       on_stack (bottom frame) g d = refl
       on_stack (above frame e below) g d = refl
 

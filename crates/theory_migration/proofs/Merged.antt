@@ -54,15 +54,18 @@ pub merged_with : (code : Code) (stack : Stack) (frame : Frame)
     → merged code (with_top stack frame) ≡ with_top (merged code stack) frame
 merged_with code (bottom old) frame same = refl
 merged_with code (above old d below) frame same =
-    ap (λ b. merged_above b frame d (merged code below)) (same (top below) d) ∙ sym (with_above (waits code (top below) d old.function) old frame d (merged code below))
+    ap (λ b. merged_above b frame d (merged code below)) (same (top below) d)
+    ∙ sym (with_above (waits code (top below) d old.function) old frame d (merged code below))
 
-pub merged_goes_on : (code : Code) (stack : Stack) (next : ℕ) (locals : List ℕ) → merged code (goes_on stack next locals) ≡ goes_on (merged code stack) next locals
+pub merged_goes_on : (code : Code) (stack : Stack) (next : ℕ) (locals : List ℕ)
+    → merged code (goes_on stack next locals) ≡ goes_on (merged code stack) next locals
 merged_goes_on code stack next locals =
     merged_with code stack (record (top stack) { next = next; locals = locals }) (λ below d. refl)
     ∙ (λ j. with_top (merged code stack) (record (sym (top_merged code stack) j) { next = next; locals = locals }))
 
 -- what is returned doesn't depend on the frame that returns it
-pub returned_with : (h : Heap) (stack : Stack) (frame : Frame) (words choices : List ℕ) → returned h (with_top stack frame) words choices ≡ returned h stack words choices
+pub returned_with : (h : Heap) (stack : Stack) (frame : Frame) (words choices : List ℕ)
+    → returned h (with_top stack frame) words choices ≡ returned h stack words choices
 returned_with h (bottom old) frame words choices = refl
 returned_with h (above old d below) frame words choices = refl
 

@@ -1,6 +1,7 @@
 -- Migrated code does what the old code does: each of its steps is one or more steps of the old code, more than
 -- one where a return goes through frames that wait.
-use Rattle.std.proofs.Common.{◌≡◌, ◌≤◌, ◌<◌, ℕ, zero, suc, ◌+◌, ◌-◌, List, [], ◌∷◌, ◌++◌, length, take, drop, Bool, true, false, nat_eq, if◌then◌else◌, Option, Some, None, slice_get, refl, sym, ap, ◌∙◌, subst, arith}
+use Rattle.std.proofs.Common.{◌≡◌, ◌≤◌, ◌<◌, ℕ, zero, suc, ◌+◌, ◌-◌, List, [], ◌∷◌, ◌++◌, length, take, drop, Bool, true, false, nat_eq, if◌then◌else◌, Option}
+use Rattle.std.proofs.Common.{Some, None, slice_get, refl, sym, ap, ◌∙◌, subst, arith}
 use Rattle.theory_values.specs.Heaps.{Heap}
 use Rattle.word_loader_code.specs.declared.code.Code.{Code}
 use Rattle.word_loader_code.specs.declared.code.Function.{Function}
@@ -8,7 +9,8 @@ use Rattle.word_loader_code.specs.declared.code.Instr.{Instr}
 use Rattle.word_loader_code.specs.declared.code.Instr.TheVariants.{Const, Mov, Op, Sel, Alloc, Get, Set, Free, Jump, Jz, Call, Ret, Tail}
 use Rattle.word_loader_code.specs.Valid.{IsValid, IsValidInstr, ReturnsAs, Takes}
 use Rattle.word_loader_code.specs.Laws.{IsOver}
-use Rattle.word_loader_code.specs.Machine.{Frame, Stack, bottom, above, top, with_top, goes_on, Machine, going, halted, faulted, asking, words_at, with_words, returned, effect, fetched, stepped, step, started}
+use Rattle.word_loader_code.specs.Machine.{Frame, Stack, bottom, above, top, with_top, goes_on, Machine, going, halted, faulted, asking, words_at, with_words}
+use Rattle.word_loader_code.specs.Machine.{returned, effect, fetched, stepped, step, started}
 use Rattle.word_loader_code.specs.Machine.{after_steps, machine_after}
 use Rattle.theory_machine.specs.Fits.{function_of, ResultHasPlace, StackFits, FitsCode}
 use Rattle.theory_machine.proofs.Words.{length-words_at}
@@ -106,7 +108,9 @@ module _ (code : Code) (valid : IsValid code) where
           (0, (λ j. going h (goes_on (merged code below) (top_merged code below j).next (with_words (top_merged code below j).locals d words)) choices)
           ∙ ap (λ s. going h s choices) (sym (merged_goes_on code below (top below).next (with_words (top below).locals d words))))
       by true w g q place go =
-          let known = returned_is code g frame.function d (slice_get g.body (top below).next) (sym (ap (λ o. waits_in code o (top below).next d frame.function) q) ∙ w) in
+          let known =
+          returned_is code g frame.function d (slice_get g.body (top below).next)
+          (sym (ap (λ o. waits_in code o (top below).next d frame.function) q) ∙ w) in
           let same : f.result ≡ g.result = subst (ReturnsAs g) e (known.1) in
           let rest = go g q (long ∙ same) in
           (suc (rest.0),

@@ -1,11 +1,13 @@
 -- What valid code is migrated to is valid.
-use Rattle.std.proofs.Common.{◌≡◌, ◌≤◌, ◌<◌, ℕ, zero, suc, ◌+◌, List, [], ◌∷◌, length, map, All, sum_by, Bool, true, false, Option, Some, None, slice_get, refl, sym, ap, ◌∙◌, subst, inl, inr, arith}
+use Rattle.std.proofs.Common.{◌≡◌, ◌≤◌, ◌<◌, ℕ, zero, suc, ◌+◌, List, [], ◌∷◌, length, map, All, sum_by, Bool, true, false, Option, Some, None, slice_get, refl}
+use Rattle.std.proofs.Common.{sym, ap, ◌∙◌, subst, inl, inr, arith}
 use Rattle.std.proofs.lemmas.List.Elements.{All-nil, All-cons, All-head, All-tail}
 use Rattle.word_loader_code.specs.declared.code.Code.{Code}
 use Rattle.word_loader_code.specs.declared.code.Function.{Function}
 use Rattle.word_loader_code.specs.declared.code.Instr.{Instr}
 use Rattle.word_loader_code.specs.declared.code.Instr.TheVariants.{Const, Mov, Op, Sel, Alloc, Get, Set, Free, Jump, Jz, Call, Ret, Tail}
-use Rattle.word_loader_code.specs.Valid.{IsTarget, Takes, ResultFitsAt, ReturnsAs, IsValidInstr, LastLeaves, function_limit, instr_limit, IsValidFunction, IsEntered, IsValid}
+use Rattle.word_loader_code.specs.Valid.{IsTarget, Takes, ResultFitsAt, ReturnsAs, IsValidInstr, LastLeaves, function_limit, instr_limit, IsValidFunction}
+use Rattle.word_loader_code.specs.Valid.{IsEntered, IsValid}
 use Rattle.theory_migration.specs.Migration.{is_returned, tail_or_call, retailed_instr, retailed_body, retailed_function, retailed}
 use Rattle.theory_migration.specs.Laws.{MigratedIsValid}
 use Rattle.theory_migration.proofs.Bodies.{function_or_none, function_there, body_length, returned_is}

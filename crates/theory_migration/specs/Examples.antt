@@ -12,7 +12,10 @@ returning result body = record { params = 0; locals = 1; result = result; body =
 
 abbrev pub code_with : ℕ → List Instr → Code
 code_with version body =
-    record { version = version; functions = returning 1 body ∷ returning 1 (Const 0 7 ∷ Ret 0 ∷ []) ∷ returning 0 (Ret 0 ∷ []) ∷ [] }
+    record {
+      version = version;
+      functions = returning 1 body ∷ returning 1 (Const 0 7 ∷ Ret 0 ∷ []) ∷ returning 0 (Ret 0 ∷ []) ∷ [];
+    }
 
 pub record WorkedMigrations : Type 0 where
   -- the return stays behind the tail call
@@ -22,4 +25,5 @@ pub record WorkedMigrations : Type 0 where
   -- another place is returned, another number of words, and not directly behind the call
   pub other_place : retailed (code_with 2 (Call 1 0 1 ∷ Ret 0 ∷ [])) ≡ code_with 2 (Call 1 0 1 ∷ Ret 0 ∷ [])
   pub other_width : retailed (code_with 2 (Call 2 0 0 ∷ Ret 0 ∷ [])) ≡ code_with 2 (Call 2 0 0 ∷ Ret 0 ∷ [])
-  pub further_on : retailed (code_with 1 (Call 1 0 0 ∷ Jump 2 ∷ Ret 0 ∷ [])) ≡ code_with 2 (Call 1 0 0 ∷ Jump 2 ∷ Ret 0 ∷ [])
+  pub further_on : retailed (code_with 1 (Call 1 0 0 ∷ Jump 2 ∷ Ret 0 ∷ []))
+      ≡ code_with 2 (Call 1 0 0 ∷ Jump 2 ∷ Ret 0 ∷ [])
