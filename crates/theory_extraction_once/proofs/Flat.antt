@@ -25,15 +25,15 @@ same_number q = cc
 same_values : {n m : ℕ} {vs us : TermTrees} → t_made n vs ≡ t_made m us → vs ≡ us
 same_values q = cc
 
-module _ {p : Program} {keys : List Key} (distinct : Distinct keys) where
-  made_or_key : {site : Site} {n : ℕ} {vs : TermTrees} {key : Key} → head_of site.call ≡ t_made n vs → keys_of_site p site ≡ key ∷ [] → ⊥
-  made_or_key {site = site} q r = no_first (sym (ap (λ h. keys_of_head h (key_of_site p site)) q) ∙ r)
+made_or_key : (p : Program) (site : Site) {n : ℕ} {vs : TermTrees} {key : Key} → head_of site.call ≡ t_made n vs → keys_of_site p site ≡ key ∷ [] → ⊥
+made_or_key p site q r = no_first (sym (ap (λ h. keys_of_head h (key_of_site p site)) q) ∙ r)
 
+module _ {p : Program} {keys : List Key} (distinct : Distinct keys) where
   names_once : {site : Site} {n m : ℕ} {params others : List TermTree} → Names p keys site n params → Names p keys site m others → (n ≡ m) × (params ≡ others)
   names_once {n = n} {m = m} (names_key q k) (names_key r l) =
       (distinct n m k.known l.known k.at l.at (k.same ∙ ap plain_key (same_first (sym q ∙ r)) ∙ sym l.same), refl)
-  names_once (names_key q k) (names_made r a) = absurd (made_or_key r q)
-  names_once (names_made r a) (names_key q k) = absurd (made_or_key r q)
+  names_once {site = site} (names_key q k) (names_made r a) = absurd (made_or_key p site r q)
+  names_once {site = site} (names_made r a) (names_key q k) = absurd (made_or_key p site r q)
   names_once {site = site} (names_made {key = key} q a) (names_made {key = key'} r b) =
       let number = same_number (sym q ∙ r) in
       let values = same_values (sym q ∙ r) in

@@ -22,6 +22,7 @@ meets_once (meets_new f l a) (meets_known m k b) = absurd (f m k)
 meets_once (meets_new f l a) (meets_new g k b) = meets_once a b
 
 meets_or_not : {keys met after : List Key} → Meets keys met after → MeetsTooMany keys met → ⊥
+meets_or_not (meets_none {keys = keys}) x = elim x [ ]
 meets_or_not (meets_known n k a) (too_many_here f l) = f n k
 meets_or_not (meets_known n k a) (too_many_past_known m l b) = meets_or_not a b
 meets_or_not (meets_known n k a) (too_many_past_new f l b) = f n k
@@ -29,16 +30,13 @@ meets_or_not (meets_new f l a) (too_many_here g k) = omega (arith, l, k)
 meets_or_not (meets_new f l a) (too_many_past_known m k b) = f m k
 meets_or_not (meets_new f l a) (too_many_past_new g k b) = meets_or_not a b
 
+met_by : (p : Program) {keys after : List Key} (taken other : Taken) → taken ≡ other → Meets keys (keys_met p other.params other.body) after → Meets keys (keys_met p taken.params taken.body) after
+met_by p {keys = keys} {after = after} taken other q m = subst (λ (t : Taken). Meets keys (keys_met p t.params t.body) after) (sym q) m
+
 module _ {p : Program} where
   -- what is taken up with another key is taken up with this one
   up_at : {number : ℕ} {key other : Key} {taken : Taken} → key ≡ other → TakesUp p number other taken → TakesUp p number key taken
   up_at {number = number} {taken = taken} q u = subst (λ k. TakesUp p number k taken) (sym q) u
-
-  met_by : {keys after : List Key} {taken other : Taken}
-      → taken ≡ other
-      → Meets keys (keys_met p other.params other.body) after
-      → Meets keys (keys_met p taken.params taken.body) after
-  met_by {keys = keys} {after = after} q m = subst (λ (t : Taken). Meets keys (keys_met p t.params t.body) after) (sym q) m
 
   pub takes_once : {keys final other : List Key} {number : ℕ} {rows more : List Taken}
       → TakesAll p keys number rows final
@@ -48,9 +46,9 @@ module _ {p : Program} where
   takes_once (takes_end q) (takes_next r u m rest) = absurd (none_or_some (sym q ∙ r))
   takes_once (takes_next r u m rest) (takes_end q) = absurd (none_or_some (sym q ∙ r))
   takes_once {number = number} (takes_next {key = key} {taken = taken} r u m rest)
-      (takes_next {key = key'} {taken = taken'} {others = others'} {final = final'} s v n again) =
+      (takes_next {final = final'} {key = key'} {taken = taken'} {others = others'} s v n again) =
       let same = taken_once u (up_at (same_Some key key' (sym r ∙ s)) v) in
-      let after = meets_once m (met_by same n) in
+      let after = meets_once m (met_by p taken taken' same n) in
       let one = takes_once rest (subst (λ l. TakesAll p l (suc number) others' final') (sym after) again) in
       ((λ j. same j ∷ (one.0) j), one.1)
 
@@ -67,14 +65,14 @@ module _ {p : Program} where
   refused_once {number = number} (refuses_calls {key = key} q u m) (refuses_up {key = key'} {refusal = y} r v) =
       absurd (up_or_not u (subst (λ k. RefusesUp p number k y) (sym (same_Some key key' (sym q ∙ r))) v))
   refused_once (refuses_calls q u m) (refuses_calls r v n) = refl
-  refused_once (refuses_calls {key = key} q u m) (refuses_later {key = key'} r v n rest) =
-      absurd (meets_or_not (met_by (taken_once u (up_at (same_Some key key' (sym q ∙ r)) v)) n) m)
+  refused_once (refuses_calls {key = key} {taken = taken} q u m) (refuses_later {key = key'} {taken = taken'} r v n rest) =
+      absurd (meets_or_not (met_by p taken taken' (taken_once u (up_at (same_Some key key' (sym q ∙ r)) v)) n) m)
   refused_once {number = number} (refuses_later {key = key} q u m rest) (refuses_up {key = key'} {refusal = y} r v) =
       absurd (up_or_not u (subst (λ k. RefusesUp p number k y) (sym (same_Some key key' (sym q ∙ r))) v))
-  refused_once (refuses_later {key = key} q u m rest) (refuses_calls {key = key'} r v n) =
-      absurd (meets_or_not (met_by (taken_once v (up_at (same_Some key' key (sym r ∙ q)) u)) m) n)
-  refused_once {number = number} (refuses_later {key = key} q u m rest) (refuses_later {key = key'} {refusal = y} r v n again) =
-      let after = meets_once m (met_by (taken_once u (up_at (same_Some key key' (sym q ∙ r)) v)) n) in
+  refused_once (refuses_later {key = key} {taken = taken} q u m rest) (refuses_calls {key = key'} {taken = taken'} r v n) =
+      absurd (meets_or_not (met_by p taken' taken (taken_once v (up_at (same_Some key' key (sym r ∙ q)) u)) m) n)
+  refused_once {number = number} (refuses_later {key = key} {taken = taken} q u m rest) (refuses_later {key = key'} {taken = taken'} {refusal = y} r v n again) =
+      let after = meets_once m (met_by p taken taken' (taken_once u (up_at (same_Some key key' (sym q ∙ r)) v)) n) in
       refused_once rest (subst (λ l. RefusesAll p l (suc number) y) (sym after) again)
 
   pub takes_or_not : {keys final : List Key} {number : ℕ} {rows : List Taken} {refusal : Refusal}
@@ -86,10 +84,10 @@ module _ {p : Program} where
   takes_or_not (takes_end q) (refuses_later r v n rest) = none_or_some (sym q ∙ r)
   takes_or_not {number = number} (takes_next {key = key} q u m rest) (refuses_up {key = key'} {refusal = y} r v) =
       up_or_not u (subst (λ k. RefusesUp p number k y) (sym (same_Some key key' (sym q ∙ r))) v)
-  takes_or_not (takes_next {key = key} q u m rest) (refuses_calls {key = key'} r v n) =
-      meets_or_not m (subst (λ (t : Taken). MeetsTooMany _ (keys_met p t.params t.body)) (sym (taken_once u (up_at (same_Some key key' (sym q ∙ r)) v))) n)
-  takes_or_not {number = number} (takes_next {key = key} q u m rest) (refuses_later {key = key'} {refusal = y} r v n again) =
-      let after = meets_once m (met_by (taken_once u (up_at (same_Some key key' (sym q ∙ r)) v)) n) in
+  takes_or_not {keys = keys} (takes_next {key = key} q u m rest) (refuses_calls {key = key'} r v n) =
+      meets_or_not m (subst (λ (t : Taken). MeetsTooMany keys (keys_met p t.params t.body)) (sym (taken_once u (up_at (same_Some key key' (sym q ∙ r)) v))) n)
+  takes_or_not {number = number} (takes_next {key = key} {taken = taken} q u m rest) (refuses_later {key = key'} {taken = taken'} {refusal = y} r v n again) =
+      let after = meets_once m (met_by p taken taken' (taken_once u (up_at (same_Some key key' (sym q ∙ r)) v)) n) in
       takes_or_not rest (subst (λ l. RefusesAll p l (suc number) y) (sym after) again)
 
   main_once : {n m : ℕ} → IsMain p n → IsMain p m → n ≡ m

@@ -87,11 +87,11 @@ varies_not_passed : {s : Skeleton} {params : List TermTree} {arguments : List Ar
     → PassesOn s params arguments
     → ⊥
 varies_not_passed (varies_here d e) (passes_value p) = d refl
-varies_not_passed (varies_here d e) (passes_fixed p) = e refl
+varies_not_passed (varies_here d e) (passes_fixed q p) = e q
 varies_not_passed (varies_past_value v) (passes_value p) = varies_not_passed v p
-varies_not_passed (varies_past_value v) (passes_fixed p) = varies_not_passed v p
-varies_not_passed (varies_past_fixed v) (passes_value p) = varies_not_passed v p
-varies_not_passed (varies_past_fixed v) (passes_fixed p) = varies_not_passed v p
+varies_not_passed (varies_past_value v) (passes_fixed q p) = varies_not_passed v p
+varies_not_passed (varies_past_fixed r v) (passes_value p) = varies_not_passed v p
+varies_not_passed (varies_past_fixed r v) (passes_fixed q p) = varies_not_passed v p
 
 position_once : {s : Skeleton} {params : List TermTree} {arguments : List Argument} {n m : ℕ}
     → VariesAt s params arguments n
@@ -99,13 +99,13 @@ position_once : {s : Skeleton} {params : List TermTree} {arguments : List Argume
     → n ≡ m
 position_once (varies_here d e) (varies_here c f) = refl
 position_once (varies_here d e) (varies_past_value v) = absurd (d refl)
-position_once (varies_here d e) (varies_past_fixed v) = absurd (e refl)
+position_once (varies_here d e) (varies_past_fixed q v) = absurd (e q)
 position_once (varies_past_value v) (varies_here c f) = absurd (c refl)
 position_once (varies_past_value v) (varies_past_value u) = ap suc (position_once v u)
-position_once (varies_past_value v) (varies_past_fixed u) = ap suc (position_once v u)
-position_once (varies_past_fixed v) (varies_here c f) = absurd (f refl)
-position_once (varies_past_fixed v) (varies_past_value u) = ap suc (position_once v u)
-position_once (varies_past_fixed v) (varies_past_fixed u) = ap suc (position_once v u)
+position_once (varies_past_value v) (varies_past_fixed q u) = ap suc (position_once v u)
+position_once (varies_past_fixed q v) (varies_here c f) = absurd (f q)
+position_once (varies_past_fixed q v) (varies_past_value u) = ap suc (position_once v u)
+position_once (varies_past_fixed q v) (varies_past_fixed r u) = ap suc (position_once v u)
 
 same_first : {A : Type 0} {x y : A} {xs ys : List A} → x ∷ xs ≡ y ∷ ys → x ≡ y
 same_first q = cc
@@ -114,7 +114,7 @@ same_others : {A : Type 0} {x y : A} {xs ys : List A} → x ∷ xs ≡ y ∷ ys 
 same_others q = cc
 
 module _ (fix : FixTree) where
-  Here : Occurrence → ℕ → Type 0
+  abbrev Here : Occurrence → ℕ → Type 0
   Here o position = VariesAt (skeleton (fix_ty fix)) (expanded_at fix o) o.arguments position
 
   first_once : (before : List Occurrence) (here : Occurrence) (after earlier : List Occurrence) (there : Occurrence) (later : List Occurrence) {n m : ℕ}
@@ -150,7 +150,7 @@ none_is_some : {A : Type 0} {x : A} {o : Option A} → o ≡ None → o ≡ Some
 none_is_some q r = absurd (let e = sym q ∙ r in cc)
 
 pub up_once : {p : Program} {number : ℕ} {key : Key} {refusal other : Refusal} → RefusesUp p number key refusal → RefusesUp p number key other → refusal ≡ other
-up_once (up_varies {fix = fix} {position = position} q v) (up_varies {position = position'} r u) =
+up_once (up_varies {fix = fix} q v) (up_varies {position = position'} r u) =
     let w : Varies fix position' = subst (λ f. Varies f position') (same_fix (sym r ∙ q)) u in
     let at = same_at (sym q ∙ r) in
     let place = varies_once fix v w in

@@ -271,7 +271,7 @@ unfolding skeleton sites_of greatest_in_term nodes_mono nodes_term nodes_option 
     rename_mono lift lifts plain_term fill_mono fill_term put_mono next_filling closing contractum expansion opened_fix opened_skeleton
     computation_in
 loop_up = record {
-  never_varies = All-cons (PassesOnAt (counted passed_on)) _ [] (passes_fixed (passes_value passes_end)) (All-nil (PassesOnAt (counted passed_on)));
+  never_varies = All-cons (PassesOnAt (counted passed_on)) _ [] (passes_fixed refl (passes_value passes_end)) (All-nil (PassesOnAt (counted passed_on)));
   results = t_lam (t_lam (t_do (counting (t_var 0) (t_var 1)))) ∷ t_lam (t_do (counting (t_var 0) (t_var 1))) ∷ t_do counted_body ∷ [];
   has_body = body_of_fix {own = counted passed_on} refl refl
       (puts_term (applied (u_lam (u_lam (u_do (u_step

@@ -31,9 +31,10 @@ pub data PassesOn : Skeleton → List TermTree → List Argument → Type 0 wher
   passes_value : {t : Skeleton} {param argument : TermTree} {params : List TermTree} {arguments : List Argument}
       → PassesOn t params arguments
       → PassesOn (sk_arrow sk_o t) (param ∷ params) (of_term argument ∷ arguments)
-  passes_fixed : {s t : Skeleton} {param : TermTree} {params : List TermTree} {arguments : List Argument}
+  passes_fixed : {s t : Skeleton} {param argument : TermTree} {params : List TermTree} {arguments : List Argument}
+      → argument ≡ param
       → PassesOn t params arguments
-      → PassesOn (sk_arrow s t) (param ∷ params) (of_term param ∷ arguments)
+      → PassesOn (sk_arrow s t) (param ∷ params) (of_term argument ∷ arguments)
 
 -- The first fixed parameter that isn't passed on, counted from 1 over all parameters.
 pub data VariesAt : Skeleton → List TermTree → List Argument → ℕ → Type 0 where
@@ -45,10 +46,11 @@ pub data VariesAt : Skeleton → List TermTree → List Argument → ℕ → Typ
       {position : ℕ}
       → VariesAt t params arguments position
       → VariesAt (sk_arrow sk_o t) (param ∷ params) (of_term argument ∷ arguments) (suc position)
-  varies_past_fixed : {s t : Skeleton} {param : TermTree} {params : List TermTree} {arguments : List Argument}
+  varies_past_fixed : {s t : Skeleton} {param argument : TermTree} {params : List TermTree} {arguments : List Argument}
       {position : ℕ}
+      → argument ≡ param
       → VariesAt t params arguments position
-      → VariesAt (sk_arrow s t) (param ∷ params) (of_term param ∷ arguments) (suc position)
+      → VariesAt (sk_arrow s t) (param ∷ params) (of_term argument ∷ arguments) (suc position)
 
 abbrev pub PassesOnAt : FixTree → Occurrence → Type 0
 PassesOnAt fix o = PassesOn (skeleton (fix_ty fix)) (expanded_at fix o) o.arguments

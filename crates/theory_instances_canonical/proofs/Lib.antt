@@ -1,0 +1,4 @@
+pub mod Contexts
+pub mod Sites
+pub mod Bodies
+pub mod Taken
