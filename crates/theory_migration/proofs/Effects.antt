@@ -159,16 +159,16 @@ module _ (code : Code) (f f' : Function) (h : Heap) (stack : Stack) (choices : L
       call_merged (slice_get code.functions g) (is_returned code f g d (slice_get f.body (suc (top stack).next))) g a d refl
       (waits_on g d ∙ waits_behind g d ((top stack).next + 1) q next)
     where
-      waits_on : (g d : ℕ)
-          → waits code (top (goes_on stack ((top stack).next + 1) (top stack).locals)) d g
-          ≡ waits_in code (slice_get code.functions (top stack).function) ((top stack).next + 1) d g
-      waits_on g d = on_stack stack g d
-
       on_stack : (s : Stack) (g d : ℕ)
           → waits code (top (goes_on s ((top s).next + 1) (top s).locals)) d g
           ≡ waits_in code (slice_get code.functions (top s).function) ((top s).next + 1) d g
       on_stack (bottom frame) g d = refl
       on_stack (above frame e below) g d = refl
+
+      waits_on : (g d : ℕ)
+          → waits code (top (goes_on stack ((top stack).next + 1) (top stack).locals)) d g
+          ≡ waits_in code (slice_get code.functions (top stack).function) ((top stack).next + 1) d g
+      waits_on g d = on_stack stack g d
 
   -- a tail call of a function that returns as many words
   pub tail_effect : (g a : ℕ) (k : Function)

@@ -138,6 +138,7 @@ module _ (code : Code) (valid : IsValid code) where
   step_merged : (h : Heap) (stack : Stack) (choices : List ℕ)
       → StackFits code stack
       → (k : ℕ) × (step (retailed code) (going h (merged code stack) choices) ≡ merged_machine code (after_steps code (going h stack choices) (suc k)))
+  unfolding after_steps
   step_merged h stack choices fits =
       let here = stands code stack valid fits in
       by here.0 here.1.0 here.1.1
@@ -152,7 +153,6 @@ module _ (code : Code) (valid : IsValid code) where
           (ap (λ (t : Frame). slice_get (retailed_body code f f.body) t.next) (top_merged code stack) ∙ instr_there code f f.body (top stack).next i s.instr_is)
 
       old_step : (f : Function) (i : Instr) → Standing code stack f i → effect code f i h stack choices ≡ after_steps code (going h stack choices) 1
-      unfolding after_steps
       old_step f i s = sym (step-at code h stack choices f i s.function s.instr_is)
 
       one : (f : Function) (i : Instr) → Standing code stack f i
@@ -203,7 +203,7 @@ module _ (code : Code) (valid : IsValid code) where
   -- each state of migrated code is one of the old code that comes no earlier
   follows : (h : Heap) (choices : List ℕ) (n : ℕ)
       → (m : ℕ) × (n ≤ m) × (machine_after (retailed code) h choices n ≡ merged_machine code (machine_after code h choices m))
-  unfolding after_steps
+  unfolding step after_steps
   follows h choices zero =
       (0, omega arith, ap (λ o. started o h choices) (function_there code code.functions 0) ∙ started_merged h choices (slice_get code.functions 0))
   follows h choices (suc n) =
@@ -215,7 +215,6 @@ module _ (code : Code) (valid : IsValid code) where
           → FitsCode code x
           → step (retailed code) (machine_after (retailed code) h choices n) ≡ step (retailed code) (merged_machine code x)
           → (m : ℕ) × (suc n ≤ m) × (step (retailed code) (machine_after (retailed code) h choices n) ≡ merged_machine code (machine_after code h choices m))
-      unfolding step after_steps
       by m le (going heap stack left) q fits s =
           let more = step_merged heap stack left fits in
           (m + suc (more.0), omega (arith, le),
