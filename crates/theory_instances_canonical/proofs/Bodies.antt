@@ -38,15 +38,15 @@ variable_canonical : {heads : Heads} (m n : ℕ) → n < m → IsCanonical heads
 variable_canonical m n l = n_neutral (e_var (stands_there m n l))
 
 -- all arguments, those that are passed being variables
-fixed_first : {heads : Heads} (m : ℕ) (s t : Skeleton) {term : TermTree} {fixed : List Argument}
+fixed_first : {heads : Heads} (m : ℕ) (s t : Skeleton) (fixed : List Argument) {term : TermTree}
     → IsFixed s
     → IsCanonical heads (values_context m) term s
     → CanonicalArguments heads (values_context m) t (all_arguments t fixed (variables (passed_count t))) sk_c
     → CanonicalArguments heads (values_context m) (sk_arrow s t) (all_arguments (sk_arrow s t) (of_term term ∷ fixed) (variables (passed_count (sk_arrow s t)))) sk_c
-fixed_first m sk_o t i c more = absurd i
-fixed_first m sk_c t i c more = arguments_term c more
-fixed_first m (sk_arrow r s) t i c more = arguments_term c more
-fixed_first m (sk_all s) t i c more = arguments_term c more
+fixed_first m sk_o t fixed i c more = absurd i
+fixed_first m sk_c t fixed i c more = arguments_term c more
+fixed_first m (sk_arrow r s) t fixed i c more = arguments_term c more
+fixed_first m (sk_all s) t fixed i c more = arguments_term c more
 
 fixed_count : (s t : Skeleton) → IsFixed s → passed_count (sk_arrow s t) ≡ passed_count t
 fixed_count sk_o t i = absurd i
@@ -60,8 +60,8 @@ all_canonical : {heads : Heads} (m : ℕ) {s : Skeleton} {fixed : List Argument}
     → CanonicalArguments heads (values_context m) s (all_arguments s fixed (variables (passed_count s))) sk_c
 all_canonical m fixed_end l = arguments_none
 all_canonical m (fixed_value {t = t} f) l = arguments_term (variable_canonical m (passed_count t) (omega (arith, l))) (all_canonical m f (omega (arith, l)))
-all_canonical m (fixed_term {s = s} {t = t} i c f) l =
-    let q = fixed_count s t i in fixed_first m s t i c (all_canonical m f (omega (arith, l, q)))
+all_canonical m (fixed_term {s = s} {t = t} {fixed = fixed} i c f) l =
+    let q = fixed_count s t i in fixed_first m s t fixed i c (all_canonical m f (omega (arith, l, q)))
 all_canonical m (fixed_mono c f) l = arguments_mono c (all_canonical m f l)
 
 captured_canonical : {heads : Heads} (m r k : ℕ) → k + r ≤ m → IsCanonicalTerms heads (values_context m) (terms_from (map (rename_term (shifting zero r)) (variables k)))
@@ -89,14 +89,14 @@ more_heads : (p : Program) (all : List Key) → HasHeads (heads_with p []) (head
 more_heads p all = record { vals = λ d. d; made = λ d. elim d [ ] }
 
 -- a recursive function, opened and given its arguments
-fix_canonical : {heads : Heads} {number m : ℕ} {key : Key} {fix : FixTree} {s : Skeleton} {results : List TermTree} {comp : CompTree}
+fix_canonical : {heads : Heads} {number : ℕ} (m : ℕ) (key : Key) {fix : FixTree} {s : Skeleton} {results : List TermTree} {comp : CompTree}
     → HasSkeleton heads.made number s
     → IsCanonicalFix heads (values_context m) s fix s
     → CanonicalFixed heads (values_context m) s key.fixed
     → Puts (opened_fix (rename_fix (past_passed s) fix)) (opened_skeleton s (rename_fix (past_passed s) fix))
     (arguments_within s key ++ of_term (eta (made_of number s key) (fix_ty (rename_fix (past_passed s) fix))) ∷ []) results (t_do comp)
     → IsCanonicalComp heads (values_context (m + passed_count s + length key.captured)) comp
-fix_canonical {heads = heads} {number = number} {m = m} {key = key} {fix = fix} {s = s} there c fixed puts =
+fix_canonical {heads = heads} {number = number} m key {fix = fix} {s = s} there c fixed puts =
     let k = m + passed_count s + length key.captured in
     let keeps = past_keeps (passed_count s) m k (omega arith) in
     let own = renamed.fix_renamed c keeps in
@@ -109,13 +109,13 @@ fix_canonical {heads = heads} {number = number} {m = m} {key = key} {fix = fix} 
     do_comp (put_canonical puts (opened_canonical own)
     (opened_arguments own (all_canonical k (fixed_renamed (past_passed s) fixed keeps) (omega arith)) last))
 
-pub body_canonical : {p : Program} {all : List Key} {number : ℕ} {key : Key} {results : List TermTree} {comp : CompTree}
+pub body_canonical : {p : Program} (all : List Key) {number : ℕ} {key : Key} {results : List TermTree} {comp : CompTree}
     → IsCanonicalProgram p
     → ((s : Skeleton) (at : ℕ) (fix : FixTree) → key.head ≡ t_fix at fix → skeleton (fix_ty fix) ≡ s → HasSkeleton (heads_with p all).made number s)
     → IsCanonicalKey (heads_with p all) p key
     → HasBody p number key results comp
     → (k : ℕ) × IsCanonicalComp (heads_with p all) (values_context k) comp
-body_canonical {p = p} {all = all} {key = key} {results = results} {comp = comp} program there (canonical_val m {n = n} {v = v} q found fixed) (body_of_val {n = i} {v = u} r here puts) =
+body_canonical {p = p} all {key = key} {results = results} {comp = comp} program there (canonical_val m {n = n} {v = v} q found fixed) (body_of_val {n = i} {v = u} r here puts) =
     let same : u ≡ v = same_Some u v (sym here ∙ ap (λ j. slice_get p.vals j) (same_val (sym r ∙ q)) ∙ found) in
     let s = skeleton v.ty in
     let k = m + passed_count s in
@@ -123,19 +123,19 @@ body_canonical {p = p} {all = all} {key = key} {results = results} {comp = comp}
     (k, do_comp (put_canonical (subst (λ (x : ProgramVal). Puts x.term (skeleton x.ty) (arguments_within (skeleton x.ty) key) results (t_do comp)) same puts)
     (closed_within (values_context k) (term_more (more_heads p all) (program.terms n v found)))
     (all_canonical k (fixed_renamed (past_passed s) fixed keeps) (omega arith))))
-body_canonical {number = number} {key = key} {results = results} {comp = comp} program there (canonical_fix m {at = at} {fix = fix} {s = s} q c fixed) (body_of_fix {fix = other} {own = own} r is_own puts) =
+body_canonical all {number = number} {key = key} {results = results} {comp = comp} program there (canonical_fix m {at = at} {fix = fix} {s = s} q c fixed) (body_of_fix {fix = other} {own = own} r is_own puts) =
     let same : own ≡ rename_fix (past_passed s) fix =
         is_own ∙ ap (λ (f : FixTree). rename_fix (past_passed (skeleton (fix_ty f))) f) (same_fix (sym r ∙ q))
         ∙ ap (λ (u : Skeleton). rename_fix (past_passed u) fix) (fix_ty_skeleton c) in
     let keeps = past_keeps (passed_count s) m (m + passed_count s + length key.captured) (omega arith) in
     let own_skeleton : skeleton (fix_ty (rename_fix (past_passed s) fix)) ≡ s = fix_ty_skeleton (renamed.fix_renamed c keeps) in
     (m + passed_count s + length key.captured,
-    fix_canonical (there s at fix q (fix_ty_skeleton c)) c fixed
+    fix_canonical m key (there s at fix q (fix_ty_skeleton c)) c fixed
     (subst (λ (u : Skeleton).
     Puts (opened_fix (rename_fix (past_passed s) fix)) (opened_skeleton u (rename_fix (past_passed s) fix))
     (arguments_within u key ++ of_term (eta (made_of number u key) (fix_ty (rename_fix (past_passed s) fix))) ∷ []) results (t_do comp)) own_skeleton
     (subst (λ (o : FixTree).
     Puts (opened_fix o) (opened_skeleton (skeleton (fix_ty o)) o)
     (arguments_within (skeleton (fix_ty o)) key ++ of_term (eta (made_of number (skeleton (fix_ty o)) key) (fix_ty o)) ∷ []) results (t_do comp)) same puts)))
-body_canonical program there (canonical_val m q found fixed) (body_of_fix r is_own puts) = absurd (no_fix (sym q ∙ r))
-body_canonical program there (canonical_fix m q c fixed) (body_of_val r here puts) = absurd (no_fix (sym r ∙ q))
+body_canonical all program there (canonical_val m q found fixed) (body_of_fix r is_own puts) = absurd (no_fix (sym q ∙ r))
+body_canonical all program there (canonical_fix m q c fixed) (body_of_val r here puts) = absurd (no_fix (sym r ∙ q))

@@ -29,11 +29,11 @@ keeps_values f m k within = record {
 
 pub number_within : (captured : List ℕ) (m n : ℕ) → n < m → number_in captured n < length captured + m
 number_within [] m n q = omega (arith, q)
-number_within (x ∷ captured) m n q = by (nat_eq n x)
+number_within (x ∷ captured) m n q = by (nat_eq n x) (number_within captured m n q)
   where
-    by : (b : Bool) → (if b then zero else suc (number_in captured n)) < suc (length captured) + m
-    by true = omega arith
-    by false = let r = number_within captured m n q in omega (arith, r)
+    by : (b : Bool) → number_in captured n < length captured + m → (if b then zero else suc (number_in captured n)) < suc (length captured) + m
+    by true r = omega arith
+    by false r = omega (arith, r)
 
 -- a closed term in any context
 pub closed_within : {heads : Heads} {term : TermTree} {s : Skeleton} (g : List Standing) → IsCanonical heads [] term s → IsCanonical heads g term s

@@ -48,18 +48,18 @@ spine_of (e_app a c) = let r = spine_of a in record { whole = r.whole; head = r.
 spine_of (e_inst a c) = let r = spine_of a in record { whole = r.whole; head = r.head; arguments = then_mono r.arguments c }
 
 -- of canonical arguments, those that are fixed
-fixed_arrow : {heads : Heads} {g : List Standing} (s t : Skeleton) {term : TermTree} {others : List Argument}
+fixed_arrow : {heads : Heads} {g : List Standing} (s t : Skeleton) (others : List Argument) {term : TermTree}
     → IsCanonical heads g term s
     → CanonicalFixed heads g t (fixed_of t others)
     → CanonicalFixed heads g (sk_arrow s t) (fixed_of (sk_arrow s t) (of_term term ∷ others))
-fixed_arrow sk_o t c f = fixed_value f
-fixed_arrow sk_c t c f = fixed_term tt c f
-fixed_arrow (sk_arrow r s) t c f = fixed_term tt c f
-fixed_arrow (sk_all s) t c f = fixed_term tt c f
+fixed_arrow sk_o t others c f = fixed_value f
+fixed_arrow sk_c t others c f = fixed_term tt c f
+fixed_arrow (sk_arrow r s) t others c f = fixed_term tt c f
+fixed_arrow (sk_all s) t others c f = fixed_term tt c f
 
 pub fixed_canonical : {heads : Heads} {g : List Standing} {s : Skeleton} {arguments : List Argument} → CanonicalArguments heads g s arguments sk_c → CanonicalFixed heads g s (fixed_of s arguments)
 fixed_canonical arguments_none = fixed_end
-fixed_canonical (arguments_term {s = s} {t = t} a more) = fixed_arrow s t a (fixed_canonical more)
+fixed_canonical (arguments_term {s = s} {t = t} {others = others} a more) = fixed_arrow s t others a (fixed_canonical more)
 fixed_canonical (arguments_mono a more) = fixed_mono a (fixed_canonical more)
 
 pub fixed_renamed : {heads : Heads} {g h : List Standing} {s : Skeleton} {fixed : List Argument} (m : Map)
@@ -147,14 +147,14 @@ key_canonical p all k site whole term (e_var d) q arguments = tt
 key_canonical p all k site whole term (e_app a c) q arguments = tt
 key_canonical p all k site whole term (e_inst a c) q arguments = tt
 
-keys_append : {heads : Heads} {p : Program} (xs ys : List Key) → EachKeyOf heads p xs → EachKeyOf heads p ys → EachKeyOf heads p (xs ++ ys)
-keys_append [] ys a b = b
-keys_append (x ∷ xs) ys a b = (a.0, keys_append xs ys (a.1) b)
+keys_append : (heads : Heads) (p : Program) (xs ys : List Key) → EachKeyOf heads p xs → EachKeyOf heads p ys → EachKeyOf heads p (xs ++ ys)
+keys_append heads p [] ys a b = b
+keys_append heads p (x ∷ xs) ys a b = (a.0, keys_append heads p xs ys (a.1) b)
 
 -- the keys of all calls
 pub keys_canonical : (p : Program) (all : List Key) (sites : List Site) → EachSite (RunsThere (heads_with p all)) sites → EachKeyOf (heads_with p all) p (flat_map (keys_of_site p) sites)
 keys_canonical p all [] a = tt
 keys_canonical p all (site ∷ sites) a =
     let spine = spine_of ((a.0).1) in
-    keys_append (keys_of_site p site) (flat_map (keys_of_site p) sites)
+    keys_append (heads_with p all) p (keys_of_site p site) (flat_map (keys_of_site p) sites)
     (key_canonical p all ((a.0).0) site spine.whole (head_of site.call) spine.head refl spine.arguments) (keys_canonical p all sites (a.1))

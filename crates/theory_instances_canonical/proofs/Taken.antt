@@ -57,7 +57,7 @@ module _ (p : Program) (program : IsCanonicalProgram p) (all : List Key) where
       → TakesUp p number key taken
       → Body taken
   taken_body {number = number} {key = key} here c u =
-      body_canonical program
+      body_canonical all program
       (λ s at fix q r. subst (λ (t : Skeleton). HasSkeleton (map (λ (k : Key). skeleton (head_ty p k.head)) all) number t)
       (ap (λ h. skeleton (head_ty p h)) q ∙ r) (skeleton_there (λ (k : Key). skeleton (head_ty p k.head)) all number key here))
       c u.has_body

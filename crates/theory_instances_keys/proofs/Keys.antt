@@ -46,13 +46,14 @@ value_there (v ∷ vs) (suc n) = value_there vs n
 numbered : (vs : List Value) (captured : List ℕ) (n : ℕ)
     → entry_at (with_values (map (value_at vs) captured)) (number_in captured n) ≡ entry_if (is_among n captured) (value_entry (value_at vs n))
 numbered vs [] n = refl
-numbered vs (m ∷ captured) n = by (nat_eq n m) refl
+numbered vs (m ∷ captured) n = by (nat_eq n m) refl (numbered vs captured n)
   where
     by : (b : Bool) → nat_eq n m ≡ b
+        → entry_at (with_values (map (value_at vs) captured)) (number_in captured n) ≡ entry_if (is_among n captured) (value_entry (value_at vs n))
         → entry_at (with_values (map (value_at vs) (m ∷ captured))) (if b then zero else suc (number_in captured n))
         ≡ entry_if (if b then true else is_among n captured) (value_entry (value_at vs n))
-    by true q = let same : m ≡ n = grind (arith, q) in ap (λ k. value_entry (value_at vs k)) same
-    by false q = numbered vs captured n
+    by true q rest = let same : m ≡ n = grind (arith, q) in ap (λ k. value_entry (value_at vs k)) same
+    by false q rest = rest
 
 along : (vs : List Value) (captured : List ℕ) → AgreeAlong (number_in captured) (kept_from zero captured (with_values vs)) (with_values (map (value_at vs) captured))
 along vs captured = record {
@@ -90,11 +91,14 @@ more_among n m others q = by (nat_eq n m)
 
 stays_among : (n : ℕ) (known others : List ℕ) → is_among n known ≡ true → is_among n (met_after known others) ≡ true
 stays_among n known [] q = q
-stays_among n known (m ∷ others) q = by (is_among m known)
+stays_among n known (m ∷ others) q = by (is_among m known) (stays_among n known others q) (stays_among n (m ∷ known) others (more_among n m known q))
   where
-    by : (b : Bool) → is_among n (met_after (if b then known else m ∷ known) others) ≡ true
-    by true = stays_among n known others q
-    by false = stays_among n (m ∷ known) others (more_among n m known q)
+    by : (b : Bool)
+        → is_among n (met_after known others) ≡ true
+        → is_among n (met_after (m ∷ known) others) ≡ true
+        → is_among n (met_after (if b then known else m ∷ known) others) ≡ true
+    by true x y = x
+    by false x y = y
 
 abbrev AllAmong : List ℕ → List ℕ → Type 0
 AllAmong [] all = Unit {0}

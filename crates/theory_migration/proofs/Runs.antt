@@ -43,7 +43,7 @@ read_front [] rest (suc n) q = absurd (let r : 0 ≡ suc n = q in omega (arith, 
 read_front (w ∷ words) rest zero q = absurd (omega (arith, q))
 read_front (w ∷ words) rest (suc n) q = let r : length words ≡ n = omega (arith, q) in λ j. w ∷ read_front words rest n r j
 
-read_there : (locals words rest : List ℕ) (d n : ℕ) → length words ≡ n → d ≤ length locals → take n (drop d (take d locals ++ (words ++ rest))) ≡ words
+read_there : (locals words rest : List ℕ) (d n : ℕ) → length words ≡ n → d ≤ length locals → take n (drop d ((take d locals ++ words) ++ rest)) ≡ words
 read_there locals words rest zero n q within = read_front words rest n q
 read_there [] words rest (suc d) n q within = absurd (omega (arith, within))
 read_there (x ∷ locals) words rest (suc d) n q within = read_there locals words rest d n q (omega (arith, within))
