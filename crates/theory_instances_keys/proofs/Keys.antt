@@ -14,7 +14,7 @@ use Rattle.theory_instances.specs.Occurrences.{Occurrence, met_in_term, met_in_a
 use Rattle.theory_instances.specs.Keys.{is_among, met_after, variables_met, captured_of, number_in}
 use Rattle.theory_instances_passing.specs.Pinned.{GivenArgument, given_term, given_mono, given}
 use Rattle.theory_instances_keys.specs.Laws.{value_entry, with_values, value_at, captured_values, KeysDenote}
-use Rattle.theory_instances_keys.proofs.Met.{EachMet, head_by_met, term_by_met}
+use Rattle.theory_instances_keys.proofs.Agreeing.{EachMet, head_by_met, term_by_met}
 
 -- the entries at the captured variables alone, from an index on
 abbrev entry_if : Bool → ValuationEntry → ValuationEntry

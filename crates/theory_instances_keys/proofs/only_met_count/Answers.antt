@@ -1,4 +1,4 @@
-use Rattle.theory_instances_keys.proofs.Met.{only_met}
+use Rattle.theory_instances_keys.proofs.Agreeing.{only_met}
 use Rattle.theory_instances_keys.proofs.only_met_count.Goals as goal
 
 pub returns : goal.returns
