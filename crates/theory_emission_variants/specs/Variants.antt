@@ -52,14 +52,12 @@ pub record VariantsOfEmission : Type 0 where
   -- a place that is used twice
   pub new_places : code_of sum_of_two ≡ only 3 1 (Const 0 2 ∷ Const 1 3 ∷ Op 2 0 0 1 ∷ Ret 2 ∷ [])
   pub new_places_halt : machine_after (code_of sum_of_two) empty_heap [] 4 ≡ halted (5 ∷ []) empty_heap
-  pub place_twice_halts :
-      machine_after (only 2 1 (Const 0 2 ∷ Const 0 3 ∷ Op 1 0 0 0 ∷ Ret 1 ∷ [])) empty_heap [] 4
+  pub place_twice_halts : machine_after (only 2 1 (Const 0 2 ∷ Const 0 3 ∷ Op 1 0 0 0 ∷ Ret 1 ∷ [])) empty_heap [] 4
       ≡ halted (6 ∷ []) empty_heap
   -- a call in tail place that keeps the frame, as in version 1
-  pub frame_is_replaced :
-      machine_after (code_of seven_flat) empty_heap [] 1 ≡ going empty_heap (bottom (with_locals 1 0 (0 ∷ []))) []
-  pub frame_is_kept :
-      machine_after (first_code seven_flat) empty_heap [] 1
+  pub frame_is_replaced : machine_after (code_of seven_flat) empty_heap [] 1
+      ≡ going empty_heap (bottom (with_locals 1 0 (0 ∷ []))) []
+  pub frame_is_kept : machine_after (first_code seven_flat) empty_heap [] 1
       ≡ going empty_heap (above (with_locals 1 0 (0 ∷ [])) 0 (bottom (with_locals 0 1 (0 ∷ [])))) []
   -- a `sel` whose sides are changed
   pub sides : code_of first_of_two ≡ only 4 1 (Const 0 1 ∷ Const 1 1 ∷ Const 2 2 ∷ Sel 3 0 1 2 1 ∷ Ret 3 ∷ [])

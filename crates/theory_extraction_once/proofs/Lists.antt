@@ -30,7 +30,10 @@ meets_or_not (meets_new f l a) (too_many_here g k) = omega (arith, l, k)
 meets_or_not (meets_new f l a) (too_many_past_known m k b) = f m k
 meets_or_not (meets_new f l a) (too_many_past_new g k b) = meets_or_not a b
 
-met_by : (p : Program) {keys after : List Key} (taken other : Taken) → taken ≡ other → Meets keys (keys_met p other.params other.body) after → Meets keys (keys_met p taken.params taken.body) after
+met_by : (p : Program) {keys after : List Key} (taken other : Taken)
+    → taken ≡ other
+    → Meets keys (keys_met p other.params other.body) after
+    → Meets keys (keys_met p taken.params taken.body) after
 met_by p {keys = keys} {after = after} taken other q m = subst (λ (t : Taken). Meets keys (keys_met p t.params t.body) after) (sym q) m
 
 module _ {p : Program} where
@@ -71,7 +74,8 @@ module _ {p : Program} where
       absurd (up_or_not u (subst (λ k. RefusesUp p number k y) (sym (same_Some key key' (sym q ∙ r))) v))
   refused_once (refuses_later {key = key} {taken = taken} q u m rest) (refuses_calls {key = key'} {taken = taken'} r v n) =
       absurd (meets_or_not (met_by p taken' taken (taken_once v (up_at (same_Some key' key (sym r ∙ q)) u)) m) n)
-  refused_once {number = number} (refuses_later {key = key} {taken = taken} q u m rest) (refuses_later {key = key'} {taken = taken'} {refusal = y} r v n again) =
+  refused_once {number = number} (refuses_later {key = key} {taken = taken} q u m rest)
+      (refuses_later {key = key'} {taken = taken'} {refusal = y} r v n again) =
       let after = meets_once m (met_by p taken taken' (taken_once u (up_at (same_Some key key' (sym q ∙ r)) v)) n) in
       refused_once rest (subst (λ l. RefusesAll p l (suc number) y) (sym after) again)
 

@@ -124,7 +124,7 @@ module _ (fix : FixTree) where
       → Here here n
       → Here there m
       → n ≡ m
-  first_once [] here after [] there later q a b v u = position_once v (subst (λ o. Here o _) (sym (same_first q)) u)
+  first_once [] here after [] there later {m = m} q a b v u = position_once v (subst (λ o. Here o m) (sym (same_first q)) u)
   first_once [] here after (x ∷ earlier) there later q a b v u =
       absurd (varies_not_passed v (subst (PassesOnAt fix) (sym (same_first q)) (All-head (PassesOnAt fix) x earlier b)))
   first_once (x ∷ before) here after [] there later q a b v u =

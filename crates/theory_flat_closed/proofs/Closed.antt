@@ -6,8 +6,10 @@ use Rattle.htt_syntax.specs.Trees.{MonoTree, TyTree, TermTree, CompTree, StepTre
 use Rattle.theory_instances.specs.Calls.{Program, ProgramVal, Site, ty_of_val}
 use Rattle.theory_instances.specs.Keys.{Key}
 use Rattle.theory_instances.specs.Bodies.{passed_monos, params_of}
-use Rattle.theory_instances.specs.Lists.{instance_limit, Meets, meets_none, meets_known, meets_new, Taken, TakesAll, takes_end, takes_next, HasInstances, IsMain, main_key}
-use Rattle.theory_flat.specs.Flat.{FlatTree, FlatStepTree, Instance, Names, names_key, names_made, Flattens, flattens_ret, flattens_step, FlattensStep, flattens_run, flattens_alloc}
+use Rattle.theory_instances.specs.Lists.{instance_limit, Meets, meets_none, meets_known, meets_new, Taken, TakesAll, takes_end, takes_next, HasInstances}
+use Rattle.theory_instances.specs.Lists.{IsMain, main_key}
+use Rattle.theory_flat.specs.Flat.{FlatTree, FlatStepTree, Instance, Names, names_key, names_made, Flattens, flattens_ret, flattens_step, FlattensStep}
+use Rattle.theory_flat.specs.Flat.{flattens_run, flattens_alloc}
 use Rattle.theory_flat.specs.Flat.{flattens_get, flattens_set, flattens_free, flattens_if, AreFlat, flat_none, flat_more, HasFlatInstances}
 use Rattle.theory_flat_closed.specs.Calls.{EachCall, EachCallOfStep}
 use Rattle.theory_flat_closed.specs.Laws.{ListsAreClosed}
@@ -32,7 +34,10 @@ within_limit (meets_known n k a) l = within_limit a l
 within_limit {keys = keys} (meets_new {key = key} f few a) l =
     let q = length-append keys (key ∷ []) in within_limit a (omega (arith, few, q))
 
-all_taken : {p : Program} {keys final : List Key} {number : ℕ} {rows : List Taken} → TakesAll p keys number rows final → number ≤ length keys → number + length rows ≡ length final
+all_taken : {p : Program} {keys final : List Key} {number : ℕ} {rows : List Taken}
+    → TakesAll p keys number rows final
+    → number ≤ length keys
+    → number + length rows ≡ length final
 all_taken {keys = keys} {number = number} (takes_end q) l = let r = past_end keys number q in omega (arith, r, l)
 all_taken {keys = keys} {number = number} (takes_next {key = key} {others = others} q u m rest) l =
     let here = slice_get_within keys number key q in
@@ -40,7 +45,10 @@ all_taken {keys = keys} {number = number} (takes_next {key = key} {others = othe
     let r = all_taken rest (omega (arith, here, more)) in
     omega (arith, r)
 
-all_within : {p : Program} {keys final : List Key} {number : ℕ} {rows : List Taken} → TakesAll p keys number rows final → length keys ≤ instance_limit → length final ≤ instance_limit
+all_within : {p : Program} {keys final : List Key} {number : ℕ} {rows : List Taken}
+    → TakesAll p keys number rows final
+    → length keys ≤ instance_limit
+    → length final ≤ instance_limit
 all_within (takes_end q) l = l
 all_within (takes_next q u m rest) l = all_within rest (within_limit m l)
 
@@ -60,7 +68,9 @@ module _ {p : Program} {keys : List Key} where
     flat_closed flattens_ret = tt
     flat_closed (flattens_step a b) = (step_closed a, flat_closed b)
 
-    step_closed : {g : List MonoTree} {step : StepTree} {flat : FlatStepTree} → FlattensStep p keys g step flat → EachCallOfStep (λ called. called < length keys) flat
+    step_closed : {g : List MonoTree} {step : StepTree} {flat : FlatStepTree}
+        → FlattensStep p keys g step flat
+        → EachCallOfStep (λ called. called < length keys) flat
     step_closed (flattens_run a) = named a
     step_closed flattens_alloc = tt
     step_closed flattens_get = tt

@@ -1,5 +1,6 @@
 -- More fuel keeps what calls and bodies come to.
-use Rattle.std.proofs.Common.{◌≡◌, ◌≢◌, ℕ, zero, suc, ◌+◌, List, ◌∷◌, map, reverse, Bool, true, false, Option, Some, None, slice_get, refl, sym, ap, ◌∙◌, subst, arith}
+use Rattle.std.proofs.Common.{◌≡◌, ◌≢◌, ℕ, zero, suc, ◌+◌, List, ◌∷◌, map, reverse, Bool, true, false, Option, Some, None, slice_get, refl, sym, ap, ◌∙◌, subst}
+use Rattle.std.proofs.Common.{arith}
 use Rattle.theory_values.specs.Values.{Value, v_word, v_bool, v_loc, v_unit, v_pair}
 use Rattle.theory_values.specs.Heaps.{Heap}
 use Rattle.theory_denotation.specs.Outcomes.{Outcome, ended, out_of_fuel, asking, wrong, then_outcome, branch_outcome}
@@ -65,5 +66,6 @@ calls_keep instances (suc n) more number vs h cs =
 pub kept : MoreFuelKeepsFlat
 kept = record {
   calls = calls_keep;
-  bodies = λ instances n more number vs h cs. body_keeps (calling instances n) (calling instances (n + more)) (calls_keep instances n more) (slice_get instances number) vs h cs;
+  bodies = λ instances n more number vs h cs.
+      body_keeps (calling instances n) (calling instances (n + more)) (calls_keep instances n more) (slice_get instances number) vs h cs;
 }

@@ -6,7 +6,8 @@ use Rattle.theory_renaming.specs.Renaming.{lifts, shifting, rename_term, rename_
 use Rattle.theory_canonical.specs.Skeletons.{Skeleton, sk_o, sk_c, sk_arrow, sk_all, skeleton}
 use Rattle.theory_canonical.specs.Eta.{eta}
 use Rattle.theory_canonical.specs.Contexts.{Standing, as_term, Heads, HasSkeleton, KeepsStandings}
-use Rattle.theory_canonical.specs.Canonical.{IsCanonical, IsNeutral, IsCanonicalTerms, IsCanonicalFix, IsCanonicalComp, n_neutral, e_var, e_made, n_no_terms, n_more_terms}
+use Rattle.theory_canonical.specs.Canonical.{IsCanonical, IsNeutral, IsCanonicalTerms, IsCanonicalFix, IsCanonicalComp, n_neutral, e_var, e_made, n_no_terms}
+use Rattle.theory_canonical.specs.Canonical.{n_more_terms}
 use Rattle.theory_canonical.proofs.Renamed as renamed
 use Rattle.theory_canonical.proofs.Expanded.{expanded_canonical}
 use Rattle.theory_substitution_total.specs.Insertion.{ins_here}
@@ -15,13 +16,16 @@ use Rattle.theory_substitution_total.proofs.Places.{put_fills}
 use Rattle.theory_substitution_total.proofs.Results.{app_result}
 use Rattle.theory_denotation_substitution.proofs.Results.{family_body, do_comp}
 use Rattle.theory_items.proofs.MoreHeads.{HasHeads, term_more}
-use Rattle.theory_instances.specs.Calls.{ProgramVal, Program, Argument, of_term, of_mono, rename_argument, passed_count, all_arguments, fix_ty, terms_from, variables}
+use Rattle.theory_instances.specs.Calls.{ProgramVal, Program, Argument, of_term, of_mono, rename_argument, passed_count, all_arguments, fix_ty, terms_from}
+use Rattle.theory_instances.specs.Calls.{variables}
 use Rattle.theory_instances.specs.Keys.{Key}
-use Rattle.theory_instances.specs.Bodies.{Puts, puts_none, puts_term, puts_mono, opened_fix, opened_skeleton, past_passed, arguments_within, made_of, HasBody, body_of_val, body_of_fix}
+use Rattle.theory_instances.specs.Bodies.{Puts, puts_none, puts_term, puts_mono, opened_fix, opened_skeleton, past_passed, arguments_within, made_of, HasBody}
+use Rattle.theory_instances.specs.Bodies.{body_of_val, body_of_fix}
 use Rattle.theory_instances_passing.specs.Pinned.{IsFixed}
 use Rattle.theory_instances_denoted.specs.Arguments.{CanonicalArguments, arguments_none, arguments_term, arguments_mono}
 use Rattle.theory_instances_denoted.proofs.Put.{opened_canonical, opened_arguments, fix_ty_canonical, fix_ty_skeleton}
-use Rattle.theory_instances_canonical.specs.Keys.{values_context, heads_with, IsCanonicalProgram, CanonicalFixed, fixed_end, fixed_value, fixed_term, fixed_mono, IsCanonicalKey, canonical_val, canonical_fix}
+use Rattle.theory_instances_canonical.specs.Keys.{values_context, heads_with, IsCanonicalProgram, CanonicalFixed, fixed_end, fixed_value, fixed_term}
+use Rattle.theory_instances_canonical.specs.Keys.{fixed_mono, IsCanonicalKey, canonical_val, canonical_fix}
 use Rattle.theory_instances_canonical.proofs.Contexts.{stands_there, keeps_values, closed_within}
 use Rattle.theory_instances_canonical.proofs.Sites.{fixed_renamed}
 
@@ -42,7 +46,8 @@ fixed_first : {heads : Heads} (m : ℕ) (s t : Skeleton) (fixed : List Argument)
     → IsFixed s
     → IsCanonical heads (values_context m) term s
     → CanonicalArguments heads (values_context m) t (all_arguments t fixed (variables (passed_count t))) sk_c
-    → CanonicalArguments heads (values_context m) (sk_arrow s t) (all_arguments (sk_arrow s t) (of_term term ∷ fixed) (variables (passed_count (sk_arrow s t)))) sk_c
+    → CanonicalArguments heads (values_context m) (sk_arrow s t)
+    (all_arguments (sk_arrow s t) (of_term term ∷ fixed) (variables (passed_count (sk_arrow s t)))) sk_c
 fixed_first m sk_o t fixed i c more = absurd i
 fixed_first m sk_c t fixed i c more = arguments_term c more
 fixed_first m (sk_arrow r s) t fixed i c more = arguments_term c more
@@ -64,7 +69,9 @@ all_canonical m (fixed_term {s = s} {t = t} {fixed = fixed} i c f) l =
     let q = fixed_count s t i in fixed_first m s t fixed i c (all_canonical m f (omega (arith, l, q)))
 all_canonical m (fixed_mono c f) l = arguments_mono c (all_canonical m f l)
 
-captured_canonical : {heads : Heads} (m r k : ℕ) → k + r ≤ m → IsCanonicalTerms heads (values_context m) (terms_from (map (rename_term (shifting zero r)) (variables k)))
+captured_canonical : {heads : Heads} (m r k : ℕ)
+    → k + r ≤ m
+    → IsCanonicalTerms heads (values_context m) (terms_from (map (rename_term (shifting zero r)) (variables k)))
 unfolding rename_term lifts
 captured_canonical m r zero l = n_no_terms
 captured_canonical m r (suc k) l = n_more_terms (variable_canonical m (k + r) (omega (arith, l))) (captured_canonical m r k (omega (arith, l)))
@@ -105,7 +112,8 @@ fix_canonical {heads = heads} {number = number} m key {fix = fix} {s = s} there 
     let q = fix_ty_skeleton own in
     let last : IsCanonical heads (values_context k) (eta (made_of number s key) (fix_ty (rename_fix (past_passed s) fix))) s =
         subst (IsCanonical heads (values_context k) (eta (made_of number s key) (fix_ty (rename_fix (past_passed s) fix)))) q
-        (expanded_canonical (made_of number s key) (fix_ty_canonical own) (unmoved (values_context k)) (subst (IsNeutral heads (values_context k) (made_of number s key)) (sym q) made)) in
+        (expanded_canonical (made_of number s key) (fix_ty_canonical own) (unmoved (values_context k))
+        (subst (IsNeutral heads (values_context k) (made_of number s key)) (sym q) made)) in
     do_comp (put_canonical puts (opened_canonical own)
     (opened_arguments own (all_canonical k (fixed_renamed (past_passed s) fixed keeps) (omega arith)) last))
 
@@ -115,7 +123,8 @@ pub body_canonical : {p : Program} (all : List Key) {number : ℕ} {key : Key} {
     → IsCanonicalKey (heads_with p all) p key
     → HasBody p number key results comp
     → (k : ℕ) × IsCanonicalComp (heads_with p all) (values_context k) comp
-body_canonical {p = p} all {key = key} {results = results} {comp = comp} program there (canonical_val m {n = n} {v = v} q found fixed) (body_of_val {n = i} {v = u} r here puts) =
+body_canonical {p = p} all {key = key} {results = results} {comp = comp} program there (canonical_val m {n = n} {v = v} q found fixed)
+    (body_of_val {n = i} {v = u} r here puts) =
     let same : u ≡ v = same_Some u v (sym here ∙ ap (λ j. slice_get p.vals j) (same_val (sym r ∙ q)) ∙ found) in
     let s = skeleton v.ty in
     let k = m + passed_count s in
@@ -123,7 +132,8 @@ body_canonical {p = p} all {key = key} {results = results} {comp = comp} program
     (k, do_comp (put_canonical (subst (λ (x : ProgramVal). Puts x.term (skeleton x.ty) (arguments_within (skeleton x.ty) key) results (t_do comp)) same puts)
     (closed_within (values_context k) (term_more (more_heads p all) (program.terms n v found)))
     (all_canonical k (fixed_renamed (past_passed s) fixed keeps) (omega arith))))
-body_canonical all {number = number} {key = key} {results = results} {comp = comp} program there (canonical_fix m {at = at} {fix = fix} {s = s} q c fixed) (body_of_fix {fix = other} {own = own} r is_own puts) =
+body_canonical all {number = number} {key = key} {results = results} {comp = comp} program there
+    (canonical_fix m {at = at} {fix = fix} {s = s} q c fixed) (body_of_fix {fix = other} {own = own} r is_own puts) =
     let same : own ≡ rename_fix (past_passed s) fix =
         is_own ∙ ap (λ (f : FixTree). rename_fix (past_passed (skeleton (fix_ty f))) f) (same_fix (sym r ∙ q))
         ∙ ap (λ (u : Skeleton). rename_fix (past_passed u) fix) (fix_ty_skeleton c) in

@@ -4,15 +4,18 @@ use Rattle.htt_syntax.specs.Trees.{MonoTree, TermTree, FixTree, CompTree, StepTr
 use Rattle.theory_renaming.specs.Renaming.{Map, rename_term}
 use Rattle.theory_canonical.specs.Skeletons.{Skeleton, sk_o, sk_c, sk_arrow, sk_all, skeleton}
 use Rattle.theory_canonical.specs.Contexts.{Standing, as_term, Heads, HasSkeleton, first_head, later_head, KeepsStandings}
-use Rattle.theory_canonical.specs.Canonical.{IsCanonical, IsNeutral, IsCanonicalMono, IsCanonicalFix, IsCanonicalComp, IsCanonicalStep, e_var, e_val, e_made, e_fix, e_app, e_inst, n_ret, n_step, n_run, n_alloc, n_get}
+use Rattle.theory_canonical.specs.Canonical.{IsCanonical, IsNeutral, IsCanonicalMono, IsCanonicalFix, IsCanonicalComp, IsCanonicalStep, e_var, e_val, e_made}
+use Rattle.theory_canonical.specs.Canonical.{e_fix, e_app, e_inst, n_ret, n_step, n_run, n_alloc, n_get}
 use Rattle.theory_canonical.specs.Canonical.{n_set, n_free, n_if}
 use Rattle.theory_canonical.proofs.Renamed as renamed
-use Rattle.theory_instances.specs.Calls.{ProgramVal, Program, Argument, of_term, of_mono, rename_argument, head_of, arguments_of, fixed_of, fix_ty, ty_of_val, head_ty, bound_mono, Site, sites_of, sites_of_step}
+use Rattle.theory_instances.specs.Calls.{ProgramVal, Program, Argument, of_term, of_mono, rename_argument, head_of, arguments_of, fixed_of, fix_ty, ty_of_val}
+use Rattle.theory_instances.specs.Calls.{head_ty, bound_mono, Site, sites_of, sites_of_step}
 use Rattle.theory_instances.specs.Keys.{Key, captured_of, number_in, key_of_site, keys_of_head, keys_of_site}
 use Rattle.theory_instances_passing.specs.Pinned.{IsFixed}
 use Rattle.theory_instances_denoted.specs.Arguments.{CanonicalArguments, arguments_none, arguments_term, arguments_mono}
 use Rattle.theory_instances_denoted.proofs.Put.{fix_ty_skeleton}
-use Rattle.theory_instances_canonical.specs.Keys.{values_context, heads_with, CanonicalFixed, fixed_end, fixed_value, fixed_term, fixed_mono, IsCanonicalKey, canonical_val, canonical_fix}
+use Rattle.theory_instances_canonical.specs.Keys.{values_context, heads_with, CanonicalFixed, fixed_end, fixed_value, fixed_term, fixed_mono, IsCanonicalKey}
+use Rattle.theory_instances_canonical.specs.Keys.{canonical_val, canonical_fix}
 use Rattle.theory_instances_canonical.proofs.Contexts.{keeps_values, number_within}
 
 -- one more argument, last
@@ -57,7 +60,9 @@ fixed_arrow sk_c t others c f = fixed_term tt c f
 fixed_arrow (sk_arrow r s) t others c f = fixed_term tt c f
 fixed_arrow (sk_all s) t others c f = fixed_term tt c f
 
-pub fixed_canonical : {heads : Heads} {g : List Standing} {s : Skeleton} {arguments : List Argument} → CanonicalArguments heads g s arguments sk_c → CanonicalFixed heads g s (fixed_of s arguments)
+pub fixed_canonical : {heads : Heads} {g : List Standing} {s : Skeleton} {arguments : List Argument}
+    → CanonicalArguments heads g s arguments sk_c
+    → CanonicalFixed heads g s (fixed_of s arguments)
 fixed_canonical arguments_none = fixed_end
 fixed_canonical (arguments_term {s = s} {t = t} {others = others} a more) = fixed_arrow s t others a (fixed_canonical more)
 fixed_canonical (arguments_mono a more) = fixed_mono a (fixed_canonical more)
@@ -86,23 +91,26 @@ RunsThere heads site = (k : ℕ) × IsNeutral heads (values_context k) site.call
 mutual
   unfolding sites_of
 
-  pub sites_canonical : {heads : Heads} {comp : CompTree} (k : ℕ) (g : List MonoTree)
-      → IsCanonicalComp heads (values_context k) comp
+  pub sites_canonical : {heads : Heads} {comp : CompTree} {context : List Standing} (k : ℕ) (g : List MonoTree)
+      → IsCanonicalComp heads context comp
+      → context ≡ values_context k
       → EachSite (RunsThere heads) (sites_of g comp)
-  sites_canonical k g (n_ret c) = tt
-  sites_canonical {heads = heads} k g (n_step {step = step} {others = others} a b) =
-      each_append (RunsThere heads) (sites_of_step g step) (sites_of (bound_mono step ∷ g) others) (step_canonical k g a) (sites_canonical (suc k) (bound_mono step ∷ g) b)
+  sites_canonical k g (n_ret c) q = tt
+  sites_canonical {heads = heads} k g (n_step {step = step} {others = others} a b) q =
+      each_append (RunsThere heads) (sites_of_step g step) (sites_of (bound_mono step ∷ g) others) (step_canonical k g a q)
+      (sites_canonical (suc k) (bound_mono step ∷ g) b (λ j. as_term sk_o ∷ q j))
 
-  step_canonical : {heads : Heads} {step : StepTree} (k : ℕ) (g : List MonoTree)
-      → IsCanonicalStep heads (values_context k) step
+  step_canonical : {heads : Heads} {step : StepTree} {context : List Standing} (k : ℕ) (g : List MonoTree)
+      → IsCanonicalStep heads context step
+      → context ≡ values_context k
       → EachSite (RunsThere heads) (sites_of_step g step)
-  step_canonical k g (n_run a t) = ((k, a), tt)
-  step_canonical k g (n_alloc t a) = tt
-  step_canonical k g (n_get t a) = tt
-  step_canonical k g (n_set t a b) = tt
-  step_canonical k g (n_free t a) = tt
-  step_canonical {heads = heads} k g (n_if {on_true = on_true} {on_false = on_false} t a b c) =
-      each_append (RunsThere heads) (sites_of g on_true) (sites_of g on_false) (sites_canonical k g b) (sites_canonical k g c)
+  step_canonical {heads = heads} k g (n_run {term = term} a t) q = ((k, subst (λ (c : List Standing). IsNeutral heads c term sk_c) q a), tt)
+  step_canonical k g (n_alloc t a) q = tt
+  step_canonical k g (n_get t a) q = tt
+  step_canonical k g (n_set t a b) q = tt
+  step_canonical k g (n_free t a) q = tt
+  step_canonical {heads = heads} k g (n_if {on_true = on_true} {on_false = on_false} t a b c) q =
+      each_append (RunsThere heads) (sites_of g on_true) (sites_of g on_false) (sites_canonical k g b q) (sites_canonical k g c q)
 
 -- the value of a number is where its skeleton is
 val_there : (vals : List ProgramVal) (n : ℕ) (s : Skeleton)
@@ -130,18 +138,24 @@ key_canonical p all k site whole term (e_val {number = n} d) q arguments =
     let captured = captured_of (head_of site.call) (fixed_of of_head (arguments_of site.call)) in
     let keeps = keeps_values (number_in captured) k (length captured + k) (λ i l. number_within captured k i l) in
     (canonical_val (length captured + k) (ap (rename_term (number_in captured)) q) (r.1)
-    (subst (λ u. CanonicalFixed (heads_with p all) (values_context (length captured + k)) u (map (rename_argument (number_in captured)) (fixed_of of_head (arguments_of site.call)))) (eq ∙ sym (r.2))
+    (subst (λ u.
+    CanonicalFixed (heads_with p all) (values_context (length captured + k)) u
+    (map (rename_argument (number_in captured)) (fixed_of of_head (arguments_of site.call)))) (eq ∙ sym (r.2))
     (fixed_renamed (number_in captured)
-    (subst (λ u. CanonicalFixed (heads_with p all) (values_context k) u (fixed_of u (arguments_of site.call))) (sym eq) (fixed_canonical arguments)) keeps)), tt)
+    (subst (λ u. CanonicalFixed (heads_with p all) (values_context k) u (fixed_of u (arguments_of site.call))) (sym eq)
+    (fixed_canonical arguments)) keeps)), tt)
 key_canonical p all k site whole term (e_fix {at = at} {fix = fix} d) q arguments =
     let of_head : Skeleton = skeleton (head_ty p (head_of site.call)) in
     let eq : of_head ≡ whole = ap (λ h. skeleton (head_ty p h)) q ∙ fix_ty_skeleton d in
     let captured = captured_of (head_of site.call) (fixed_of of_head (arguments_of site.call)) in
     let keeps = keeps_values (number_in captured) k (length captured + k) (λ i l. number_within captured k i l) in
     (canonical_fix (length captured + k) (ap (rename_term (number_in captured)) q) (renamed.fix_renamed d keeps)
-    (subst (λ u. CanonicalFixed (heads_with p all) (values_context (length captured + k)) u (map (rename_argument (number_in captured)) (fixed_of of_head (arguments_of site.call)))) eq
+    (subst (λ u.
+    CanonicalFixed (heads_with p all) (values_context (length captured + k)) u
+    (map (rename_argument (number_in captured)) (fixed_of of_head (arguments_of site.call)))) eq
     (fixed_renamed (number_in captured)
-    (subst (λ u. CanonicalFixed (heads_with p all) (values_context k) u (fixed_of u (arguments_of site.call))) (sym eq) (fixed_canonical arguments)) keeps)), tt)
+    (subst (λ u. CanonicalFixed (heads_with p all) (values_context k) u (fixed_of u (arguments_of site.call))) (sym eq)
+    (fixed_canonical arguments)) keeps)), tt)
 key_canonical p all k site whole term (e_made d c) q arguments = tt
 key_canonical p all k site whole term (e_var d) q arguments = tt
 key_canonical p all k site whole term (e_app a c) q arguments = tt
@@ -152,7 +166,9 @@ keys_append heads p [] ys a b = b
 keys_append heads p (x ∷ xs) ys a b = (a.0, keys_append heads p xs ys (a.1) b)
 
 -- the keys of all calls
-pub keys_canonical : (p : Program) (all : List Key) (sites : List Site) → EachSite (RunsThere (heads_with p all)) sites → EachKeyOf (heads_with p all) p (flat_map (keys_of_site p) sites)
+pub keys_canonical : (p : Program) (all : List Key) (sites : List Site)
+    → EachSite (RunsThere (heads_with p all)) sites
+    → EachKeyOf (heads_with p all) p (flat_map (keys_of_site p) sites)
 keys_canonical p all [] a = tt
 keys_canonical p all (site ∷ sites) a =
     let spine = spine_of ((a.0).1) in

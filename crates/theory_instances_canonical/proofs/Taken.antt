@@ -7,7 +7,8 @@ use Rattle.theory_canonical.specs.Contexts.{HasSkeleton}
 use Rattle.theory_canonical.specs.Canonical.{IsCanonicalComp}
 use Rattle.theory_instances.specs.Calls.{ProgramVal, Program, fix_ty, head_ty, sites_of}
 use Rattle.theory_instances.specs.Keys.{Key}
-use Rattle.theory_instances.specs.Lists.{Meets, meets_none, meets_known, meets_new, keys_met, Taken, TakesUp, TakesAll, takes_end, takes_next, IsMain, main_key, HasInstances}
+use Rattle.theory_instances.specs.Lists.{Meets, meets_none, meets_known, meets_new, keys_met, Taken, TakesUp, TakesAll, takes_end, takes_next, IsMain, main_key}
+use Rattle.theory_instances.specs.Lists.{HasInstances}
 use Rattle.theory_instances_canonical.specs.Keys.{values_context, heads_with, IsCanonicalProgram, CanonicalFixed, fixed_end, IsCanonicalKey, canonical_val}
 use Rattle.theory_instances_canonical.specs.Laws.{InstancesAreCanonical}
 use Rattle.theory_instances_canonical.proofs.Contexts.{skeleton_there}
@@ -33,7 +34,11 @@ met_stays meets_none n k q = q
 met_stays (meets_known i l a) n k q = met_stays a n k q
 met_stays {keys = keys} (meets_new {key = key} f l a) n k q = met_stays a n k (in_front keys (key ∷ []) n k q)
 
-taken_stays : {p : Program} {keys final : List Key} {number : ℕ} {rows : List Taken} → TakesAll p keys number rows final → (n : ℕ) (k : Key) → slice_get keys n ≡ Some k → slice_get final n ≡ Some k
+taken_stays : {p : Program} {keys final : List Key} {number : ℕ} {rows : List Taken}
+    → TakesAll p keys number rows final
+    → (n : ℕ) (k : Key)
+    → slice_get keys n ≡ Some k
+    → slice_get final n ≡ Some k
 taken_stays (takes_end r) n k q = q
 taken_stays (takes_next r u m rest) n k q = taken_stays rest n k (met_stays m n k q)
 
@@ -69,10 +74,14 @@ module _ (p : Program) (program : IsCanonicalProgram p) (all : List Key) where
   all_bodies (takes_end q) a = (a, λ n taken r. absurd (none_or_some r))
   all_bodies {keys = keys} {number = number} (takes_next {key = key} {taken = taken} {others = others} q u m rest) a =
       let body = taken_body (taken_stays rest number key (met_stays m number key q)) (a number key q) u in
-      let r = all_bodies rest (met_known m a (keys_canonical p all (sites_of taken.params taken.body) (sites_canonical (body.0) taken.params (body.1)))) in
+      let r = all_bodies rest (met_known m a (keys_canonical p all (sites_of taken.params taken.body) (sites_canonical (body.0) taken.params (body.1) refl))) in
       (r.0, λ n other s. row n other s body (r.1))
     where
-      row : (n : ℕ) (other : Taken) → slice_get (taken ∷ others) n ≡ Some other → Body taken → ((n : ℕ) (taken : Taken) → slice_get others n ≡ Some taken → Body taken) → Body other
+      row : (n : ℕ) (other : Taken)
+          → slice_get (taken ∷ others) n ≡ Some other
+          → Body taken
+          → ((n : ℕ) (taken : Taken) → slice_get others n ≡ Some taken → Body taken)
+          → Body other
       row zero other s b go = subst Body (same_Some taken other s) b
       row (suc n) other s b go = go n other s
 

@@ -2,19 +2,23 @@
 use Rattle.std.proofs.Common.{◌≡◌, ℕ, zero, suc, List, [], ◌∷◌, ◌++◌, All, Option, Some, None, refl, sym, ap, ◌∙◌}
 use Rattle.std.proofs.lemmas.List.Elements.{All-head, All-tail}
 use Rattle.std.proofs.lemmas.Option.{same_Some}
-use Rattle.htt_syntax.specs.Trees.{MonoTree, TermTree, FixTree, CompTree, StepTree, TermTrees, m_word, m_bool, m_loc, m_unit, m_pair, m_var, t_var, t_made, t_app, t_inst, t_pair, t_fst}
-use Rattle.htt_syntax.specs.Trees.{t_snd, t_not, t_bin, t_eq, t_sel, t_at, t_lam, t_lam_t, t_do, t_fix, no_terms, more_terms, x_param, x_body, c_ret, c_step, s_run, s_alloc, s_get, s_set}
+use Rattle.htt_syntax.specs.Trees.{MonoTree, TermTree, FixTree, CompTree, StepTree, TermTrees, m_word, m_bool, m_loc, m_unit, m_pair, m_var, t_var, t_made}
+use Rattle.htt_syntax.specs.Trees.{t_app, t_inst, t_pair, t_fst}
+use Rattle.htt_syntax.specs.Trees.{t_snd, t_not, t_bin, t_eq, t_sel, t_at, t_lam, t_lam_t, t_do, t_fix, no_terms, more_terms, x_param, x_body, c_ret, c_step}
+use Rattle.htt_syntax.specs.Trees.{s_run, s_alloc, s_get, s_set}
 use Rattle.htt_syntax.specs.Trees.{s_free, s_if, s_claim}
 use Rattle.theory_values.specs.Values.{v_pair, value_of_op, value_of_not, value_of_eq, value_of_sel, value_of_fst, value_of_snd}
 use Rattle.theory_truth.specs.TermValue.{value_or_unit}
 use Rattle.theory_canonical.specs.Skeletons.{Skeleton, sk_o, sk_c, sk_arrow, sk_all}
 use Rattle.theory_denotation.specs.Outcomes.{ended, then_outcome, alloc_outcome, get_outcome, set_outcome, free_outcome, branch_outcome}
-use Rattle.theory_denotation.specs.Valuations.{Domain, ValuationEntry, den_mono, den_term, Valuation, entry_at, mono_of_entry, value_of_entry, running_of_entry, applied_entry, instance_entry}
+use Rattle.theory_denotation.specs.Valuations.{Domain, ValuationEntry, den_mono, den_term, Valuation, entry_at, mono_of_entry, value_of_entry, running_of_entry}
+use Rattle.theory_denotation.specs.Valuations.{applied_entry, instance_entry}
 use Rattle.theory_denotation.specs.Valuations.{at_skeleton, mono_in, HeadEntries}
 use Rattle.theory_denotation.specs.Recursion.{recursion}
 use Rattle.theory_denotation.specs.Denotation.{fix_skeleton, term_den, terms_den, head_den, fix_den, comp_den, step_den}
 use Rattle.theory_instances.specs.Calls.{Argument, of_term, of_mono}
-use Rattle.theory_instances.specs.Occurrences.{Occurrence, outside, met, met_in_term, met_in_terms, met_in_fix, met_in_comp, met_in_step, met_in_ty, met_in_triple}
+use Rattle.theory_instances.specs.Occurrences.{Occurrence, outside, met, met_in_term, met_in_terms, met_in_fix, met_in_comp, met_in_step, met_in_ty}
+use Rattle.theory_instances.specs.Occurrences.{met_in_triple}
 use Rattle.theory_instances_keys.specs.Laws.{OnlyMetCount}
 
 abbrev pub EachMet : Valuation → Valuation → List Occurrence → Type 0
@@ -94,7 +98,9 @@ module _ {base base' : Valuation} where
     term_same e (t_made number values) a pending m s = λ j. at_skeleton (value_of_entry (e.made number (terms_same e values a m j))) s
     term_same e (t_app function argument) {d = d} a pending m s =
         let r = both base base' (met_in_term d (of_term argument ∷ pending) function) (met_in_term d [] argument) m in
-        λ j. at_skeleton (value_of_entry (applied_entry (head_same e function a (of_term argument ∷ pending) (r.0) j) (λ u. term_same e argument a [] (r.1) u j))) s
+        λ j.
+        at_skeleton (value_of_entry
+        (applied_entry (head_same e function a (of_term argument ∷ pending) (r.0) j) (λ u. term_same e argument a [] (r.1) u j))) s
     term_same e (t_inst function mono) a pending m s =
         λ j. at_skeleton (value_of_entry (instance_entry (head_same e function a (of_mono mono ∷ pending) m j) (mono_same a mono j))) s
     term_same e (t_pair left right) {d = d} a pending m s =
@@ -112,7 +118,10 @@ module _ {base base' : Valuation} where
     term_same e (t_sel mono test on_true on_false) {d = d} a pending m s =
         let r = both base base' (met_in_term d [] test) (met_in_term d [] on_true ++ met_in_term d [] on_false) m in
         let k = both base base' (met_in_term d [] on_true) (met_in_term d [] on_false) (r.1) in
-        λ j. at_skeleton (value_or_unit (value_of_sel (term_same e test a [] (r.0) sk_o j) (term_same e on_true a [] (k.0) sk_o j) (term_same e on_false a [] (k.1) sk_o j))) s
+        λ j.
+        at_skeleton (value_or_unit
+        (value_of_sel (term_same e test a [] (r.0) sk_o j) (term_same e on_true a [] (k.0) sk_o j)
+        (term_same e on_false a [] (k.1) sk_o j))) s
     term_same e (t_at at term) a pending m s = term_same e term a pending m s
     term_same e (t_lam body) a pending m (sk_arrow s t) = λ j c. term_same e body (next (den_term s c) a) [] m t j
     term_same e (t_lam_t body) a pending m (sk_all s) = λ j t. term_same e body (next (den_mono t) a) [] m s j
@@ -191,7 +200,9 @@ module _ {base base' : Valuation} where
     monos = monos;
   }
 
-each_met : (base base' : Valuation) (xs : List Occurrence) → All (λ (o : Occurrence). entry_at base o.variable ≡ entry_at base' o.variable) xs → EachMet base base' xs
+each_met : (base base' : Valuation) (xs : List Occurrence)
+    → All (λ (o : Occurrence). entry_at base o.variable ≡ entry_at base' o.variable) xs
+    → EachMet base base' xs
 each_met base base' [] a = tt
 each_met base base' (x ∷ xs) a =
     (All-head (λ (o : Occurrence). entry_at base o.variable ≡ entry_at base' o.variable) x xs a,

@@ -1,6 +1,7 @@
 -- A key denotes what the call does whose key it is: the values that aren't captured are left out, which changes
 -- nothing, and then the captured ones are renumbered.
-use Rattle.std.proofs.Common.{◌≡◌, ℕ, zero, suc, ◌+◌, List, [], ◌∷◌, ◌++◌, map, flat_map, Bool, true, false, nat_eq, if◌then◌else◌, refl, sym, ap, ◌∙◌, subst, arith}
+use Rattle.std.proofs.Common.{◌≡◌, ℕ, zero, suc, ◌+◌, List, [], ◌∷◌, ◌++◌, map, flat_map, Bool, true, false, nat_eq, if◌then◌else◌, refl, sym, ap, ◌∙◌, subst}
+use Rattle.std.proofs.Common.{arith}
 use Rattle.htt_syntax.specs.Trees.{MonoTree, TermTree, m_word, m_bool, m_loc, m_unit, m_pair, m_var}
 use Rattle.theory_renaming.specs.Renaming.{rename_mono, rename_term}
 use Rattle.theory_values.specs.Values.{Value, v_unit}
@@ -32,7 +33,8 @@ no_entry_if false = refl
 kept_at : (i : ℕ) (captured : List ℕ) (w : Valuation) (n : ℕ) → entry_at (kept_from i captured w) n ≡ entry_if (is_among (i + n) captured) (entry_at w n)
 kept_at i captured [] n = sym (no_entry_if (is_among (i + n) captured))
 kept_at i captured (x ∷ w) zero = let q : i ≡ i + 0 = omega arith in ap (λ k. entry_if (is_among k captured) x) q
-kept_at i captured (x ∷ w) (suc n) = let q : suc i + n ≡ i + suc n = omega arith in kept_at (suc i) captured w n ∙ ap (λ k. entry_if (is_among k captured) (entry_at w n)) q
+kept_at i captured (x ∷ w) (suc n) =
+    let q : suc i + n ≡ i + suc n = omega arith in kept_at (suc i) captured w n ∙ ap (λ k. entry_if (is_among k captured) (entry_at w n)) q
 
 kept : (captured : List ℕ) (w : Valuation) (n : ℕ) → entry_at (kept_from zero captured w) n ≡ entry_if (is_among n captured) (entry_at w n)
 kept captured w n = let q : 0 + n ≡ n = omega arith in kept_at zero captured w n ∙ ap (λ k. entry_if (is_among k captured) (entry_at w n)) q
@@ -55,7 +57,8 @@ numbered vs (m ∷ captured) n = by (nat_eq n m) refl (numbered vs captured n)
     by true q rest = let same : m ≡ n = grind (arith, q) in ap (λ k. value_entry (value_at vs k)) same
     by false q rest = rest
 
-along : (vs : List Value) (captured : List ℕ) → AgreeAlong (number_in captured) (kept_from zero captured (with_values vs)) (with_values (map (value_at vs) captured))
+along : (vs : List Value) (captured : List ℕ)
+    → AgreeAlong (number_in captured) (kept_from zero captured (with_values vs)) (with_values (map (value_at vs) captured))
 along vs captured = record {
   at = λ n. numbered vs captured n ∙ ap (entry_if (is_among n captured)) (sym (value_there vs n)) ∙ sym (kept captured (with_values vs) n);
 }
@@ -144,7 +147,9 @@ key_argument : (e : HeadEntries) (vs : List Value) (captured : List ℕ) (argume
     → AllAmong (variables_of (met_in_argument argument)) captured
     → given e (with_values vs) argument ≡ given e (with_values (map (value_at vs) captured)) (rename_argument (number_in captured) argument)
 key_argument e vs captured (of_term term) a = λ j.
-    given_term (λ s. (term_by_met e term (with_values vs) (kept_from zero captured (with_values vs)) (kept_monos vs captured) (agreed vs captured (met_in_term zero [] term) a) s
+    given_term (λ s.
+    (term_by_met e term (with_values vs) (kept_from zero captured (with_values vs)) (kept_monos vs captured)
+    (agreed vs captured (met_in_term zero [] term) a) s
     ∙ sym (term_renamed e term (along vs captured) s)) j)
 key_argument e vs captured (of_mono mono) a = ap given_mono (mono_kept vs captured mono ∙ sym (mono_renamed (along vs captured) mono))
 

@@ -5,7 +5,8 @@ use Rattle.htt_syntax.specs.Trees.{TermTree}
 use Rattle.theory_renaming.specs.Renaming.{rename_term}
 use Rattle.theory_values.specs.Values.{Value, v_unit}
 use Rattle.theory_canonical.specs.Skeletons.{Skeleton, sk_o}
-use Rattle.theory_denotation.specs.Valuations.{ValuationEntry, den_term, Valuation, entry_at, mono_of_entry, HeadEntries}
+use Rattle.theory_denotation.specs.Valuations.{ValuationEntry, den_term, Valuation, entry_at, mono_of_entry}
+use Rattle.theory_denotation.specs.Valuations.{HeadEntries}
 use Rattle.theory_denotation.specs.Denotation.{term_den, head_den}
 use Rattle.theory_instances.specs.Calls.{Argument, rename_argument}
 use Rattle.theory_instances.specs.Occurrences.{Occurrence, met_in_term}

@@ -167,7 +167,8 @@ agreed_applied {e = e} {w = w} w' {argument = argument} (agree_own f c (passes_f
     agree_own (f (term_den e w argument sk_o)) (parts.1) pass m (ap (λ v. applied_entry v (term_den e w argument)) p)
     (ap (λ v. applied_entry v (term_den e w' argument)) q
     ∙ ap (λ v. den_term t (pinned t set (f v))) (sym (subst (λ u. term_den e w argument u ≡ term_den e w' argument u) (parts.0) r)))
-agreed_applied {e = e} {w = w} w' {argument = argument} (agree_own f c (passes_fixed {s = s} {t = t} same pass) (denote_fixed {x = k} {set = set} i d m) p q) o r =
+agreed_applied {e = e} {w = w} w' {argument = argument}
+    (agree_own f c (passes_fixed {s = s} {t = t} same pass) (denote_fixed {x = k} {set = set} i d m) p q) o r =
     agree_own (f (k s)) ((arrow_parts c).1) pass m
     (ap (λ v. applied_entry v (term_den e w argument)) p ∙ ap (λ v. den_term t (f v)) (ap (λ m. term_den e w m s) same ∙ d))
     (ap (λ v. applied_entry v (term_den e w' argument)) q ∙ ap (den_term t) (pinned_fixed s t i k set f (term_den e w' argument s)))

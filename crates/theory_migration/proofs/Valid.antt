@@ -1,5 +1,6 @@
 -- What valid code is migrated to is valid.
-use Rattle.std.proofs.Common.{◌≡◌, ◌≤◌, ◌<◌, ℕ, zero, suc, ◌+◌, List, [], ◌∷◌, length, map, All, sum_by, fold, Bool, true, false, Option, Some, None, slice_get, refl}
+use Rattle.std.proofs.Common.{◌≡◌, ◌≤◌, ◌<◌, ℕ, zero, suc, ◌+◌, List, [], ◌∷◌, length, map, All, sum_by, fold, Bool, true, false, Option, Some, None, slice_get}
+use Rattle.std.proofs.Common.{refl}
 use Rattle.std.proofs.Common.{sym, ap, ◌∙◌, subst, inl, inr, arith}
 use Rattle.std.proofs.lemmas.List.Elements.{All-nil, All-cons, All-head, All-tail}
 use Rattle.word_loader_code.specs.declared.code.Code.{Code}
@@ -115,7 +116,8 @@ module _ (code : Code) where
       → fold (λ (a : ℕ) (f : Function). a + length f.body) n (map (retailed_function code) fs) ≡ fold (λ (a : ℕ) (f : Function). a + length f.body) n fs
   same_fold [] n = refl
   same_fold (f ∷ fs) n =
-      ap (λ m. fold (λ (a : ℕ) (f : Function). a + length f.body) (n + m) (map (retailed_function code) fs)) (body_length code f f.body) ∙ same_fold fs (n + length f.body)
+      ap (λ m. fold (λ (a : ℕ) (f : Function). a + length f.body) (n + m) (map (retailed_function code) fs)) (body_length code f f.body)
+      ∙ same_fold fs (n + length f.body)
 
   same_sum : (fs : List Function) → sum_by (λ (f : Function). length f.body) (map (retailed_function code) fs) ≡ sum_by (λ (f : Function). length f.body) fs
   same_sum fs = same_fold fs 0
