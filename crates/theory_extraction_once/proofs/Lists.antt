@@ -147,13 +147,13 @@ at_end (x ∷ keys) key k (suc n) q = elim (at_end keys key k n q) [ inl r ↦ i
 pushed : {keys : List Key} {key : Key} → IsNew keys key → Distinct keys → Distinct (keys ++ key ∷ [])
 pushed {keys = keys} {key = key} f d n m k l q r s =
     elim (at_end keys key k n q) [
-      inl a ↦ elim (at_end keys key l m r) [
-        inl b ↦ d n m k l a b s
-      | inr b ↦ absurd (f n (record { known = k; at = a; same = s ∙ sym (ap plain_key (b.1)) }))
+      | inl a ↦ elim (at_end keys key l m r) [
+        | inl b ↦ d n m k l a b s
+        | inr b ↦ absurd (f n (record { known = k; at = a; same = s ∙ sym (ap plain_key (b.1)) }))
       ]
-    | inr a ↦ elim (at_end keys key l m r) [
-        inl b ↦ absurd (f m (record { known = l; at = b; same = sym s ∙ sym (ap plain_key (a.1)) }))
-      | inr b ↦ a.0 ∙ sym (b.0)
+      | inr a ↦ elim (at_end keys key l m r) [
+        | inl b ↦ absurd (f m (record { known = l; at = b; same = sym s ∙ sym (ap plain_key (a.1)) }))
+        | inr b ↦ a.0 ∙ sym (b.0)
       ]
     ]
 

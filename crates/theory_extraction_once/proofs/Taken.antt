@@ -64,11 +64,11 @@ body_once {p = p} {key = key} {more = more} {other = other} (body_of_val {n = n}
 body_once {number = number} {key = key} {more = more} {other = other} (body_of_fix {fix = fix} {own = own} q is_own puts)
     (body_of_fix {fix = fix'} {own = own'} r is_own' again) =
     let same : own' ≡ own =
-        is_own' ∙ ap (λ (f : FixTree). rename_fix (past_passed (skeleton (fix_ty f))) f) (same_fix (sym r ∙ q)) ∙ sym is_own in
+    is_own' ∙ ap (λ (f : FixTree). rename_fix (past_passed (skeleton (fix_ty f))) f) (same_fix (sym r ∙ q)) ∙ sym is_own in
     let one = puts_once refl puts (subst (λ (o : FixTree).
-        Puts (opened_fix o) (opened_skeleton (skeleton (fix_ty o)) o)
-        (arguments_within (skeleton (fix_ty o)) key ++ of_term (eta (made_of number (skeleton (fix_ty o)) key) (fix_ty o)) ∷ []) more
-        (t_do other)) same again) in
+    Puts (opened_fix o) (opened_skeleton (skeleton (fix_ty o)) o)
+    (arguments_within (skeleton (fix_ty o)) key ++ of_term (eta (made_of number (skeleton (fix_ty o)) key) (fix_ty o)) ∷ []) more
+    (t_do other)) same again) in
     (one.0, same_do (one.1))
 body_once (body_of_val q found puts) (body_of_fix r own again) = absurd (no_fix (sym q ∙ r))
 body_once (body_of_fix q own puts) (body_of_val r found again) = absurd (no_fix (sym r ∙ q))

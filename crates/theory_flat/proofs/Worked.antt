@@ -23,30 +23,52 @@ worked = record {
     has = instances.worked.sum_has;
     flat = flat_more (record { params = refl; result = refl; body = flattens_ret }) flat_none;
   };
-  cell_has = record { taken = _; keys = _; has = instances.worked.cell_has;
+  cell_has = record {
+    taken = _;
+    keys = _;
+    has = instances.worked.cell_has;
     flat =
         flat_more (record {
           params = refl;
           result = refl;
           body = flattens_step flattens_alloc (flattens_step flattens_get (flattens_step flattens_free flattens_ret));
-        }) flat_none };
-  blocks_have = record { taken = _; keys = _; has = instances.worked.blocks_have;
-    flat = flat_more (record { params = refl; result = refl; body = flattens_step flattens_alloc (flattens_step flattens_alloc flattens_ret) }) flat_none };
-  seven_has = record { taken = _; keys = _; has = instances.worked.seven_has;
+        }) flat_none;
+  };
+  blocks_have = record {
+    taken = _;
+    keys = _;
+    has = instances.worked.blocks_have;
+    flat = flat_more (record { params = refl; result = refl; body = flattens_step flattens_alloc (flattens_step flattens_alloc flattens_ret) }) flat_none;
+  };
+  seven_has = record {
+    taken = _;
+    keys = _;
+    has = instances.worked.seven_has;
     flat =
         flat_more (record {
           params = refl;
           result = refl;
           body = flattens_step (flattens_run (names_key refl (record { known = _; at = refl; same = refl }))) flattens_ret;
         })
-        (flat_more (record { params = refl; result = refl; body = flattens_ret }) flat_none) };
-  dup_has = record { taken = _; keys = _; has = instances.worked.dup_has;
-    flat = flat_more (record { params = refl; result = refl;
+        (flat_more (record { params = refl; result = refl; body = flattens_ret }) flat_none);
+  };
+  dup_has = record {
+    taken = _;
+    keys = _;
+    has = instances.worked.dup_has;
+    flat = flat_more (record {
+      params = refl;
+      result = refl;
       body = flattens_step (flattens_run (names_key refl (record { known = _; at = refl; same = refl })))
-          (flattens_step (flattens_run (names_key refl (record { known = _; at = refl; same = refl }))) flattens_ret) })
+          (flattens_step (flattens_run (names_key refl (record { known = _; at = refl; same = refl }))) flattens_ret);
+    })
         (flat_more (record { params = refl; result = refl; body = flattens_ret })
-            (flat_more (record { params = refl; result = refl; body = flattens_ret }) flat_none)) };
-  rep_has = record { taken = _; keys = _; has = instances.worked.rep_has;
+        (flat_more (record { params = refl; result = refl; body = flattens_ret }) flat_none));
+  };
+  rep_has = record {
+    taken = _;
+    keys = _;
+    has = instances.worked.rep_has;
     flat =
         flat_more (record {
           params = refl;
@@ -58,8 +80,12 @@ worked = record {
           result = refl;
           body = flattens_step (flattens_run (names_key refl (record { known = _; at = refl; same = refl }))) flattens_ret;
         })
-        (flat_more (record { params = refl; result = refl;
-          body = flattens_step (flattens_if flattens_ret (flattens_step (flattens_run (names_made refl refl)) flattens_ret)) flattens_ret }) flat_none)) };
+        (flat_more (record {
+          params = refl;
+          result = refl;
+          body = flattens_step (flattens_if flattens_ret (flattens_step (flattens_run (names_made refl refl)) flattens_ret)) flattens_ret;
+        }) flat_none));
+  };
 }
 
 pub read : WorkedReadings

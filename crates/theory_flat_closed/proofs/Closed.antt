@@ -99,7 +99,7 @@ main_first m (takes_end q) f = absurd (some_or_none q)
 main_first {p = p} {number = number} m (takes_next {key = key} {taken = taken} q u met rest) (flat_more {instance = instance} a b) =
     let ty_is : ty_of_val (slice_get p.vals number) ≡ y_hoare m.spec = ap ty_of_val m.there ∙ m.is_hoare in
     let none : taken.params ≡ [] =
-        u.params ∙ ap (params_of p) (sym (same_Some (main_key number) key q)) ∙ (λ j. reverse (passed_monos m_var (ty_is j) []) ++ []) in
+    u.params ∙ ap (params_of p) (sym (same_Some (main_key number) key q)) ∙ (λ j. reverse (passed_monos m_var (ty_is j) []) ++ []) in
     (instance, refl, a.params ∙ ap reverse none)
 
 pub closed : ListsAreClosed

@@ -80,8 +80,15 @@ sum_has = record {
   main = record { named = refl; val = record { ty = sum_ty; term = t_do (c_ret (t_word 5)) }; there = refl; spec = sum_spec; is_hoare = refl };
   all = takes_next refl (record {
     never_varies =
-        tt; results = []; has_body = body_of_val refl refl puts_none; results_within = refl; monos_within = refl; same_key = refl; params =
-        refl; result = refl;
+        tt;
+    results = [];
+    has_body = body_of_val refl refl puts_none;
+    results_within = refl;
+    monos_within = refl;
+    same_key = refl;
+    params =
+        refl;
+    result = refl;
   }) meets_none (takes_end refl);
 }
 
@@ -92,8 +99,15 @@ cell_has = record {
   main = record { named = refl; val = record { ty = always m_word; term = t_do cell_body }; there = refl; spec = triple f_tt m_word f_tt; is_hoare = refl };
   all = takes_next refl (record {
     never_varies =
-        tt; results = []; has_body = body_of_val refl refl puts_none; results_within = refl; monos_within = refl; same_key = refl; params =
-        refl; result = refl;
+        tt;
+    results = [];
+    has_body = body_of_val refl refl puts_none;
+    results_within = refl;
+    monos_within = refl;
+    same_key = refl;
+    params =
+        refl;
+    result = refl;
   }) meets_none (takes_end refl);
 }
 
@@ -104,11 +118,17 @@ blocks_have = record {
   main = record { named = refl; val = record { ty = always m_bool; term = t_do blocks_body }; there = refl; spec = triple f_tt m_bool f_tt; is_hoare = refl };
   all = takes_next refl (record {
     never_varies =
-        tt; results = []; has_body = body_of_val refl refl puts_none; results_within = refl; monos_within = refl; same_key = refl; params =
-        refl; result = refl;
+        tt;
+    results = [];
+    has_body = body_of_val refl refl puts_none;
+    results_within = refl;
+    monos_within = refl;
+    same_key = refl;
+    params =
+        refl;
+    result = refl;
   }) meets_none (takes_end refl);
 }
-
 
 seven_has : HasInstances seven seven_instances (main_key 1 ∷ main_key 0 ∷ [])
 unfolding skeleton sites_of greatest_in_term nodes_mono nodes_term nodes_option head_of arguments_of fix_ty fix_comp met_in_term rename_term
@@ -119,14 +139,28 @@ seven_has = record {
   main = record { named = refl; val = record { ty = always m_word; term = t_do seven_body }; there = refl; spec = triple f_tt m_word f_tt; is_hoare = refl };
   all = takes_next refl (record {
     never_varies =
-        tt; results = []; has_body = body_of_val refl refl puts_none; results_within = refl; monos_within = refl; same_key = refl; params =
-        refl; result = refl;
+        tt;
+    results = [];
+    has_body = body_of_val refl refl puts_none;
+    results_within = refl;
+    monos_within = refl;
+    same_key = refl;
+    params =
+        refl;
+    result = refl;
   }) (meets_new (new_to_one (other_head (main_key 1) (main_key 0) (λ q. omega (arith, q)))) (omega arith) meets_none)
-  (takes_next refl (record {
-    never_varies =
-        tt; results = []; has_body = body_of_val refl refl puts_none; results_within = refl; monos_within = refl; same_key = refl; params =
-        refl; result = refl;
-  }) meets_none (takes_end refl));
+      (takes_next refl (record {
+        never_varies =
+            tt;
+        results = [];
+        has_body = body_of_val refl refl puts_none;
+        results_within = refl;
+        monos_within = refl;
+        same_key = refl;
+        params =
+            refl;
+        result = refl;
+      }) meets_none (takes_end refl));
 }
 
 -- ret (x, x), where the parameter is put for x
@@ -148,23 +182,42 @@ dup_has = record {
   };
   all = takes_next refl (record {
     never_varies =
-        tt; results = []; has_body = body_of_val refl refl puts_none; results_within = refl; monos_within = refl; same_key = refl; params =
-        refl; result = refl;
+        tt;
+    results = [];
+    has_body = body_of_val refl refl puts_none;
+    results_within = refl;
+    monos_within = refl;
+    same_key = refl;
+    params =
+        refl;
+    result = refl;
   }) (meets_new (new_to_one (other_head (main_key 1) (dup_at m_word).key (λ q. omega (arith, q)))) (omega arith)
-  (meets_new (new_to_two (other_head (main_key 1) (dup_at word_and_bool).key (λ q. omega (arith, q)))
+      (meets_new (new_to_two (other_head (main_key 1) (dup_at word_and_bool).key (λ q. omega (arith, q)))
       (other_argument (dup_at m_word).key (dup_at word_and_bool).key (λ q. omega (arith, q)))) (omega arith) meets_none))
-  (takes_next refl (record {
-    never_varies =
-        tt; results = t_lam (t_do twice_result) ∷ t_do twice_result ∷
-        []; has_body = body_of_val refl refl (puts_mono (puts_term (applied twice_put) puts_none));
-    results_within = refl; monos_within = refl; same_key = refl; params = refl; result = refl;
-  }) meets_none
-  (takes_next refl (record {
-    never_varies =
-        tt; results = t_lam (t_do twice_result) ∷ t_do twice_result ∷
-        []; has_body = body_of_val refl refl (puts_mono (puts_term (applied twice_put) puts_none));
-    results_within = refl; monos_within = refl; same_key = refl; params = refl; result = refl;
-  }) meets_none (takes_end refl)));
+      (takes_next refl (record {
+        never_varies =
+            tt;
+        results = t_lam (t_do twice_result) ∷ t_do twice_result ∷
+            [];
+        has_body = body_of_val refl refl (puts_mono (puts_term (applied twice_put) puts_none));
+        results_within = refl;
+        monos_within = refl;
+        same_key = refl;
+        params = refl;
+        result = refl;
+      }) meets_none
+      (takes_next refl (record {
+        never_varies =
+            tt;
+        results = t_lam (t_do twice_result) ∷ t_do twice_result ∷
+            [];
+        has_body = body_of_val refl refl (puts_mono (puts_term (applied twice_put) puts_none));
+        results_within = refl;
+        monos_within = refl;
+        same_key = refl;
+        params = refl;
+        result = refl;
+      }) meets_none (takes_end refl)));
 }
 
 -- the function that counts has no free variable, if what it passes has none
@@ -221,8 +274,15 @@ unfolding skeleton sites_of greatest_in_term nodes_mono nodes_term nodes_option 
     computation_in
 main_up passed = record {
   never_varies =
-      tt; results = []; has_body = body_of_val refl refl puts_none; results_within = refl; monos_within = refl; same_key = refl; params =
-      refl; result = refl;
+      tt;
+  results = [];
+  has_body = body_of_val refl refl puts_none;
+  results_within = refl;
+  monos_within = refl;
+  same_key = refl;
+  params =
+      refl;
+  result = refl;
 }
 
 rep_new : IsNew (main_key 1 ∷ []) rep_key
@@ -246,7 +306,11 @@ rep_up = record {
   never_varies = tt;
   results = t_lam (t_do (repeated (counted passed_on) plus_two (t_var 0))) ∷ t_do (repeated (counted passed_on) plus_two (t_var 0)) ∷ [];
   has_body = rep_body passed_on passed_on_stays;
-  results_within = refl; monos_within = refl; same_key = refl; params = refl; result = refl;
+  results_within = refl;
+  monos_within = refl;
+  same_key = refl;
+  params = refl;
+  result = refl;
 }
 
 changed_up : TakesUp (rep changed) 1 rep_key (rep_taken changed)
@@ -257,7 +321,11 @@ changed_up = record {
   never_varies = tt;
   results = t_lam (t_do (repeated (counted changed) plus_two (t_var 0))) ∷ t_do (repeated (counted changed) plus_two (t_var 0)) ∷ [];
   has_body = rep_body changed changed_stays;
-  results_within = refl; monos_within = refl; same_key = refl; params = refl; result = refl;
+  results_within = refl;
+  monos_within = refl;
+  same_key = refl;
+  params = refl;
+  result = refl;
 }
 
 -- the computation that counts, without the function that is passed on
@@ -300,7 +368,11 @@ loop_up = record {
       (u_ret (plus_two_of (u_kept (k_var (λ q. omega (arith, q))))))
       (b_step (b_ret (u_ret (plus_two_of (u_reduced (r_var refl))))))))
       (u_ret (u_kept (k_var (λ q. omega (arith, q)))))))) puts_none)));
-  results_within = refl; monos_within = refl; same_key = refl; params = refl; result = refl;
+  results_within = refl;
+  monos_within = refl;
+  same_key = refl;
+  params = refl;
+  result = refl;
 }
 
 rep_has : HasInstances (rep passed_on) rep_instances (main_key 1 ∷ rep_key ∷ fix_key passed_on ∷ [])
@@ -323,7 +395,12 @@ changed_varies =
     (refuses_later refl (main_up changed) (meets_new rep_new (omega arith) meets_none)
     (refuses_later refl changed_up (meets_new (fix_new changed) (omega arith) meets_none)
     (refuses_up refl (up_varies refl (record {
-      before = []; here = _; after = []; all = refl; passed_on = All-nil (PassesOnAt (counted changed)); varies = varies_here (λ e. cc) (λ e. cc);
+      before = [];
+      here = _;
+      after = [];
+      all = refl;
+      passed_on = All-nil (PassesOnAt (counted changed));
+      varies = varies_here (λ e. cc) (λ e. cc);
     })))))
 
 pub worked : WorkedInstances

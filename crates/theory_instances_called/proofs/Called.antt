@@ -70,7 +70,7 @@ unfolding term_den
 variables_pass e [] rest = refl
 variables_pass e (v ∷ passed) rest =
     let moved : reverse (v ∷ passed) ++ rest ≡ reverse passed ++ (v ∷ rest) =
-        ap (λ (l : List Value). l ++ rest) (reverse-append (v ∷ []) passed) ∙ append_assoc (reverse passed) (v ∷ []) rest in
+    ap (λ (l : List Value). l ++ rest) (reverse-append (v ∷ []) passed) ∙ append_assoc (reverse passed) (v ∷ []) rest in
     ap (λ (l : List Value). map (λ (x : TermTree). term_den e (with_values l) x sk_o) (variables (suc (length passed)))) moved
     ∙ (λ j. value_of_entry (first j) ∷ variables_pass e passed (v ∷ rest) j)
   where
@@ -146,17 +146,17 @@ module _ {heads : Heads} {e : HeadEntries} (h : HeadsValued heads e) (p : Progra
       (past_keeps r k (k + r) (omega arith)) in
       let arguments' = all_canonical (k + r) fixed_within (omega arith) in
       let body_is = vals_denote heads e (values_context (k + r)) w' h (values_valued (k + r) (reverse passed ++ rest)) p number n key val results comp
-          (ap (rename_term (number_in captured)) head) there (closed_within (values_context (k + r)) canonical) arguments' body in
+      (ap (rename_term (number_in captured)) head) there (closed_within (values_context (k + r)) canonical) arguments' body in
       let fixed_same : map (given e w) fixed ≡ map (given e w') (map (rename_argument (shifting zero r)) key.fixed) =
-          keys.arguments e vs (head_of call) fixed ∙ sym (given_past e (reverse passed) rest r front key.fixed) in
+      keys.arguments e vs (head_of call) fixed ∙ sym (given_past e (reverse passed) rest r front key.fixed) in
       let passed_same : map (λ (x : TermTree). term_den e w x sk_o) (passed_of s (arguments_of call)) ≡ map
       (λ (x : TermTree). term_den e w' x sk_o) (variables r) =
-          sym (variables_pass e passed rest) ∙ ap (λ i. map (λ (x : TermTree). term_den e w' x sk_o) (variables i)) count in
+      sym (variables_pass e passed rest) ∙ ap (λ i. map (λ (x : TermTree). term_den e w' x sk_o) (variables i)) count in
       let agreed = arguments_agree e w w' arguments (map (rename_argument (shifting zero r)) key.fixed) (variables r) fixed_same passed_same in
       let applied : applied_to (den_term s (term_den e [] val.term s)) (map (given e w) (arguments_of call)) ≡ den_term sk_c (comp_den e w' comp) =
-          agreed_applies (term_den e [] val.term s) agreed
-          ∙ ap (λ (d : Domain s). applied_to (den_term s d) (map (given e w') (arguments_within s key))) (sym (closed_same w' h canonical))
-          ∙ sym body_is in
+      agreed_applies (term_den e [] val.term s) agreed
+      ∙ ap (λ (d : Domain s). applied_to (den_term s d) (map (given e w') (arguments_within s key))) (sym (closed_same w' h canonical))
+      ∙ sym body_is in
       call_applies e w call
       ∙ ap (λ t. applied_to (head_den e w t) (map (given e w) (arguments_of call))) head
       ∙ ap (λ x. applied_to x (map (given e w) (arguments_of call))) counted
@@ -168,7 +168,7 @@ called heads e h p n m number val vs site results comp there counted canonical h
     let s = skeleton val.ty in
     let spine = spine_of neutral in
     let of_head : IsOf spine.whole (e.vals n) =
-        head_is_of h (values_valued m vs) (subst (λ t. IsNeutral heads (values_context m) t spine.whole) head spine.head) in
+    head_is_of h (values_valued m vs) (subst (λ t. IsNeutral heads (values_context m) t spine.whole) head spine.head) in
     let whole_is : spine.whole ≡ s = one_skeleton of_head counted in
     let declared : skeleton (head_ty p (head_of site.call)) ≡ s = ap (λ t. skeleton (head_ty p t)) head ∙ ap (λ o. skeleton (ty_of_val o)) there in
     called_at h p n m number val vs site results comp there counted canonical head

@@ -108,12 +108,12 @@ fix_canonical {heads = heads} {number = number} m key {fix = fix} {s = s} there 
     let keeps = past_keeps (passed_count s) m k (omega arith) in
     let own = renamed.fix_renamed c keeps in
     let made : IsNeutral heads (values_context k) (made_of number s key) s =
-        e_made there (captured_canonical k (passed_count s) (length key.captured) (omega arith)) in
+    e_made there (captured_canonical k (passed_count s) (length key.captured) (omega arith)) in
     let q = fix_ty_skeleton own in
     let last : IsCanonical heads (values_context k) (eta (made_of number s key) (fix_ty (rename_fix (past_passed s) fix))) s =
-        subst (IsCanonical heads (values_context k) (eta (made_of number s key) (fix_ty (rename_fix (past_passed s) fix)))) q
-        (expanded_canonical (made_of number s key) (fix_ty_canonical own) (unmoved (values_context k))
-        (subst (IsNeutral heads (values_context k) (made_of number s key)) (sym q) made)) in
+    subst (IsCanonical heads (values_context k) (eta (made_of number s key) (fix_ty (rename_fix (past_passed s) fix)))) q
+    (expanded_canonical (made_of number s key) (fix_ty_canonical own) (unmoved (values_context k))
+    (subst (IsNeutral heads (values_context k) (made_of number s key)) (sym q) made)) in
     do_comp (put_canonical puts (opened_canonical own)
     (opened_arguments own (all_canonical k (fixed_renamed (past_passed s) fixed keeps) (omega arith)) last))
 
@@ -128,24 +128,28 @@ body_canonical {p = p} all {key = key} {results = results} {comp = comp} program
     let same : u ≡ v = same_Some u v (sym here ∙ ap (λ j. slice_get p.vals j) (same_val (sym r ∙ q)) ∙ found) in
     let s = skeleton v.ty in
     let k = m + passed_count s in
-    let keeps = past_keeps (passed_count s) m k (omega arith) in
-    (k, do_comp (put_canonical (subst (λ (x : ProgramVal). Puts x.term (skeleton x.ty) (arguments_within (skeleton x.ty) key) results (t_do comp)) same puts)
-    (closed_within (values_context k) (term_more (more_heads p all) (program.terms n v found)))
-    (all_canonical k (fixed_renamed (past_passed s) fixed keeps) (omega arith))))
+    let keeps = past_keeps (passed_count s) m k (omega arith) in (
+      k,
+      do_comp (put_canonical (subst (λ (x : ProgramVal). Puts x.term (skeleton x.ty) (arguments_within (skeleton x.ty) key) results (t_do comp)) same puts)
+          (closed_within (values_context k) (term_more (more_heads p all) (program.terms n v found)))
+          (all_canonical k (fixed_renamed (past_passed s) fixed keeps) (omega arith))),
+    )
 body_canonical all {number = number} {key = key} {results = results} {comp = comp} program there
     (canonical_fix m {at = at} {fix = fix} {s = s} q c fixed) (body_of_fix {fix = other} {own = own} r is_own puts) =
     let same : own ≡ rename_fix (past_passed s) fix =
-        is_own ∙ ap (λ (f : FixTree). rename_fix (past_passed (skeleton (fix_ty f))) f) (same_fix (sym r ∙ q))
-        ∙ ap (λ (u : Skeleton). rename_fix (past_passed u) fix) (fix_ty_skeleton c) in
+    is_own ∙ ap (λ (f : FixTree). rename_fix (past_passed (skeleton (fix_ty f))) f) (same_fix (sym r ∙ q))
+    ∙ ap (λ (u : Skeleton). rename_fix (past_passed u) fix) (fix_ty_skeleton c) in
     let keeps = past_keeps (passed_count s) m (m + passed_count s + length key.captured) (omega arith) in
-    let own_skeleton : skeleton (fix_ty (rename_fix (past_passed s) fix)) ≡ s = fix_ty_skeleton (renamed.fix_renamed c keeps) in
-    (m + passed_count s + length key.captured,
-    fix_canonical m key (there s at fix q (fix_ty_skeleton c)) c fixed
-    (subst (λ (u : Skeleton).
-    Puts (opened_fix (rename_fix (past_passed s) fix)) (opened_skeleton u (rename_fix (past_passed s) fix))
-    (arguments_within u key ++ of_term (eta (made_of number u key) (fix_ty (rename_fix (past_passed s) fix))) ∷ []) results (t_do comp)) own_skeleton
-    (subst (λ (o : FixTree).
-    Puts (opened_fix o) (opened_skeleton (skeleton (fix_ty o)) o)
-    (arguments_within (skeleton (fix_ty o)) key ++ of_term (eta (made_of number (skeleton (fix_ty o)) key) (fix_ty o)) ∷ []) results (t_do comp)) same puts)))
+    let own_skeleton : skeleton (fix_ty (rename_fix (past_passed s) fix)) ≡ s = fix_ty_skeleton (renamed.fix_renamed c keeps) in (
+      m + passed_count s + length key.captured,
+      fix_canonical m key (there s at fix q (fix_ty_skeleton c)) c fixed
+          (subst (λ (u : Skeleton).
+          Puts (opened_fix (rename_fix (past_passed s) fix)) (opened_skeleton u (rename_fix (past_passed s) fix))
+          (arguments_within u key ++ of_term (eta (made_of number u key) (fix_ty (rename_fix (past_passed s) fix))) ∷ []) results (t_do comp)) own_skeleton
+          (subst (λ (o : FixTree).
+          Puts (opened_fix o) (opened_skeleton (skeleton (fix_ty o)) o)
+          (arguments_within (skeleton (fix_ty o)) key ++ of_term (eta (made_of number (skeleton (fix_ty o)) key) (fix_ty o)) ∷ []) results
+          (t_do comp)) same puts)),
+    )
 body_canonical all program there (canonical_val m q found fixed) (body_of_fix r is_own puts) = absurd (no_fix (sym q ∙ r))
 body_canonical all program there (canonical_fix m q c fixed) (body_of_val r here puts) = absurd (no_fix (sym r ∙ q))

@@ -136,26 +136,30 @@ key_canonical p all k site whole term (e_val {number = n} d) q arguments =
     let of_head : Skeleton = skeleton (head_ty p (head_of site.call)) in
     let eq : of_head ≡ whole = ap (λ h. skeleton (head_ty p h)) q ∙ ap (λ o. skeleton (ty_of_val o)) (r.1) ∙ r.2 in
     let captured = captured_of (head_of site.call) (fixed_of of_head (arguments_of site.call)) in
-    let keeps = keeps_values (number_in captured) k (length captured + k) (λ i l. number_within captured k i l) in
-    (canonical_val (length captured + k) (ap (rename_term (number_in captured)) q) (r.1)
-    (subst (λ u.
-    CanonicalFixed (heads_with p all) (values_context (length captured + k)) u
-    (map (rename_argument (number_in captured)) (fixed_of of_head (arguments_of site.call)))) (eq ∙ sym (r.2))
-    (fixed_renamed (number_in captured)
-    (subst (λ u. CanonicalFixed (heads_with p all) (values_context k) u (fixed_of u (arguments_of site.call))) (sym eq)
-    (fixed_canonical arguments)) keeps)), tt)
+    let keeps = keeps_values (number_in captured) k (length captured + k) (λ i l. number_within captured k i l) in (
+      canonical_val (length captured + k) (ap (rename_term (number_in captured)) q) (r.1)
+          (subst (λ u.
+          CanonicalFixed (heads_with p all) (values_context (length captured + k)) u
+          (map (rename_argument (number_in captured)) (fixed_of of_head (arguments_of site.call)))) (eq ∙ sym (r.2))
+          (fixed_renamed (number_in captured)
+          (subst (λ u. CanonicalFixed (heads_with p all) (values_context k) u (fixed_of u (arguments_of site.call))) (sym eq)
+          (fixed_canonical arguments)) keeps)),
+      tt,
+    )
 key_canonical p all k site whole term (e_fix {at = at} {fix = fix} d) q arguments =
     let of_head : Skeleton = skeleton (head_ty p (head_of site.call)) in
     let eq : of_head ≡ whole = ap (λ h. skeleton (head_ty p h)) q ∙ fix_ty_skeleton d in
     let captured = captured_of (head_of site.call) (fixed_of of_head (arguments_of site.call)) in
-    let keeps = keeps_values (number_in captured) k (length captured + k) (λ i l. number_within captured k i l) in
-    (canonical_fix (length captured + k) (ap (rename_term (number_in captured)) q) (renamed.fix_renamed d keeps)
-    (subst (λ u.
-    CanonicalFixed (heads_with p all) (values_context (length captured + k)) u
-    (map (rename_argument (number_in captured)) (fixed_of of_head (arguments_of site.call)))) eq
-    (fixed_renamed (number_in captured)
-    (subst (λ u. CanonicalFixed (heads_with p all) (values_context k) u (fixed_of u (arguments_of site.call))) (sym eq)
-    (fixed_canonical arguments)) keeps)), tt)
+    let keeps = keeps_values (number_in captured) k (length captured + k) (λ i l. number_within captured k i l) in (
+      canonical_fix (length captured + k) (ap (rename_term (number_in captured)) q) (renamed.fix_renamed d keeps)
+          (subst (λ u.
+          CanonicalFixed (heads_with p all) (values_context (length captured + k)) u
+          (map (rename_argument (number_in captured)) (fixed_of of_head (arguments_of site.call)))) eq
+          (fixed_renamed (number_in captured)
+          (subst (λ u. CanonicalFixed (heads_with p all) (values_context k) u (fixed_of u (arguments_of site.call))) (sym eq)
+          (fixed_canonical arguments)) keeps)),
+      tt,
+    )
 key_canonical p all k site whole term (e_made d c) q arguments = tt
 key_canonical p all k site whole term (e_var d) q arguments = tt
 key_canonical p all k site whole term (e_app a c) q arguments = tt

@@ -81,8 +81,8 @@ module _ {heads : Heads} {e : HeadEntries} {g0 g : List Standing} {w0 w : Valuat
       let q : skeleton (fix_ty own) ≡ s = fix_ty_skeleton c' in
       let self : Domain s = recursion s (λ own. fix_den e w0 (den_term s own) fix s) in
       let last : IsCanonical heads g (eta made_term (fix_ty own)) s =
-          subst (IsCanonical heads g (eta made_term (fix_ty own))) q
-          (expanded_canonical made_term (fix_ty_canonical c') (unmoved g) (subst (IsNeutral heads g made_term) (sym q) neutral)) in
+      subst (IsCanonical heads g (eta made_term (fix_ty own))) q
+      (expanded_canonical made_term (fix_ty_canonical c') (unmoved g) (subst (IsNeutral heads g made_term) (sym q) neutral)) in
       let all : List GivenArgument = map (given e w) (arguments_within s key) in
       put_denotes h z puts (opened_canonical c') (opened_arguments c' arguments last)
       ∙ ap (applied_to (den_term (opened_skeleton s own) (term_den e w (opened_fix own) (opened_skeleton s own))))
@@ -100,8 +100,8 @@ fixes_denote heads e g0 g w0 w h z0 z p number at key fix s set results comp q k
 fixes_denote heads e g0 g w0 w h z0 z p number at key fix s set results comp q keeps along c never neutral arguments made
     (body_of_fix {fix = other} {own = own} r is_own puts) =
     let same : own ≡ rename_fix (past_passed s) fix =
-        is_own ∙ ap (λ (f : FixTree). rename_fix (past_passed (skeleton (fix_ty f))) f) (same_fix (sym r ∙ q))
-        ∙ ap (λ (u : Skeleton). rename_fix (past_passed u) fix) (fix_ty_skeleton c) in
+    is_own ∙ ap (λ (f : FixTree). rename_fix (past_passed (skeleton (fix_ty f))) f) (same_fix (sym r ∙ q))
+    ∙ ap (λ (u : Skeleton). rename_fix (past_passed u) fix) (fix_ty_skeleton c) in
     let skeleton_of : skeleton (fix_ty (rename_fix (past_passed s) fix)) ≡ s = fix_ty_skeleton (fix_renamed c keeps) in
     fix_body h z0 z at keeps along c never neutral arguments made
     (subst (λ (u : Skeleton).

@@ -204,9 +204,10 @@ each_met : (base base' : Valuation) (xs : List Occurrence)
     → All (λ (o : Occurrence). entry_at base o.variable ≡ entry_at base' o.variable) xs
     → EachMet base base' xs
 each_met base base' [] a = tt
-each_met base base' (x ∷ xs) a =
-    (All-head (λ (o : Occurrence). entry_at base o.variable ≡ entry_at base' o.variable) x xs a,
-    each_met base base' xs (All-tail (λ (o : Occurrence). entry_at base o.variable ≡ entry_at base' o.variable) x xs a))
+each_met base base' (x ∷ xs) a = (
+  All-head (λ (o : Occurrence). entry_at base o.variable ≡ entry_at base' o.variable) x xs a,
+  each_met base base' xs (All-tail (λ (o : Occurrence). entry_at base o.variable ≡ entry_at base' o.variable) x xs a),
+)
 
 -- where each occurrence is known to agree
 pub head_by_met : (e : HeadEntries) (term : TermTree) (w w' : Valuation)

@@ -100,9 +100,9 @@ module _ {whole : Skeleton} {own : Domain whole} {set : List AtEach} {base : Val
   mono_agrees a (m_pair t u) = λ j. m_pair (mono_agrees a t j) (mono_agrees a u j)
   mono_agrees {w = w} {w' = w'} a (m_var index) =
       elim (a.others index) [
-        inl q ↦ ap (λ n. mono_of_entry (entry_at w n)) q ∙ ap mono_of_entry a.here ∙ sym (ap mono_of_entry a.pinned_here)
-        ∙ sym (ap (λ n. mono_of_entry (entry_at w' n)) q)
-      | inr q ↦ ap mono_of_entry q
+        | inl q ↦ ap (λ n. mono_of_entry (entry_at w n)) q ∙ ap mono_of_entry a.here ∙ sym (ap mono_of_entry a.pinned_here)
+            ∙ sym (ap (λ n. mono_of_entry (entry_at w' n)) q)
+        | inr q ↦ ap mono_of_entry q
       ]
 
   pub denote_within : {e : HeadEntries} {d : ℕ} {g : List Standing} {w w' : Valuation} {s t : Skeleton} {params : List TermTree} {others : List AtEach}

@@ -83,12 +83,12 @@ module _ (heads : Heads) (e : HeadEntries) (h : HeadsValued heads e) (whole : Sk
         → Agreeing e w s pending (head_den e w term) (head_den e w' term)
     head_agrees {d = d} {w = w} {w' = w'} (e_var {index = index} {s = s} stands) a pending m =
         elim (a.others index) [
-          inl q ↦ agree_own own
+          | inl q ↦ agree_own own
               (ap skeleton_of_entry (sym (a.valued.at index s stands).is ∙ ap (entry_at w) q ∙ a.here))
               (own_met whole params d index pending q m) (denote_within a denoted)
               (ap (entry_at w) q ∙ a.here)
               (ap (entry_at w') q ∙ a.pinned_here)
-        | inr q ↦ agree_same q
+          | inr q ↦ agree_same q
         ]
     head_agrees (e_val b) a pending m = agree_same refl
     head_agrees (e_made {number = number} b c) a pending m = agree_same (ap (e.made number) (terms_agree c a m))

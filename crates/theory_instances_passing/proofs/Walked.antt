@@ -79,13 +79,13 @@ module _ (heads : Heads) (e : HeadEntries) (h : HeadsValued heads e) (whole : Sk
   body_agrees {comp = comp} {g = g} {w = w} {params = params} set b z m passes =
       let base : Valuation = den_term whole own ∷ w in
       let apart : Apart whole own set base zero (as_term whole ∷ g) base (den_term whole (pinned whole set own) ∷ w) =
-          record {
-            here = refl;
-            pinned_here = refl;
-            others = λ n. apart_at n;
-            along = λ n. let q : n + 0 ≡ n = omega arith in ap (entry_at base) q;
-            valued = valued_term whole own z;
-          } in
+      record {
+        here = refl;
+        pinned_here = refl;
+        others = λ n. apart_at n;
+        along = λ n. let q : n + 0 ≡ n = omega arith in ap (entry_at base) q;
+        valued = valued_term whole own z;
+      } in
       comp_agrees heads e h whole (map up params) own set base (further (den_term whole own) m) b apart passes
     where
       apart_at : (n : ℕ) → (n ≡ zero) ⊎ (entry_at (den_term whole own ∷ w) n ≡ entry_at (den_term whole (pinned whole set own) ∷ w) n)
@@ -144,6 +144,6 @@ skeleton_of_fix (x_body spec comp) s (n_body a b) = refl
 pub agrees : PassingOnAgrees
 agrees heads e g w h z at fix s c never own arguments set split =
     let passes : EachOwn (skeleton (fix_ty fix)) (expanded_params [] fix) (met_in_comp zero (fix_comp fix)) =
-        each_own (skeleton (fix_ty fix)) (expanded_params [] fix) (met_in_comp zero (fix_comp fix)) never in
+    each_own (skeleton (fix_ty fix)) (expanded_params [] fix) (met_in_comp zero (fix_comp fix)) never in
     walked heads e h s own [] arguments set c z denote_end split
     (subst (λ (u : Skeleton). EachOwn u (expanded_params [] fix) (met_in_comp zero (fix_comp fix))) (skeleton_of_fix fix s c) passes)

@@ -112,7 +112,7 @@ module _ (code : Code) (f f' : Function) (h : Heap) (stack : Stack) (choices : L
       (λ j. going h (goes_on (merged code stack) target (t j).locals) choices) ∙ goes h target (top stack).locals choices
   effect_merged (Jz c target) s =
       (λ j. if nat_eq (local_at (t j).locals c) 0 then going h (goes_on (merged code stack) target (t j).locals) choices
-          else going h (goes_on (merged code stack) ((t j).next + 1) (t j).locals) choices)
+      else going h (goes_on (merged code stack) ((t j).next + 1) (t j).locals) choices)
       ∙ if_merged code (nat_eq (local_at (top stack).locals c) 0)
       (going h (goes_on stack target (top stack).locals) choices) (going h (goes_on stack ((top stack).next + 1) (top stack).locals) choices)
       (going h (goes_on (merged code stack) target (top stack).locals) choices)

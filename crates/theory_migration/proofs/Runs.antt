@@ -104,20 +104,24 @@ module _ (code : Code) (valid : IsValid code) where
           → (k : ℕ) × (returned h (merged code below) words choices ≡ merged_machine code (after_steps code (returned h below words choices) k)))
           → (k : ℕ) × (returned h (merged_above b frame d (merged code below)) words choices
           ≡ merged_machine code (after_steps code (going h (goes_on below (top below).next (with_words (top below).locals d words)) choices) k))
-      by false w g q place go =
-          (0, (λ j. going h (goes_on (merged code below) (top_merged code below j).next (with_words (top_merged code below j).locals d words)) choices)
-          ∙ ap (λ s. going h s choices) (sym (merged_goes_on code below (top below).next (with_words (top below).locals d words))))
+      by false w g q place go = (
+        0,
+        (λ j. going h (goes_on (merged code below) (top_merged code below j).next (with_words (top_merged code below j).locals d words)) choices)
+            ∙ ap (λ s. going h s choices) (sym (merged_goes_on code below (top below).next (with_words (top below).locals d words))),
+      )
       by true w g q place go =
           let known =
           returned_is code g frame.function d (slice_get g.body (top below).next)
           (sym (ap (λ o. waits_in code o (top below).next d frame.function) q) ∙ w) in
           let same : f.result ≡ g.result = subst (ReturnsAs g) e (known.1) in
-          let rest = go g q (long ∙ same) in
-          (suc (rest.0),
-          returned_with h (merged code below) frame words choices ∙ rest.1
-          ∙ ap (λ m. merged_machine code (after_steps code m (rest.0)))
-          (sym (returns_on h below choices words d g q (known.0) (long ∙ same) (subst (λ n. d + n ≤ length (top below).locals) same place)))
-          ∙ ap (merged_machine code) (steps_from code (going h (goes_on below (top below).next (with_words (top below).locals d words)) choices) (rest.0)))
+          let rest = go g q (long ∙ same) in (
+            suc (rest.0),
+            returned_with h (merged code below) frame words choices ∙ rest.1
+                ∙ ap (λ m. merged_machine code (after_steps code m (rest.0)))
+                (sym (returns_on h below choices words d g q (known.0) (long ∙ same) (subst (λ n. d + n ≤ length (top below).locals) same place)))
+                ∙ ap (merged_machine code)
+                (steps_from code (going h (goes_on below (top below).next (with_words (top below).locals d words)) choices) (rest.0)),
+          )
 
   -- another function with as many words is waited for alike
   waits_same : (g g' : ℕ)
@@ -183,13 +187,14 @@ module _ (code : Code) (valid : IsValid code) where
       by f (Ret x) s =
           let words = words_at (top stack).locals x f.result in
           let long = length-words_at (top stack).locals x f.result (omega (arith, s.valid, s.locals)) in
-          let rest = returned_merged h stack choices words f fits s.function long in
-          (rest.0,
-          new_step f (Ret x) s
-          ∙ ap (λ (t : Frame). returned h (merged code stack) (words_at t.locals x f.result) choices) (top_merged code stack)
-          ∙ rest.1
-          ∙ ap (λ m. merged_machine code (after_steps code m (rest.0))) (sym (step-at code h stack choices f (Ret x) s.function s.instr_is))
-          ∙ ap (merged_machine code) (steps_from code (going h stack choices) (rest.0)))
+          let rest = returned_merged h stack choices words f fits s.function long in (
+            rest.0,
+            new_step f (Ret x) s
+                ∙ ap (λ (t : Frame). returned h (merged code stack) (words_at t.locals x f.result) choices) (top_merged code stack)
+                ∙ rest.1
+                ∙ ap (λ m. merged_machine code (after_steps code m (rest.0))) (sym (step-at code h stack choices f (Ret x) s.function s.instr_is))
+                ∙ ap (merged_machine code) (steps_from code (going h stack choices) (rest.0)),
+          )
 
   more_steps : (m : Machine) (n k : ℕ) → after_steps code (after_steps code m n) k ≡ after_steps code m (n + k)
   unfolding after_steps
@@ -216,10 +221,12 @@ module _ (code : Code) (valid : IsValid code) where
           → step (retailed code) (machine_after (retailed code) h choices n) ≡ step (retailed code) (merged_machine code x)
           → (m : ℕ) × (suc n ≤ m) × (step (retailed code) (machine_after (retailed code) h choices n) ≡ merged_machine code (machine_after code h choices m))
       by m le (going heap stack left) q fits s =
-          let more = step_merged heap stack left fits in
-          (m + suc (more.0), omega (arith, le),
-          s ∙ more.1 ∙ ap (λ y. merged_machine code (after_steps code y (suc (more.0)))) (sym q)
-          ∙ ap (merged_machine code) (more_steps (started (slice_get code.functions 0) h choices) m (suc (more.0))))
+          let more = step_merged heap stack left fits in (
+            m + suc (more.0),
+            omega (arith, le),
+            s ∙ more.1 ∙ ap (λ y. merged_machine code (after_steps code y (suc (more.0)))) (sym q)
+                ∙ ap (merged_machine code) (more_steps (started (slice_get code.functions 0) h choices) m (suc (more.0))),
+          )
       by m le (halted words heap) q fits s = (suc m, omega (arith, le), s ∙ ap (λ y. merged_machine code (step code y)) (sym q))
       by m le (faulted kind l) q fits s = (suc m, omega (arith, le), s ∙ ap (λ y. merged_machine code (step code y)) (sym q))
       by m le asking q fits s = (suc m, omega (arith, le), s ∙ ap (λ y. merged_machine code (step code y)) (sym q))
@@ -250,6 +257,6 @@ does_the_same code h choices machine valid over = (to_old, to_new)
         let start = started (slice_get code.functions 0) h choices in
         let later : r.0 + (f.0 - r.0) ≡ f.0 = omega (arith, f.1) in
         let stays : machine_after code h choices (f.0) ≡ machine =
-            ap (after_steps code start) (sym later) ∙ sym (more_steps code valid start (r.0) (f.0 - r.0))
-            ∙ ap (λ m. after_steps code m (f.0 - r.0)) (r.1) ∙ over_steps code machine (f.0 - r.0) over in
+        ap (after_steps code start) (sym later) ∙ sym (more_steps code valid start (r.0) (f.0 - r.0))
+        ∙ ap (λ m. after_steps code m (f.0 - r.0)) (r.1) ∙ over_steps code machine (f.0 - r.0) over in
         (r.0, f.2 ∙ ap (merged_machine code) stays ∙ over_merged code valid machine over)

@@ -38,12 +38,15 @@ module _ (code : Code) where
       → Takes f (slice_get code.functions g) a
       → ResultFitsAt f (slice_get code.functions g) d
       → IsValidInstr (retailed code) (retailed_function code f) (tail_or_call b g a d)
-  call_valid f g a d true r t fits =
-      (refl, takes_there f g a t,
-      subst (ReturnsAs (retailed_function code f)) (sym (function_there code code.functions g)) (returns_same f (slice_get code.functions g) (r refl)))
-  call_valid f g a d false r t fits =
-      (takes_there f g a t,
-      subst (λ o. ResultFitsAt (retailed_function code f) o d) (sym (function_there code code.functions g)) (fits_same f (slice_get code.functions g) d fits))
+  call_valid f g a d true r t fits = (
+    refl,
+    takes_there f g a t,
+    subst (ReturnsAs (retailed_function code f)) (sym (function_there code code.functions g)) (returns_same f (slice_get code.functions g) (r refl)),
+  )
+  call_valid f g a d false r t fits = (
+    takes_there f g a t,
+    subst (λ o. ResultFitsAt (retailed_function code f) o d) (sym (function_there code code.functions g)) (fits_same f (slice_get code.functions g) d fits),
+  )
 
   instr_valid : (f : Function) (i : Instr) (behind : Option Instr)
       → IsValidInstr code f i
@@ -60,9 +63,11 @@ module _ (code : Code) where
   instr_valid f (Jz c target) behind t = (t.0, target_same f target (t.1))
   instr_valid f (Call g a d) behind t = call_valid f g a d (is_returned code f g d behind) (λ q. (returned_is code f g d behind q).1) (t.0) (t.1)
   instr_valid f (Ret s) behind t = t
-  instr_valid f (Tail g a) behind t =
-      (refl, takes_there f g a (t.1),
-      subst (ReturnsAs (retailed_function code f)) (sym (function_there code code.functions g)) (returns_same f (slice_get code.functions g) (t.2)))
+  instr_valid f (Tail g a) behind t = (
+    refl,
+    takes_there f g a (t.1),
+    subst (ReturnsAs (retailed_function code f)) (sym (function_there code code.functions g)) (returns_same f (slice_get code.functions g) (t.2)),
+  )
 
   body_valid : (f : Function) (body : List Instr)
       → All (IsValidInstr code f) body
