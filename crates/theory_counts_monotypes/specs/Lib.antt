@@ -1,0 +1,2 @@
+pub mod Monotypes
+pub mod Examples

@@ -1,0 +1,4 @@
+pub mod Terms
+pub mod Bodies
+pub mod Codes
+pub mod Examples

@@ -1,0 +1,4 @@
+pub mod Taken
+pub mod Lists
+pub mod Flat
+pub mod Codes

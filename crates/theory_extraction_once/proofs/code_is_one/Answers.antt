@@ -1,0 +1,5 @@
+use Rattle.theory_extraction_once.proofs.Codes.{code_one}
+use Rattle.theory_extraction_once.proofs.code_is_one.Goals as goal
+
+pub returns : goal.returns
+returns c = record { law = code_one }

@@ -1,0 +1,3 @@
+pub mod Migration
+pub mod Laws
+pub mod Examples
