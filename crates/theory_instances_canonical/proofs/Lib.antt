@@ -1,4 +1,0 @@
-pub mod Contexts
-pub mod Sites
-pub mod Bodies
-pub mod Taken
