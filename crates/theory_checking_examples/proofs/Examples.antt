@@ -90,7 +90,7 @@ formulas = record {
   wide_equation = stops too_wide;
   head_before_do =
       goes_on (goes_on (holds forms_word) (holds (omega arith)))
-      (stops (stops (stops (goes_on (word_given 1 (omega arith)) (stops (finds_none (λ f e. cc)))))));
+      (stops (stops (goes_on (word_given 1 (omega arith)) (stops (finds_none (λ f e. cc))))));
   do_in_a_formula = goes_on (goes_on (holds forms_word) (holds (omega arith))) (stops refuses);
   word_for_a_heap = stops (fails (λ h. elim h [ ]));
   no_predicate = stops (finds_none (λ r e. cc));
