@@ -41,7 +41,8 @@ unfoldable mutual
   widest_term (t_not term) = widest_term term
   widest_term (t_bin op left right) = max (widest_term left) (widest_term right)
   widest_term (t_eq mono left right) = max (nodes_mono mono) (max (widest_term left) (widest_term right))
-  widest_term (t_sel mono test on_true on_false) = max (nodes_mono mono) (max (widest_term test) (max (widest_term on_true) (widest_term on_false)))
+  widest_term (t_sel mono test on_true on_false) =
+      max (nodes_mono mono) (max (widest_term test) (max (widest_term on_true) (widest_term on_false)))
   widest_term (t_ann term ty) = max (widest_term term) (widest_ty ty)
   widest_term (t_made number values) = widest_terms values
   widest_term (t_at at term) = widest_term term
@@ -60,7 +61,8 @@ unfoldable mutual
   widest_step (s_get mono place) = max (nodes_mono mono) (widest_term place)
   widest_step (s_set mono place value) = max (nodes_mono mono) (max (widest_term place) (widest_term value))
   widest_step (s_free mono place) = max (nodes_mono mono) (widest_term place)
-  widest_step (s_if mono test on_true on_false) = max (nodes_mono mono) (max (widest_term test) (max (widest_comp on_true) (widest_comp on_false)))
+  widest_step (s_if mono test on_true on_false) =
+      max (nodes_mono mono) (max (widest_term test) (max (widest_comp on_true) (widest_comp on_false)))
   widest_step (s_claim formula) = widest_formula formula
 
   pub widest_formula : FormulaTree → ℕ

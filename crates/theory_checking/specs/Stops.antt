@@ -11,8 +11,8 @@ pub data Stop : Type 0 where
 
 -- One premise and then the others: a stop of the first is that of both, and else they go on from what it
 -- gives.
-pub data Then {A B : Type 0} (first : Result A Stop → Type 0) (others : A → Result B Stop → Type 0) :
-    Result B Stop → Type 0 where
+pub data Then {A B : Type 0} (first : Result A Stop → Type 0) (others : A → Result B Stop → Type 0) : Result B Stop
+    → Type 0 where
   stops : {stop : Stop} → first (Err stop) → Then first others (Err stop)
   goes_on : {given : A} {result : Result B Stop}
       → first (Ok given)

@@ -27,7 +27,8 @@ mutual
 
   pub ty_derived : (env : Environment) (g : Context) (at : ℕ) (A : TyTree) {R : TyTree} → TyComesTo env g at A (Ok R) → FormsTy env g A R
   ty_derived env g at (y_mono mono) (goes_on (goes_on (holds m) n) comes) = forms_mono m
-  ty_derived env g at (y_fun argument answer) (goes_on a (goes_on h (goes_on b comes))) = forms_fun (ty_derived env g at argument a) (ty_derived env _ at answer b)
+  ty_derived env g at (y_fun argument answer) (goes_on a (goes_on h (goes_on b comes))) =
+      forms_fun (ty_derived env g at argument a) (ty_derived env _ at answer b)
   ty_derived env g at (y_all ty) (goes_on h (goes_on a comes)) = forms_all (ty_derived env (en_mono ∷ g) at ty a)
   ty_derived env g at (y_hoare spec) (goes_on a comes) = forms_hoare (triple_derived env g at spec a)
   ty_derived env g at (y_at inner ty) a = forms_ty_at (ty_derived env g inner ty a)

@@ -130,9 +130,11 @@ module _ (env : Environment) where
     give_passes at (gives_bin a b) = then_passes (then_passes (fit_passes at a) (then_passes (fit_passes at b) comes_passes)) comes_passes
     give_passes at (gives_not a) = then_passes (then_passes (fit_passes at a) comes_passes) comes_passes
     give_passes at (gives_eq d i a b) =
-        then_passes (then_passes (mono_passes d) (then_passes (needs_passes i) (then_passes (fit_passes at a) (then_passes (fit_passes at b) comes_passes)))) comes_passes
+        then_passes (then_passes (mono_passes d)
+        (then_passes (needs_passes i) (then_passes (fit_passes at a) (then_passes (fit_passes at b) comes_passes)))) comes_passes
     give_passes at (gives_sel d a b c) =
-        then_passes (then_passes (mono_passes d) (then_passes (fit_passes at a) (then_passes (fit_passes at b) (then_passes (fit_passes at c) comes_passes)))) comes_passes
+        then_passes (then_passes (mono_passes d)
+        (then_passes (fit_passes at a) (then_passes (fit_passes at b) (then_passes (fit_passes at c) comes_passes)))) comes_passes
     give_passes at (gives_fix a b) = then_passes (then_passes (header_passes at a) (then_passes (fix_passes at b) comes_passes)) comes_passes
     give_passes at (gives_at {at = inner} a) = give_passes inner a
 

@@ -9,7 +9,8 @@ use Rattle.theory_substitution.proofs.Once.{ty_once as sub_ty_once, term_once as
 use Rattle.theory_states.specs.States.{Move, owed, start, after}
 use Rattle.theory_typing.specs.Positions.{plain_ty}
 use Rattle.theory_typing.specs.Contexts.{Context, FormsMono, Obligation}
-use Rattle.theory_typing.specs.Typing.{Part, part_step, part_comp, part_unit, joined_step, joined_comp, joined_unit, Assembled, assembled_end, assembled_part, owes}
+use Rattle.theory_typing.specs.Typing.{Part, part_step, part_comp, part_unit, joined_step, joined_comp, joined_unit, Assembled, assembled_end, assembled_part}
+use Rattle.theory_typing.specs.Typing.{owes}
 use Rattle.theory_checking.specs.Stops.{Stop, refused, passed, Then, stops, goes_on, Comes, comes, Refuses, refuses, Needs, holds, fails, Finds, finds}
 use Rattle.theory_checking.specs.Stops.{finds_none, Makes, makes}
 use Rattle.theory_checking.specs.Limits.{MonoComesTo, StateIsWithin, OwedIsWithin, ResultIsWithin, PutsInTy, PutsInTerm, RunsBefore, DropsClaim}

@@ -40,8 +40,8 @@ pub record DerivedIsNotRefused : Type 0 where
       → FormsFormula env g F R
       → FormulaComesTo env g at F r
       → IsOrLimit R r
-  pub given : (env : Environment) (m : Mode) (g : Context) (at : ℕ) (M N : TermTree) (A : TyTree)
-      (o : List Obligation) (r : Result Typed Stop)
+  pub given : (env : Environment) (m : Mode) (g : Context) (at : ℕ) (M N : TermTree) (A : TyTree) (o : List Obligation)
+      (r : Result Typed Stop)
       → Gives env m g M A N o
       → TermComesTo env m g at M None r
       → IsOrLimit (typed A N o) r
@@ -50,8 +50,8 @@ pub record DerivedIsNotRefused : Type 0 where
       → Fits env m g M A N o
       → TermComesTo env m g at M (Some A) r
       → IsOrLimit (typed A N o) r
-  pub bodies : (env : Environment) (g : Context) (at : ℕ) (spec : TripleTree) (E R : CompTree)
-      (o : List Obligation) (r : Result Computed Stop)
+  pub bodies : (env : Environment) (g : Context) (at : ℕ) (spec : TripleTree) (E R : CompTree) (o : List Obligation)
+      (r : Result Computed Stop)
       → FitsBody env g E spec R o
       → BodyComesTo g spec (λ mono state. RunsTo env g at mono state E) r
       → IsOrLimit (computed R o) r

@@ -9,7 +9,8 @@ use Rattle.theory_states.specs.States.{past, at_heap, start, owed, after, some_v
 use Rattle.theory_canonical.specs.Folding.{contractum}
 use Rattle.theory_canonical.specs.Eta.{expansion}
 use Rattle.theory_typing.specs.Positions.{plain_ty}
-use Rattle.theory_typing.specs.Contexts.{Context, Environment, FormsMono, forms_word, forms_bool, forms_unit, forms_pair, heap_here, type_here, type_there, count_of}
+use Rattle.theory_typing.specs.Contexts.{Context, Environment, FormsMono, forms_word, forms_bool, forms_unit, forms_pair, heap_here, type_here, type_there}
+use Rattle.theory_typing.specs.Contexts.{count_of}
 use Rattle.theory_typing.specs.Typing.{Mode, in_program}
 use Rattle.theory_typing.specs.Laws.{none}
 use Rattle.htt_syntax_words.specs.declared.words.Rule.TheVariants.{Mismatch}
@@ -98,8 +99,8 @@ formulas = record {
 }
 
 pub items : RefusedItems
-unfolding TyComesTo FormulaComesTo TermComesTo RunsTo StepComesTo ClosedComeTo IndexComesTo plain_ty nodes_mono nodes_formula nodes_term depth_mono depth_formula
-    depth_term rename_ty rename_mono rename_term lift past at_heap start contractum expansion count_of
+unfolding TyComesTo FormulaComesTo TermComesTo RunsTo StepComesTo ClosedComeTo IndexComesTo plain_ty nodes_mono nodes_formula nodes_term
+    depth_mono depth_formula depth_term rename_ty rename_mono rename_term lift past at_heap start contractum expansion count_of
 items = record {
   no_ending = λ M. goes_on (goes_on word_formed (goes_on (holds (omega arith)) (goes_on word_formed comes))) (stops (fails (λ x. x)));
   type_first = λ M. stops (stops (stops (goes_on (holds (omega arith)) (stops (goes_on (goes_on (holds forms_word) (holds (omega arith))) (stops no_truth))))));

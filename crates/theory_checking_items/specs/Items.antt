@@ -6,7 +6,8 @@ use Rattle.htt_syntax.specs.Trees.{MonoTree, FormulaTree, y_mono, f_and, f_or, f
 use Rattle.htt_syntax.specs.Trees.{f_at, f_rec}
 use Rattle.theory_typing.specs.Contexts.{en_heap, en_term, Context, Environment, EndsInHoare, Obligation}
 use Rattle.theory_typing.specs.Typing.{in_program}
-use Rattle.theory_items.specs.Items.{with_params, ItemTree, i_abbreviation, i_pred, i_def, i_val, i_rec, Added, adds_nothing}
+use Rattle.theory_items.specs.Items.{with_params, ItemTree, i_abbreviation, i_pred, i_def, i_val, i_rec, Added}
+use Rattle.theory_items.specs.Items.{adds_nothing}
 use Rattle.theory_items.specs.Items.{adds_def, adds_val, adds_rec, with_monos, with_rec, zero_under, next_under}
 use Rattle.theory_items.specs.Items.{OwnAtIndex}
 use Rattle.theory_checking.specs.Stops.{Stop, refused, ◌>>=◌, ◌>>◌, Comes, Needs}

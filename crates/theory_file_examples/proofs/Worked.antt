@@ -14,7 +14,8 @@ use Rattle.theory_typing.specs.Positions.{plain_ty, plain_term, plain_formula}
 use Rattle.theory_typing.specs.Contexts.{Context, Obligation, en_heap, en_term, type_here, type_there, forms_word}
 use Rattle.theory_typing.specs.Laws.{none, sum_goal}
 use Rattle.theory_typing.specs.Typing.{in_formula, FormsFormula, Gives, forms_mono, forms_fun, forms_hoare, forms_triple, forms_tt, forms_ff, forms_eq}
-use Rattle.theory_typing.specs.Typing.{forms_ex_t, gives_var, gives_val, gives_def, gives_word, gives_app, fits_given, fits_lam, fits_do, fits_body, runs_ret, assembled_end}
+use Rattle.theory_typing.specs.Typing.{forms_ex_t, gives_var, gives_val, gives_def, gives_word, gives_app, fits_given, fits_lam, fits_do, fits_body, runs_ret}
+use Rattle.theory_typing.specs.Typing.{assembled_end}
 use Rattle.theory_items.specs.Items.{derives_def, derives_val}
 use Rattle.theory_items.proofs.Worked as items
 use Rattle.theory_logic_rules.specs.Rules.{Proves, infers_hyp, infers_first, infers_second, proves_give_term, proves_trivial, proves_refl_term, proves_inferred}

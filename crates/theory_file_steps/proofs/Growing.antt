@@ -11,7 +11,8 @@ use Rattle.theory_typing.specs.Typing.{in_program, FormsTy, Fits}
 use Rattle.theory_typing_canonical.specs.Environments.{heads_of, no_entry}
 use Rattle.theory_typing_canonical.proofs.Entries.{head_of}
 use Rattle.theory_typing_canonical.proofs.Typed.{formed_ty}
-use Rattle.theory_items.specs.Items.{i_def, i_val, i_rec, Added, adds_def, adds_val, with_def, with_val, with_added, Derives, derives_def, derives_val, derives_rec}
+use Rattle.theory_items.specs.Items.{i_def, i_val, i_rec, Added, adds_def, adds_val, with_def, with_val, with_added, Derives, derives_def, derives_val}
+use Rattle.theory_items.specs.Items.{derives_rec}
 use Rattle.theory_items_sound.proofs.Kept.{items_keep_sound}
 use Rattle.theory_denotation.specs.Valuations.{den_term, HeadEntries}
 use Rattle.theory_denotation.specs.Denotation.{term_den}

@@ -4,7 +4,8 @@ use Rattle.htt_syntax.specs.Trees.{TyTree, TermTree}
 use Rattle.theory_truth.specs.Predicates.{RecTree}
 use Rattle.theory_typing.specs.Contexts.{Environment, Obligation}
 use Rattle.theory_typing.specs.Typing.{in_program, Fits}
-use Rattle.theory_items.specs.Items.{ItemTree, Added, with_def, with_val, with_rec, with_added, Derives, derives_abbreviation, derives_pred, derives_def, derives_val, derives_rec}
+use Rattle.theory_items.specs.Items.{ItemTree, Added, with_def, with_val, with_rec, with_added, Derives, derives_abbreviation, derives_pred, derives_def}
+use Rattle.theory_items.specs.Items.{derives_val, derives_rec}
 use Rattle.theory_items.specs.Definitions.{before_def, IsDefined, AreDefined}
 use Rattle.theory_items.specs.Laws.{HasDeclarations, ItemsKeepDefined}
 use Rattle.theory_items.proofs.Lists.{no_element, get_more, take_more, take_all, appended}

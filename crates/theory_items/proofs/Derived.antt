@@ -12,7 +12,8 @@ use Rattle.theory_typing_canonical.specs.Environments.{standings, heads_of, IsCa
 use Rattle.theory_typing_canonical.specs.Laws.{AreCanonical}
 use Rattle.theory_typing_canonical.proofs.Entries.{none_owed, mono_canonical}
 use Rattle.theory_typing_canonical.proofs.Typed.{formed_ty, fitted}
-use Rattle.theory_items.specs.Items.{ItemTree, Added, adds_def, adds_val, adds_rec, with_def, with_val, with_rec, with_added, Derives, derives_abbreviation, derives_pred, derives_def, derives_val, derives_rec}
+use Rattle.theory_items.specs.Items.{ItemTree, Added, adds_def, adds_val, adds_rec, with_def, with_val, with_rec, with_added, Derives, derives_abbreviation}
+use Rattle.theory_items.specs.Items.{derives_pred, derives_def, derives_val, derives_rec}
 use Rattle.theory_items.specs.Laws.{ItemsGiveOne, ItemsKeepCanonical}
 use Rattle.theory_items.proofs.Lists.{appended}
 use Rattle.theory_items.proofs.MoreHeads.{has_more, ty_more, term_more}

@@ -6,7 +6,8 @@ use Rattle.htt_syntax.specs.Trees.{t_bin, c_ret, f_tt, f_eq, f_rec, no_terms, mo
 use Rattle.theory_truth.specs.Predicates.{RecTree}
 use Rattle.theory_typing.specs.Contexts.{Environment, Obligation}
 use Rattle.theory_typing.specs.Laws.{none, sum_goal}
-use Rattle.theory_items.specs.Items.{i_pred, i_def, i_val, i_rec, Added, adds_nothing, adds_def, adds_val, adds_rec, Derives}
+use Rattle.theory_items.specs.Items.{i_pred, i_def, i_val, i_rec, Added, adds_nothing, adds_def, adds_val, adds_rec}
+use Rattle.theory_items.specs.Items.{Derives}
 
 -- {tt} x : word {x =[word] 5}
 abbrev pub gives_five : TyTree
@@ -37,7 +38,8 @@ pub record WorkedExamples : Type 0 where
       → Derives none [] (i_val (y_fun (y_mono m_word) (y_mono m_word)) (t_lam (t_var 0))) added o
       → ⊥
   -- pred p[a](x : a, y : a) = x =[a] y
-  pub predicate : Derives none [] (i_pred 1 (m_var 0 ∷ m_var 1 ∷ []) (f_eq (m_var 3) (t_var 2) (t_var 1))) adds_nothing []
+  pub predicate :
+      Derives none [] (i_pred 1 (m_var 0 ∷ m_var 1 ∷ []) (f_eq (m_var 3) (t_var 2) (t_var 1))) adds_nothing []
   -- a parameter isn't a monotype: pred p[a](x : a, y : x)
   pub no_predicate : (added : Added) (o : List Obligation)
       → Derives none [] (i_pred 1 (m_var 0 ∷ m_var 0 ∷ []) f_tt) added o
@@ -45,5 +47,6 @@ pub record WorkedExamples : Type 0 where
   pub recursive : Derives none [] (i_rec doubles) (adds_rec doubles) []
   pub index : (added : Added) (o : List Obligation) → Derives none [] (i_rec not_less) added o → ⊥
   -- in a context with a word x: def d : word = x
-  pub in_context : Derives none (en_term (y_mono m_word) ∷ []) (i_def (y_mono m_word) (t_var 0))
-      (adds_def (y_mono m_word) (t_var 0)) []
+  pub in_context :
+      Derives none (en_term (y_mono m_word) ∷ []) (i_def (y_mono m_word) (t_var 0)) (adds_def (y_mono m_word) (t_var 0))
+      []

@@ -9,12 +9,15 @@ use Rattle.theory_canonical.specs.Skeletons.{sk_c, skeleton}
 use Rattle.theory_canonical.specs.Folding.{contractum}
 use Rattle.theory_canonical.specs.Eta.{expansion}
 use Rattle.theory_substitution.specs.Closing.{closing}
-use Rattle.theory_substitution.specs.Substitution.{SubTerm, SubTy, u_y_mono, u_y_fun, u_y_hoare, u_triple, u_f_tt, u_word, u_bool, u_loc, u_lam, u_do, u_kept, u_reduced}
+use Rattle.theory_substitution.specs.Substitution.{SubTerm, SubTy, u_y_mono, u_y_fun, u_y_hoare, u_triple, u_f_tt, u_word, u_bool, u_loc, u_lam, u_do, u_kept}
+use Rattle.theory_substitution.specs.Substitution.{u_reduced}
 use Rattle.theory_substitution.specs.Substitution.{u_ret, u_step, u_spliced, u_run, u_x_param, u_x_body, k_var, k_fix, k_app, r_var, b_ret, b_step}
 use Rattle.theory_typing.specs.Positions.{plain_ty}
 use Rattle.theory_typing.specs.Contexts.{Context, FormsMono, en_term, type_here, type_there, forms_word, forms_bool, forms_loc, compares_word}
-use Rattle.theory_typing.specs.Typing.{Mode, in_program, Gives, Fits, FormsTriple, FormsFormula, forms_mono, forms_fun, forms_hoare, forms_triple, forms_tt, forms_eq}
-use Rattle.theory_typing.specs.Typing.{gives_var, gives_word, gives_bool, gives_loc, gives_app, gives_ann, gives_pair, gives_bin, gives_eq, gives_sel, gives_fix}
+use Rattle.theory_typing.specs.Typing.{Mode, in_program, Gives, Fits, FormsTriple, FormsFormula, forms_mono, forms_fun, forms_hoare, forms_triple, forms_tt}
+use Rattle.theory_typing.specs.Typing.{forms_eq}
+use Rattle.theory_typing.specs.Typing.{gives_var, gives_word, gives_bool, gives_loc, gives_app, gives_ann, gives_pair, gives_bin, gives_eq, gives_sel}
+use Rattle.theory_typing.specs.Typing.{gives_fix}
 use Rattle.theory_typing.specs.Typing.{fits_lam, fits_pair, fits_do, fits_given, header_param, header_body, fix_param, fix_body, fits_body, runs_ret, runs_step}
 use Rattle.theory_typing.specs.Typing.{moves_alloc, moves_get, moves_set, moves_free, moves_run, moves_if, moves_claim, joined_comp, joined_unit}
 use Rattle.theory_typing.specs.Typing.{assembled_end, assembled_part}

@@ -11,7 +11,8 @@ use Rattle.theory_substitution.specs.Substitution.{u_y_mono, u_bin, u_reduced, u
 use Rattle.theory_typing.specs.Positions.{plain_ty}
 use Rattle.theory_typing.specs.Contexts.{Obligation, type_here, forms_word, IsComparable}
 use Rattle.theory_typing.specs.Typing.{in_program, in_formula, Gives, Fits, forms_mono, forms_fun, forms_formula_at, forms_ex_t, forms_eq, gives_var}
-use Rattle.theory_typing.specs.Typing.{gives_word, gives_bool, gives_app, gives_ann, gives_bin, gives_eq, fits_lam, fits_given, fits_at, fits_body, runs_ret, assembled_end}
+use Rattle.theory_typing.specs.Typing.{gives_word, gives_bool, gives_app, gives_ann, gives_bin, gives_eq, fits_lam, fits_given, fits_at, fits_body, runs_ret}
+use Rattle.theory_typing.specs.Typing.{assembled_end}
 use Rattle.theory_typing.specs.Laws.{WorkedTyping, none, word_to_word}
 
 no_comparison_of_pairs : IsComparable (m_pair m_word m_word) → ⊥

@@ -5,7 +5,8 @@ use Rattle.htt_syntax.specs.declared.mono.Op.TheVariants.{Add}
 use Rattle.htt_syntax.specs.Trees.{MonoTree, TyTree, TermTree, FixTree, FormulaTree, m_word, m_bool, m_loc}
 use Rattle.htt_syntax.specs.Trees.{m_unit, m_pair, y_mono, y_fun, y_hoare, triple, t_var, t_app, t_lam, t_do, t_fix}
 use Rattle.htt_syntax.specs.Trees.{t_word, t_bool, t_loc, t_pair, t_bin, t_eq, t_sel, t_ann, x_param, x_body, c_ret}
-use Rattle.htt_syntax.specs.Trees.{c_step, s_run, s_alloc, s_get, s_set, s_free, s_if, s_claim, f_tt, f_and, f_or, f_imp}
+use Rattle.htt_syntax.specs.Trees.{c_step, s_run, s_alloc, s_get, s_set, s_free, s_if, s_claim, f_tt, f_and, f_or}
+use Rattle.htt_syntax.specs.Trees.{f_imp}
 use Rattle.htt_syntax.specs.Trees.{f_ex_t, f_all_h, f_ex_h, f_emp, f_cell, f_block, f_join, f_same, f_eq}
 use Rattle.theory_states.specs.States.{move_alloc, move_get, move_set, move_free, after}
 use Rattle.theory_typing.specs.Contexts.{en_term, Context, Obligation}
@@ -35,9 +36,10 @@ step_goal needed = record { context = with_heaps []; goal = f_imp f_tt needed }
 pub record TermsInOrder : Type 0 where
   -- ((fun c . fun d . 0) : ..) (do ret 1) (do ret 2): the function before the argument
   pub function :
-      Gives none in_program []
-      (t_app (t_app (t_ann (t_lam (t_lam (t_word 0))) (y_fun returning (y_fun returning (y_mono m_word)))) (t_do (c_ret (t_word 1))))
-      (t_do (c_ret (t_word 2)))) (y_mono m_word) (t_word 0) (return_goal [] 1 ∷ return_goal [] 2 ∷ [])
+      Gives none in_program [] (t_app
+      (t_app (t_ann (t_lam (t_lam (t_word 0))) (y_fun returning (y_fun returning (y_mono m_word))))
+      (t_do (c_ret (t_word 1)))) (t_do (c_ret (t_word 2)))) (y_mono m_word) (t_word 0)
+      (return_goal [] 1 ∷ return_goal [] 2 ∷ [])
   pub pair_given :
       Gives none in_program [] (t_pair (owing 1 m_word (t_word 0)) (owing 2 m_bool (t_bool true)))
       (y_mono (m_pair m_word m_bool)) (t_pair (t_word 0) (t_bool true)) (return_goal [] 1 ∷ return_goal [] 2 ∷ [])
@@ -65,17 +67,14 @@ pub record StepsInOrder : Type 0 where
   pub get :
       Moves none [] f_tt (s_get m_word (owing 1 m_loc (t_loc 9))) m_word (after (move_get m_word (t_loc 9)) f_tt)
       (part_step (s_get m_word (t_loc 9)))
-      (return_goal [] 1
-      ∷ step_goal (f_ex_t m_word (f_ex_h (f_ex_h (f_and (f_cell m_word 1 (t_loc 9) (t_var 2)) (f_join 3 1 0)))))
-      ∷ [])
+      (return_goal [] 1 ∷
+      step_goal (f_ex_t m_word (f_ex_h (f_ex_h (f_and (f_cell m_word 1 (t_loc 9) (t_var 2)) (f_join 3 1 0))))) ∷ [])
   -- set[word] M N
   pub set :
       Moves none [] f_tt (s_set m_word (owing 1 m_loc (t_loc 9)) (owing 2 m_word (t_word 0))) m_unit
       (after (move_set m_word (t_loc 9) (t_word 0)) f_tt) (part_step (s_set m_word (t_loc 9) (t_word 0)))
-      (return_goal [] 1
-      ∷ return_goal [] 2
-      ∷ step_goal (f_ex_h (f_ex_h (f_and (f_block m_word 1 (t_loc 9)) (f_join 2 1 0))))
-      ∷ [])
+      (return_goal [] 1 ∷ return_goal [] 2 ∷
+      step_goal (f_ex_h (f_ex_h (f_and (f_block m_word 1 (t_loc 9)) (f_join 2 1 0)))) ∷ [])
   -- free[word] M
   pub free :
       Moves none [] f_tt (s_free m_word (owing 1 m_loc (t_loc 9))) m_unit (after (move_free m_word (t_loc 9)) f_tt)
@@ -85,7 +84,8 @@ pub record StepsInOrder : Type 0 where
   -- branch, the second
   pub branches :
       Moves none [] f_tt
-      (s_if m_word (owing 1 m_bool (t_bool true)) (c_step (s_claim (f_eq m_word (t_word 1) (t_word 1))) (c_ret (t_word 1)))
+      (s_if m_word (owing 1 m_bool (t_bool true))
+      (c_step (s_claim (f_eq m_word (t_word 1) (t_word 1))) (c_ret (t_word 1)))
       (c_step (s_claim (f_eq m_word (t_word 2) (t_word 2))) (c_ret (t_word 2))))
       m_word
       (f_or (f_ex_t m_unit (f_and (f_eq m_word (t_word 1) (t_word 1)) (f_eq m_word (t_var 3) (t_word 1))))

@@ -367,9 +367,9 @@ mutual
         → Moves env g state (s_run term given) mono (after (move_run (triple pre mono post)) state) (part_comp comp)
         (o ++ owes g (owed (move_run (triple pre mono post)) state))
     moves_if : {g : Context} {mono : MonoTree} {test test' : TermTree} {o : List Obligation} {state : FormulaTree}
-        {on_true : CompTree} {yes_end : FormulaTree} {zs : List MonoTree} {yes_value : TermTree}
-        {yes_parts : List Part} {p : List Obligation} {on_true' on_false : CompTree} {no_end : FormulaTree}
-        {ys : List MonoTree} {no_value : TermTree} {no_parts : List Part} {q : List Obligation} {on_false' : CompTree}
+        {on_true : CompTree} {yes_end : FormulaTree} {zs : List MonoTree} {yes_value : TermTree} {yes_parts : List Part}
+        {p : List Obligation} {on_true' on_false : CompTree} {no_end : FormulaTree} {ys : List MonoTree}
+        {no_value : TermTree} {no_parts : List Part} {q : List Obligation} {on_false' : CompTree}
         → FormsMono g mono
         → Fits env in_program g test (y_mono m_bool) test' o
         → Runs env g mono (branch state test' true) on_true yes_end zs yes_value yes_parts p
