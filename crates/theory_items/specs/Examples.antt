@@ -4,7 +4,7 @@ use Rattle.htt_syntax.specs.declared.mono.Op.TheVariants.{Add, Sub}
 use Rattle.htt_syntax.specs.Trees.{TyTree, m_word, m_var, y_mono, y_fun, y_hoare, triple, t_var, t_lam, t_do, t_word}
 use Rattle.htt_syntax.specs.Trees.{t_bin, c_ret, f_tt, f_eq, f_rec, no_terms, more_terms}
 use Rattle.theory_truth.specs.Predicates.{RecTree}
-use Rattle.theory_typing.specs.Contexts.{Environment, Obligation}
+use Rattle.theory_typing.specs.Contexts.{en_term, Obligation}
 use Rattle.theory_typing.specs.Laws.{none, sum_goal}
 use Rattle.theory_items.specs.Items.{i_pred, i_def, i_val, i_rec, Added, adds_nothing, adds_def, adds_val, adds_rec}
 use Rattle.theory_items.specs.Items.{Derives}
