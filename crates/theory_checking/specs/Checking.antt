@@ -323,7 +323,7 @@ unfoldable mutual
     HasRoom g 3
     StateIsWithin (merge yes.ending no.ending)
     Comes (moved mono (merge yes.ending no.ending) (part_step (s_if mono k.term yes.comp no.comp))
-    (k.owed ++ yes.owed ++ no.owed))
+        (k.owed ++ yes.owed ++ no.owed))
   StepComesTo env g at state (s_claim claim) = do
     HasRoom g 2
     claim' ← FormulaComesTo env (with_heaps g) at claim
