@@ -37,7 +37,7 @@ then_once f g r q (goes_on {given = a} d x) (stops {stop = t} e) = absurd (not_b
 pub comes_once : {A : Type 0} {given : A} → Once (Comes given)
 comes_once r q comes comes = refl
 
-pub refuses_once : {A : Type 0} {stop : Stop} → Once (Refuses {A} stop)
+pub refuses_once : {A : Type 0} {stop : Stop} → Once (Refuses {A = A} stop)
 refuses_once r q refuses refuses = refl
 
 pub needs_once : {premise : Type 0} {stop : Stop} → Once (Needs premise stop)

@@ -318,12 +318,12 @@ unfoldable mutual
   StepComesTo env g at state (s_if mono test on_true on_false) = do
     MonoComesTo g at mono
     k ← TermComesTo env in_program g at test (Some (y_mono m_bool))
-    yes ← BranchComesTo g mono (branch state k.term true) (λ from. RunsTo env g at mono from on_true)
-    no ← BranchComesTo g mono (branch state k.term false) (λ from. RunsTo env g at mono from on_false)
+    when_true ← BranchComesTo g mono (branch state k.term true) (λ from. RunsTo env g at mono from on_true)
+    when_false ← BranchComesTo g mono (branch state k.term false) (λ from. RunsTo env g at mono from on_false)
     HasRoom g 3
-    StateIsWithin (merge yes.ending no.ending)
-    Comes (moved mono (merge yes.ending no.ending) (part_step (s_if mono k.term yes.comp no.comp))
-        (k.owed ++ yes.owed ++ no.owed))
+    StateIsWithin (merge when_true.ending when_false.ending)
+    Comes (moved mono (merge when_true.ending when_false.ending)
+        (part_step (s_if mono k.term when_true.comp when_false.comp)) (k.owed ++ when_true.owed ++ when_false.owed))
   StepComesTo env g at state (s_claim claim) = do
     HasRoom g 2
     claim' ← FormulaComesTo env (with_heaps g) at claim
