@@ -12,11 +12,11 @@ use Rattle.theory_checking.specs.Results.{Typed, Ran, Agrees, GoesOn, AssemblesT
 use Rattle.theory_checking.specs.Laws.{Once}
 
 -- the stop of a result, and what it gives, where it has one
-pub stop_of : {A : Type 0} → Stop → Result A Stop → Stop
+unfoldable pub stop_of : {A : Type 0} → Stop → Result A Stop → Stop
 stop_of other (Err stop) = stop
 stop_of other (Ok given) = other
 
-pub given_of : {A : Type 0} → A → Result A Stop → A
+unfoldable pub given_of : {A : Type 0} → A → Result A Stop → A
 given_of other (Err stop) = other
 given_of other (Ok given) = given
 

@@ -9,7 +9,7 @@ use Rattle.theory_typing.specs.Typing.{gives_loc, gives_unit, gives_app, gives_i
 use Rattle.theory_typing.specs.Typing.{gives_eq, gives_sel, gives_fix, gives_at, Fits, fits_lam, fits_lam_t, fits_pair, fits_do, fits_given, fits_at}
 use Rattle.theory_typing.specs.Typing.{FitsBody, fits_body, Runs, Moves, moves_run}
 use Rattle.theory_checking.specs.Stops.{Stop, Then, goes_on, comes, holds, makes}
-use Rattle.theory_checking.specs.Results.{Typed, Computed, Ran, Agrees, AssemblesTo, BodyComesTo}
+use Rattle.theory_checking.specs.Results.{Typed, typed, Computed, Ran, Agrees, AssemblesTo, BodyComesTo}
 use Rattle.theory_checking.specs.Checking.{result_of}
 
 -- what a term has come to: it gives its type, or it fits the one that was asked
@@ -17,13 +17,14 @@ abbrev pub Derived : Environment → Mode → Context → TermTree → Option Ty
 Derived env m g M None k = Gives env m g M k.ty k.term k.owed
 Derived env m g M (Some A) k = Fits env m g M A k.term k.owed
 
-pub agreed : {env : Environment} {m : Mode} {g : Context} {M : TermTree} {k r : Typed} (at : ℕ) (asked : Option TyTree)
+pub agreed : {env : Environment} {m : Mode} {g : Context} {M N : TermTree} {A : TyTree} {o : List Obligation} (at : ℕ) (asked : Option TyTree)
+    (r : Typed)
     → IsInferred M
-    → Gives env m g M k.ty k.term k.owed
-    → Agrees at asked k (Ok r)
+    → Gives env m g M A N o
+    → Agrees at asked (typed A N o) (Ok r)
     → Derived env m g M asked r
-agreed at None i d comes = d
-agreed at (Some A) i d (goes_on (holds e) comes) = fits_given i d e
+agreed at None r i d comes = d
+agreed at (Some A) r i d (goes_on (holds e) comes) = fits_given i d e
 
 -- a term that gives a type gives the same one
 pub gives_same : {env : Environment} {m : Mode} {g : Context} {M N R : TermTree} {A B : TyTree} {o : List Obligation}
@@ -86,13 +87,13 @@ assembled (part_step step ∷ parts) value (goes_on a comes) = assembled_part (a
 assembled (part_comp comp ∷ parts) value (goes_on a (goes_on (makes b) (goes_on w comes))) = assembled_part (assembled parts value a) (joined_comp b)
 assembled (part_unit ∷ parts) value (goes_on a (goes_on (makes b) (goes_on w comes))) = assembled_part (assembled parts value a) (joined_unit b)
 
-pub body_derived : {env : Environment} {g : Context} {E : CompTree} {c : Computed} (spec : TripleTree)
+pub body_derived : {env : Environment} {g : Context} {E : CompTree} (spec : TripleTree) (c : Computed)
     (Comes : MonoTree → FormulaTree → Result Ran Stop → Type 0)
-    → ((mono : MonoTree) (state : FormulaTree) {r : Ran} → Comes mono state (Ok r) → Runs env g mono state E r.end r.zs r.value r.parts r.owed)
+    → ((mono : MonoTree) (state : FormulaTree) (r : Ran) → Comes mono state (Ok r) → Runs env g mono state E r.end r.zs r.value r.parts r.owed)
     → BodyComesTo g spec Comes (Ok c)
     → FitsBody env g E spec c.comp c.owed
-body_derived (triple pre mono post) Comes f (goes_on a (goes_on b (goes_on {given = r} d (goes_on h (goes_on k (goes_on l (goes_on n comes))))))) =
-    fits_body (f mono (start pre) d) (assembled r.parts r.value n)
+body_derived (triple pre mono post) c Comes f (goes_on a (goes_on b (goes_on {given = r} d (goes_on h (goes_on k (goes_on l (goes_on n comes))))))) =
+    fits_body (f mono (start pre) r d) (assembled r.parts r.value n)
 
 pub run_derived : {env : Environment} {g : Context} {state : FormulaTree} {K : TermTree} {given : Option MonoTree} {E : CompTree}
     {o : List Obligation} (spec : TripleTree)

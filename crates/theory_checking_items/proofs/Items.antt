@@ -121,10 +121,10 @@ pub checked_items_derive : CheckedItemsDerive
 checked_items_derive env g at (i_abbreviation t) c (goes_on (goes_on (holds m) n) comes) = derives_abbreviation m
 checked_items_derive env g at (i_pred n params body) c (goes_on k (goes_on {given = h} a (goes_on l (goes_on b comes)))) =
     derives_pred (params_derived (with_monos n g) at params a) (formula_derived env (en_heap ∷ h) at body b)
-checked_items_derive env g at (i_def ty term) c (goes_on {given = ty'} a (goes_on b comes)) =
-    derives_def (ty_derived env g at ty a) (term_derived env in_program g at term (Some ty') b)
-checked_items_derive env g at (i_val ty term) c (goes_on {given = ty'} a (goes_on (holds e) (goes_on b comes))) =
-    derives_val (ty_derived env g at ty a) e (term_derived env in_program g at term (Some ty') b)
+checked_items_derive env g at (i_def ty term) c (goes_on {given = ty'} a (goes_on {given = v} b comes)) =
+    derives_def (ty_derived env g at ty a) (term_derived env in_program g at term (Some ty') v b)
+checked_items_derive env g at (i_val ty term) c (goes_on {given = ty'} a (goes_on (holds e) (goes_on {given = v} b comes))) =
+    derives_val (ty_derived env g at ty a) e (term_derived env in_program g at term (Some ty') v b)
 checked_items_derive env g at (i_rec r) c (goes_on a (goes_on k (goes_on x (goes_on l (goes_on y (goes_on i comes)))))) =
     let at_next = formula_derived (with_rec env r) (next_under g r.params) at r.at_next y in
     derives_rec (closed_derived g at r.params a) (formula_derived env (zero_under g r.params) at r.at_zero x) at_next
