@@ -15,7 +15,6 @@ use Rattle.theory_typing.specs.Laws.{none, word_to_word, sum_goal}
 use Rattle.theory_items.specs.Items.{ItemTree, i_abbreviation, i_def, i_val, i_rec, adds_val, adds_rec}
 use Rattle.theory_items.specs.Examples.{gives_five}
 use Rattle.theory_checking.specs.Stops.{Stop, refused, passed}
-use Rattle.theory_checking.specs.Results.{Typed, typed}
 use Rattle.theory_checking.specs.Checking.{FormulaComesTo, TermComesTo}
 use Rattle.theory_checking_items.specs.Items.{Checked, checked, ItemComesTo}
 

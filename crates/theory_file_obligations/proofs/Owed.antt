@@ -12,7 +12,7 @@ use Rattle.theory_typing.specs.Typing.{Mode, Part, owes, Gives, gives_var, gives
 use Rattle.theory_typing.specs.Typing.{gives_inst, gives_ann, gives_pair, gives_fst, gives_snd, gives_bin, gives_not, gives_eq, gives_sel, gives_fix, gives_at}
 use Rattle.theory_typing.specs.Typing.{Fits, fits_lam, fits_lam_t, fits_pair, fits_do, fits_given, fits_at, FitsFix, fix_param, fix_body, FitsBody, fits_body}
 use Rattle.theory_typing.specs.Typing.{Runs, runs_ret, runs_step, Moves, moves_alloc, moves_get, moves_set, moves_free, moves_run, moves_if, moves_claim}
-use Rattle.theory_typing_canonical.specs.Environments.{standings, heads_of, at_state, IsCanonicalEnvironment, IsCanonicalContext, no_entry, mono_entry}
+use Rattle.theory_typing_canonical.specs.Environments.{standings, heads_of, at_state, IsCanonicalEnvironment, IsCanonicalContext, mono_entry}
 use Rattle.theory_typing_canonical.specs.Environments.{heap_entry, term_entry}
 use Rattle.theory_typing_canonical.proofs.StatesKept.{start_kept, branch_kept}
 use Rattle.theory_typing_canonical.proofs.Entries.{mono_canonical, argument_part, answer_part, under_mono, spec_part, left_mono_part, right_mono_part}
