@@ -1,4 +1,0 @@
-pub mod Pieces
-pub mod Derived
-pub mod Passing
-pub mod Passed
