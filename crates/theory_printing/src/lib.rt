@@ -1,0 +1,2 @@
+//! What is printed of types, terms, formulas and proofs.
+#![tactic(auto)]
