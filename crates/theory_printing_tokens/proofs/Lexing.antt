@@ -37,7 +37,7 @@ abbrev pub Lexes : Printed → List ℕ → Type 0
 Lexes p rest = (text pre : List ℕ) → text ≡ pre ++ (bytes_of p ++ rest) → Lexed text pre p rest
 
 pub then : {p q : Printed} {rest : List ℕ} → Lexes p (bytes_of q ++ rest) → Lexes q rest → Lexes (p ▹ q) rest
-unfolding bytes_of Spoken tokens_of
+unfolding bytes_of
 then {p} {q} {rest} hp hq text pre e =
     let seam = append_assoc (bytes_of p) (bytes_of q) rest in
     let e1 = e ∙ ap (λ bs. pre ++ bs) seam in
@@ -52,20 +52,20 @@ then {p} {q} {rest} hp hq text pre e =
     }
 
 pub deep : {p : Printed} {rest : List ℕ} → Lexes p rest → Lexes (deeper p) rest
-unfolding bytes_of Spoken tokens_of
+unfolding bytes_of
 deep h text pre e = let a = h text pre e in record { spoken = a.spoken; utf8 = a.utf8; reads = a.reads }
 
 pub numbered : {n : ℕ} {p : Printed} {rest : List ℕ} → Lexes p rest → Lexes (operand n p) rest
-unfolding bytes_of Spoken tokens_of
+unfolding bytes_of
 numbered h text pre e = let a = h text pre e in record { spoken = a.spoken; utf8 = a.utf8; reads = a.reads }
 
 pub lex_nothing : {rest : List ℕ} → Lexes nothing rest
-unfolding bytes_of Spoken tokens_of
+unfolding bytes_of
 lex_nothing {rest} text pre e =
     record { spoken = tt; utf8 = IsUtf8-nil; reads = subst (λ bs. Reads (length pre) rest [] (length bs) rest) (sym (append-nil pre)) here }
 
 pub lex_space : {rest : List ℕ} → Lexes (one a_space) rest
-unfolding bytes_of Spoken tokens_of is_utf8 chars encode_utf8
+unfolding bytes_of is_utf8 chars encode_utf8
 lex_space {rest} text pre e =
     record {
       spoken = tt;

@@ -1,6 +1,9 @@
 -- Signs before what may follow them: a sign that may go on as a longer one stands before a space or `[`.
 use Rattle.std.proofs.Common.{◌≡◌, ℕ, List, [], ◌∷◌, ◌++◌, Bool, true, false, ◌||◌, refl, sym, ◌∙◌, ap, subst, arith}
-use Rattle.std.specs.Prelude.{◌==◌, Some, None, codes}
+use Rattle.std.specs.Prelude.{◌==◌, Some, None, codes, IsUtf8}
+use Rattle.std.specs.Char.{encode_utf8}
+use Rattle.std.specs.Str.{chars, is_utf8}
+use Rattle.std.proofs.lemmas.Str.{IsUtf8-from_is_utf8}
 use Rattle.htt_lexer_tokens.specs.declared.tokens.Sign.{Sign}
 use Rattle.htt_lexer_tokens.specs.declared.tokens.Sign.TheVariants as signs
 use Rattle.htt_lexer_tokens.specs.declared.tokens.Kind.TheVariants as kinds
@@ -80,3 +83,36 @@ sign_token signs.OrSign rest h = sign (record { is = refl; longest = λ b more a
 sign_token signs.AtSign rest h = sign (record { is = refl; longest = λ b more after e. refl; no_comment = λ after e. cc })
 sign_token signs.BangSign rest h = sign (record { is = refl; longest = λ b more after e. refl; no_comment = λ after e. cc })
 sign_token signs.UnderscoreSign rest h = absurd (cc h)
+
+pub sign_utf8 : (s : Sign) → IsUtf8 (sign_spelling s)
+unfolding is_utf8 chars encode_utf8
+sign_utf8 signs.OpenParenSign = IsUtf8-from_is_utf8 (sign_spelling signs.OpenParenSign) refl
+sign_utf8 signs.CloseParenSign = IsUtf8-from_is_utf8 (sign_spelling signs.CloseParenSign) refl
+sign_utf8 signs.OpenBracketSign = IsUtf8-from_is_utf8 (sign_spelling signs.OpenBracketSign) refl
+sign_utf8 signs.CloseBracketSign = IsUtf8-from_is_utf8 (sign_spelling signs.CloseBracketSign) refl
+sign_utf8 signs.OpenBraceSign = IsUtf8-from_is_utf8 (sign_spelling signs.OpenBraceSign) refl
+sign_utf8 signs.CloseBraceSign = IsUtf8-from_is_utf8 (sign_spelling signs.CloseBraceSign) refl
+sign_utf8 signs.CommaSign = IsUtf8-from_is_utf8 (sign_spelling signs.CommaSign) refl
+sign_utf8 signs.SemicolonSign = IsUtf8-from_is_utf8 (sign_spelling signs.SemicolonSign) refl
+sign_utf8 signs.ColonSign = IsUtf8-from_is_utf8 (sign_spelling signs.ColonSign) refl
+sign_utf8 signs.DotSign = IsUtf8-from_is_utf8 (sign_spelling signs.DotSign) refl
+sign_utf8 signs.EqualSign = IsUtf8-from_is_utf8 (sign_spelling signs.EqualSign) refl
+sign_utf8 signs.ImpliesSign = IsUtf8-from_is_utf8 (sign_spelling signs.ImpliesSign) refl
+sign_utf8 signs.ArrowSign = IsUtf8-from_is_utf8 (sign_spelling signs.ArrowSign) refl
+sign_utf8 signs.LeftArrowSign = IsUtf8-from_is_utf8 (sign_spelling signs.LeftArrowSign) refl
+sign_utf8 signs.PointsToSign = IsUtf8-from_is_utf8 (sign_spelling signs.PointsToSign) refl
+sign_utf8 signs.PlusSign = IsUtf8-from_is_utf8 (sign_spelling signs.PlusSign) refl
+sign_utf8 signs.MinusSign = IsUtf8-from_is_utf8 (sign_spelling signs.MinusSign) refl
+sign_utf8 signs.StarSign = IsUtf8-from_is_utf8 (sign_spelling signs.StarSign) refl
+sign_utf8 signs.AmpersandSign = IsUtf8-from_is_utf8 (sign_spelling signs.AmpersandSign) refl
+sign_utf8 signs.BarSign = IsUtf8-from_is_utf8 (sign_spelling signs.BarSign) refl
+sign_utf8 signs.CaretSign = IsUtf8-from_is_utf8 (sign_spelling signs.CaretSign) refl
+sign_utf8 signs.ShiftLeftSign = IsUtf8-from_is_utf8 (sign_spelling signs.ShiftLeftSign) refl
+sign_utf8 signs.ShiftRightSign = IsUtf8-from_is_utf8 (sign_spelling signs.ShiftRightSign) refl
+sign_utf8 signs.LessSign = IsUtf8-from_is_utf8 (sign_spelling signs.LessSign) refl
+sign_utf8 signs.DoubleStarSign = IsUtf8-from_is_utf8 (sign_spelling signs.DoubleStarSign) refl
+sign_utf8 signs.AndSign = IsUtf8-from_is_utf8 (sign_spelling signs.AndSign) refl
+sign_utf8 signs.OrSign = IsUtf8-from_is_utf8 (sign_spelling signs.OrSign) refl
+sign_utf8 signs.AtSign = IsUtf8-from_is_utf8 (sign_spelling signs.AtSign) refl
+sign_utf8 signs.BangSign = IsUtf8-from_is_utf8 (sign_spelling signs.BangSign) refl
+sign_utf8 signs.UnderscoreSign = IsUtf8-from_is_utf8 (sign_spelling signs.UnderscoreSign) refl

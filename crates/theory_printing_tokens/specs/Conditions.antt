@@ -1,7 +1,7 @@
 -- Which trees have a text: what is printed of them in a scope is read back there. Each index names an entry or a
 -- hypothesis that may stand at its place, each number a value or a recursive predicate; there is no definition and no
 -- made function; a block has statements, and doesn't end in a block.
-use Rattle.std.specs.Prelude.{◌≡◌, ℕ, ◌^◌, ◌<◌, false, List, [], ◌∷◌, length, Option, Some, None, IsUtf8, slice_get, true}
+use Rattle.std.specs.Prelude.{◌≡◌, Bool, ℕ, zero, suc, ◌^◌, ◌<◌, false, List, [], ◌∷◌, length, Option, Some, None, IsUtf8, slice_get, true}
 use Rattle.std.specs.List.{list_all}
 use Rattle.std.specs.Str.{encode_utf8_all}
 use Rattle.unicode_ident.specs.Ident.{is_xid_continue}
@@ -70,107 +70,112 @@ IsHeapEntry s index = StandsForHeap (slice_get s.entries index) × (length s.ent
 abbrev pub IsHypothesis : PrintScope → ℕ → Type 0
 IsHypothesis s number = (number < s.hypotheses) × (s.hypotheses < 2 ^ 64)
 
--- ---- phrases
+-- ---- phrases, where the recursive predicates have so many parameters each
 
-unfoldable pub HasTextMono : PrintScope → MonoTree → Type 0
-HasTextMono s m_word = Unit {0}
-HasTextMono s m_bool = Unit {0}
-HasTextMono s m_loc = Unit {0}
-HasTextMono s m_unit = Unit {0}
-HasTextMono s (m_pair t u) = HasTextMono s t × HasTextMono s u
-HasTextMono s (m_var index) = IsMonoEntry s index
+unfoldable pub terms_in : TermTrees → ℕ
+terms_in no_terms = zero
+terms_in (more_terms M Ms) = suc (terms_in Ms)
+
+unfoldable pub HasTextMono : List ℕ → PrintScope → MonoTree → Type 0
+HasTextMono counts s m_word = Unit {0}
+HasTextMono counts s m_bool = Unit {0}
+HasTextMono counts s m_loc = Unit {0}
+HasTextMono counts s m_unit = Unit {0}
+HasTextMono counts s (m_pair t u) = HasTextMono counts s t × HasTextMono counts s u
+HasTextMono counts s (m_var index) = IsMonoEntry s index
 
 unfoldable mutual
-  pub HasTextTy : PrintScope → TyTree → Type 0
-  HasTextTy s (y_mono t) = HasTextMono s t
-  HasTextTy s (y_fun A B) = HasTextTy s A × HasTextTy (with_entry sorts.a_term s) B
-  HasTextTy s (y_all B) = HasTextTy (with_entry a_mono s) B
-  HasTextTy s (y_hoare T) = HasTextSpec s T
-  HasTextTy s (y_at at A) = HasTextTy s A
+  pub HasTextTy : List ℕ → PrintScope → TyTree → Type 0
+  HasTextTy counts s (y_mono t) = HasTextMono counts s t
+  HasTextTy counts s (y_fun A B) = HasTextTy counts s A × HasTextTy counts (with_entry sorts.a_term s) B
+  HasTextTy counts s (y_all B) = HasTextTy counts (with_entry a_mono s) B
+  HasTextTy counts s (y_hoare T) = HasTextSpec counts s T
+  HasTextTy counts s (y_at at A) = HasTextTy counts s A
 
-  pub HasTextSpec : PrintScope → TripleTree → Type 0
-  HasTextSpec s (triple P t Q) =
-      HasTextFormula (under_mem s) P × HasTextMono s t × HasTextFormula (under_heaps (with_entry sorts.a_term s)) Q
+  pub HasTextSpec : List ℕ → PrintScope → TripleTree → Type 0
+  HasTextSpec counts s (triple P t Q) =
+      HasTextFormula counts (under_mem s) P × HasTextMono counts s t × HasTextFormula counts (under_heaps (with_entry sorts.a_term s)) Q
 
-  pub HasTextTerm : PrintScope → TermTree → Type 0
-  HasTextTerm s (t_var index) = IsTermEntry s index
-  HasTextTerm s (t_val number) = HasName (slice_get s.vals number)
-  HasTextTerm s (t_app K M) = HasTextTerm s K × HasTextTerm s M
-  HasTextTerm s (t_inst K t) = HasTextTerm s K × HasTextMono s t
-  HasTextTerm s (t_lam M) = HasTextTerm (with_entry sorts.a_term s) M
-  HasTextTerm s (t_lam_t M) = HasTextTerm (with_entry a_mono s) M
-  HasTextTerm s (t_do E) = HasTextComp s E
-  HasTextTerm s (t_fix at X) = HasTextFix s X
-  HasTextTerm s (t_word n) = n < 2 ^ 64
-  HasTextTerm s (t_bool truth) = Unit {0}
-  HasTextTerm s (t_loc n) = n < 2 ^ 64
-  HasTextTerm s t_unit = Unit {0}
-  HasTextTerm s (t_pair M N) = HasTextTerm s M × HasTextTerm s N
-  HasTextTerm s (t_fst M) = HasTextTerm s M
-  HasTextTerm s (t_snd M) = HasTextTerm s M
-  HasTextTerm s (t_not M) = HasTextTerm s M
-  HasTextTerm s (t_bin op M N) = HasTextTerm s M × HasTextTerm s N
-  HasTextTerm s (t_eq t M N) = HasTextMono s t × HasTextTerm s M × HasTextTerm s N
-  HasTextTerm s (t_sel t B M N) = HasTextMono s t × HasTextTerm s B × HasTextTerm s M × HasTextTerm s N
-  HasTextTerm s (t_ann M A) = HasTextTerm s M × HasTextTy s A
-  HasTextTerm s (t_at at M) = HasTextTerm s M
-  HasTextTerm s (t_def number) = ⊥
-  HasTextTerm s (t_made number captured) = ⊥
+  pub HasTextTerm : List ℕ → PrintScope → TermTree → Type 0
+  HasTextTerm counts s (t_var index) = IsTermEntry s index
+  HasTextTerm counts s (t_val number) = HasName (slice_get s.vals number)
+  HasTextTerm counts s (t_app K M) = HasTextTerm counts s K × HasTextTerm counts s M
+  HasTextTerm counts s (t_inst K t) = HasTextTerm counts s K × HasTextMono counts s t
+  HasTextTerm counts s (t_lam M) = HasTextTerm counts (with_entry sorts.a_term s) M
+  HasTextTerm counts s (t_lam_t M) = HasTextTerm counts (with_entry a_mono s) M
+  HasTextTerm counts s (t_do E) = HasTextComp counts s E
+  HasTextTerm counts s (t_fix at X) = HasTextFix counts s X
+  HasTextTerm counts s (t_word n) = n < 2 ^ 64
+  HasTextTerm counts s (t_bool truth) = Unit {0}
+  HasTextTerm counts s (t_loc n) = n < 2 ^ 64
+  HasTextTerm counts s t_unit = Unit {0}
+  HasTextTerm counts s (t_pair M N) = HasTextTerm counts s M × HasTextTerm counts s N
+  HasTextTerm counts s (t_fst M) = HasTextTerm counts s M
+  HasTextTerm counts s (t_snd M) = HasTextTerm counts s M
+  HasTextTerm counts s (t_not M) = HasTextTerm counts s M
+  HasTextTerm counts s (t_bin op M N) = HasTextTerm counts s M × HasTextTerm counts s N
+  HasTextTerm counts s (t_eq t M N) = HasTextMono counts s t × HasTextTerm counts s M × HasTextTerm counts s N
+  HasTextTerm counts s (t_sel t B M N) = HasTextMono counts s t × HasTextTerm counts s B × HasTextTerm counts s M × HasTextTerm counts s N
+  HasTextTerm counts s (t_ann M A) = HasTextTerm counts s M × HasTextTy counts s A
+  HasTextTerm counts s (t_at at M) = HasTextTerm counts s M
+  HasTextTerm counts s (t_def number) = ⊥
+  HasTextTerm counts s (t_made number captured) = ⊥
 
-  pub HasTextFix : PrintScope → FixTree → Type 0
-  HasTextFix s (x_param A X) = HasTextTy s A × HasTextFix (with_entry sorts.a_term s) X
-  HasTextFix s (x_body T E) = HasTextSpec s T × HasTextComp (with_entry sorts.a_term s) E
+  pub HasTextFix : List ℕ → PrintScope → FixTree → Type 0
+  HasTextFix counts s (x_param A X) = HasTextTy counts s A × HasTextFix counts (with_entry sorts.a_term s) X
+  HasTextFix counts s (x_body T E) = HasTextSpec counts s T × HasTextComp counts (with_entry sorts.a_term s) E
 
-  pub HasTextComp : PrintScope → CompTree → Type 0
-  HasTextComp s (c_ret M) = HasTextTerm s M
-  HasTextComp s (c_step S E) = HasTextStep s S × HasTextComp (with_entry sorts.a_term s) E
+  pub HasTextComp : List ℕ → PrintScope → CompTree → Type 0
+  HasTextComp counts s (c_ret M) = HasTextTerm counts s M
+  HasTextComp counts s (c_step S E) = HasTextStep counts s S × HasTextComp counts (with_entry sorts.a_term s) E
 
-  pub HasTextStep : PrintScope → StepTree → Type 0
-  HasTextStep s (s_run K t) = HasTextTerm s K
-  HasTextStep s (s_alloc t M) = HasTextMono s t × HasTextTerm s M
-  HasTextStep s (s_get t M) = HasTextMono s t × HasTextTerm s M
-  HasTextStep s (s_set t M N) = HasTextMono s t × HasTextTerm s M × HasTextTerm s N
-  HasTextStep s (s_free t M) = HasTextMono s t × HasTextTerm s M
-  HasTextStep s (s_if t B E E') = HasTextMono s t × HasTextTerm s B × HasTextComp s E × HasTextComp s E'
-  HasTextStep s (s_claim F) = HasTextFormula (under_heaps s) F
+  pub HasTextStep : List ℕ → PrintScope → StepTree → Type 0
+  HasTextStep counts s (s_run K t) = HasTextTerm counts s K
+  HasTextStep counts s (s_alloc t M) = HasTextMono counts s t × HasTextTerm counts s M
+  HasTextStep counts s (s_get t M) = HasTextMono counts s t × HasTextTerm counts s M
+  HasTextStep counts s (s_set t M N) = HasTextMono counts s t × HasTextTerm counts s M × HasTextTerm counts s N
+  HasTextStep counts s (s_free t M) = HasTextMono counts s t × HasTextTerm counts s M
+  HasTextStep counts s (s_if t B E E') = HasTextMono counts s t × HasTextTerm counts s B × HasTextComp counts s E × HasTextComp counts s E'
+  HasTextStep counts s (s_claim F) = HasTextFormula counts (under_heaps s) F
 
-  pub HasTextFormula : PrintScope → FormulaTree → Type 0
-  HasTextFormula s f_tt = Unit {0}
-  HasTextFormula s f_ff = Unit {0}
-  HasTextFormula s (f_and F G) = HasTextFormula s F × HasTextFormula s G
-  HasTextFormula s (f_or F G) = HasTextFormula s F × HasTextFormula s G
-  HasTextFormula s (f_imp F G) = HasTextFormula s F × HasTextFormula s G
-  HasTextFormula s (f_all_t t F) = HasTextMono s t × HasTextFormula (with_entry sorts.a_term s) F
-  HasTextFormula s (f_ex_t t F) = HasTextMono s t × HasTextFormula (with_entry sorts.a_term s) F
-  HasTextFormula s (f_all_h F) = HasTextFormula (with_entry sorts.a_heap s) F
-  HasTextFormula s (f_ex_h F) = HasTextFormula (with_entry sorts.a_heap s) F
-  HasTextFormula s (f_emp h) = IsHeapEntry s h
-  HasTextFormula s (f_cell t h M N) = HasTextMono s t × IsHeapEntry s h × HasTextTerm s M × HasTextTerm s N
-  HasTextFormula s (f_block t h M) = HasTextMono s t × IsHeapEntry s h × HasTextTerm s M
-  HasTextFormula s (f_join h a b) = IsHeapEntry s h × IsHeapEntry s a × IsHeapEntry s b
-  HasTextFormula s (f_same h k) = IsHeapEntry s h × IsHeapEntry s k
-  HasTextFormula s (f_eq t M N) = HasTextTerm s M × HasTextMono s t × HasTextTerm s N
-  HasTextFormula s (f_at at F) = HasTextFormula s F
-  HasTextFormula s (f_rec p h N Ms) =
-      HasName (slice_get s.recs p) × IsHeapEntry s h × HasTextTerm s N × HasTextTerms s Ms
+  pub HasTextFormula : List ℕ → PrintScope → FormulaTree → Type 0
+  HasTextFormula counts s f_tt = Unit {0}
+  HasTextFormula counts s f_ff = Unit {0}
+  HasTextFormula counts s (f_and F G) = HasTextFormula counts s F × HasTextFormula counts s G
+  HasTextFormula counts s (f_or F G) = HasTextFormula counts s F × HasTextFormula counts s G
+  HasTextFormula counts s (f_imp F G) = HasTextFormula counts s F × HasTextFormula counts s G
+  HasTextFormula counts s (f_all_t t F) = HasTextMono counts s t × HasTextFormula counts (with_entry sorts.a_term s) F
+  HasTextFormula counts s (f_ex_t t F) = HasTextMono counts s t × HasTextFormula counts (with_entry sorts.a_term s) F
+  HasTextFormula counts s (f_all_h F) = HasTextFormula counts (with_entry sorts.a_heap s) F
+  HasTextFormula counts s (f_ex_h F) = HasTextFormula counts (with_entry sorts.a_heap s) F
+  HasTextFormula counts s (f_emp h) = IsHeapEntry s h
+  HasTextFormula counts s (f_cell t h M N) = HasTextMono counts s t × IsHeapEntry s h × HasTextTerm counts s M × HasTextTerm counts s N
+  HasTextFormula counts s (f_block t h M) = HasTextMono counts s t × IsHeapEntry s h × HasTextTerm counts s M
+  HasTextFormula counts s (f_join h a b) = IsHeapEntry s h × IsHeapEntry s a × IsHeapEntry s b
+  HasTextFormula counts s (f_same h k) = IsHeapEntry s h × IsHeapEntry s k
+  HasTextFormula counts s (f_eq t M N) = HasTextTerm counts s M × HasTextMono counts s t × HasTextTerm counts s N
+  HasTextFormula counts s (f_at at F) = HasTextFormula counts s F
+  HasTextFormula counts s (f_rec p h N Ms) =
+      HasName (slice_get s.recs p) × IsHeapEntry s h × HasTextTerm counts s N × HasTextTerms counts s Ms ×
+      (slice_get counts p ≡ Some (terms_in Ms))
 
-  pub HasTextTerms : PrintScope → TermTrees → Type 0
-  HasTextTerms s no_terms = Unit {0}
-  HasTextTerms s (more_terms M Ms) = HasTextTerm s M × HasTextTerms s Ms
+  pub HasTextTerms : List ℕ → PrintScope → TermTrees → Type 0
+  HasTextTerms counts s no_terms = Unit {0}
+  HasTextTerms counts s (more_terms M Ms) = HasTextTerm counts s M × HasTextTerms counts s Ms
 
 -- ---- proofs
 
-unfoldable pub HasTextMonos : PrintScope → List MonoTree → Type 0
-HasTextMonos s [] = Unit {0}
-HasTextMonos s (t ∷ ts) = HasTextMono s t × HasTextMonos s ts
+unfoldable pub HasTextMonos : List ℕ → PrintScope → List MonoTree → Type 0
+HasTextMonos counts s [] = Unit {0}
+HasTextMonos counts s (t ∷ ts) = HasTextMono counts s t × HasTextMonos counts s ts
 
-abbrev pub HasTextArg : PrintScope → ArgTree → Type 0
-HasTextArg s (a_heap h) = IsHeapEntry s h
-HasTextArg s (a_term M) = HasTextTerm s M
+abbrev pub HasTextArg : List ℕ → PrintScope → ArgTree → Type 0
+HasTextArg counts s (a_heap h) = IsHeapEntry s h
+HasTextArg counts s (a_term M) = HasTextTerm counts s M
 
-unfoldable pub HasTextArgs : PrintScope → List ArgTree → Type 0
-HasTextArgs s [] = Unit {0}
-HasTextArgs s (a ∷ others) = HasTextArg s a × HasTextArgs s others
+unfoldable pub HasTextArgs : List ℕ → PrintScope → List ArgTree → Type 0
+HasTextArgs counts s [] = Unit {0}
+HasTextArgs counts s (a ∷ others) = HasTextArg counts s a × HasTextArgs counts s others
 
 abbrev pub AreSome : List ArgTree → Type 0
 AreSome [] = ⊥
@@ -180,48 +185,48 @@ abbrev pub BeginsBlock : BlockTree → Type 0
 BeginsBlock (b_then d b) = Unit {0}
 BeginsBlock (b_end p) = ⊥
 
-unfoldable pub IsNoBlock : ProofTree → Type 0
-IsNoBlock (p_block b) = ⊥
-IsNoBlock (p_at at p) = IsNoBlock p
-IsNoBlock _ = Unit {0}
+unfoldable pub is_block : ProofTree → Bool
+is_block (p_block b) = true
+is_block (p_at at p) = is_block p
+is_block _ = false
 
 unfoldable mutual
-  pub HasTextProof : PrintScope → ProofTree → Type 0
-  HasTextProof s (p_hyp number) = IsHypothesis s number
-  HasTextProof s p_trivial = Unit {0}
-  HasTextProof s p_refl = Unit {0}
-  HasTextProof s (p_first p) = HasTextProof s p
-  HasTextProof s (p_second p) = HasTextProof s p
-  HasTextProof s (p_left p) = HasTextProof s p
-  HasTextProof s (p_right p) = HasTextProof s p
-  HasTextProof s (p_absurd p) = HasTextProof s p
-  HasTextProof s (p_both p q) = HasTextProof s p × HasTextProof s q
-  HasTextProof s (p_give a p) = HasTextArg s a × HasTextProof s p
-  HasTextProof s (p_app p q) = HasTextProof s p × HasTextProof s q
-  HasTextProof s (p_inst p a) = HasTextProof s p × HasTextArg s a
-  HasTextProof s (p_case p q r) =
-      HasTextProof s p × HasTextProof (with_hypothesis s) q × HasTextProof (with_hypothesis s) r
-  HasTextProof s (p_rewrite p C q) =
-      HasTextProof s p × HasTextFormula (with_entry a_term_or_heap s) C × HasTextProof s q
-  HasTextProof s (p_induct C M p q) =
-      HasTextFormula (with_entry a_term_or_heap s) C × HasTextTerm s M × HasTextProof s p × HasTextProof (under_next s) q
-  HasTextProof s (p_split C M p q) =
-      HasTextFormula (with_entry a_term_or_heap s) C × HasTextTerm s M × HasTextProof s p × HasTextProof s q
-  HasTextProof s (p_axiom c ts more) = IsName c × HasTextMonos s ts × HasTextArgs s more
-  HasTextProof s (p_unfold number at_next more) =
-      HasName (slice_get s.recs number) × (at_next < 2 ^ 64) × AreSome more × HasTextArgs s more
-  HasTextProof s (p_lem F) = HasTextFormula s F
-  HasTextProof s (p_the F p) = HasTextFormula s F × HasTextProof s p
-  HasTextProof s (p_block b) = BeginsBlock b × HasTextBlock s b
-  HasTextProof s (p_at at p) = HasTextProof s p
+  pub HasTextProof : List ℕ → PrintScope → ProofTree → Type 0
+  HasTextProof counts s (p_hyp number) = IsHypothesis s number
+  HasTextProof counts s p_trivial = Unit {0}
+  HasTextProof counts s p_refl = Unit {0}
+  HasTextProof counts s (p_first p) = HasTextProof counts s p
+  HasTextProof counts s (p_second p) = HasTextProof counts s p
+  HasTextProof counts s (p_left p) = HasTextProof counts s p
+  HasTextProof counts s (p_right p) = HasTextProof counts s p
+  HasTextProof counts s (p_absurd p) = HasTextProof counts s p
+  HasTextProof counts s (p_both p q) = HasTextProof counts s p × HasTextProof counts s q
+  HasTextProof counts s (p_give a p) = HasTextArg counts s a × HasTextProof counts s p
+  HasTextProof counts s (p_app p q) = HasTextProof counts s p × HasTextProof counts s q
+  HasTextProof counts s (p_inst p a) = HasTextProof counts s p × HasTextArg counts s a
+  HasTextProof counts s (p_case p q r) =
+      HasTextProof counts s p × HasTextProof counts (with_hypothesis s) q × HasTextProof counts (with_hypothesis s) r
+  HasTextProof counts s (p_rewrite p C q) =
+      HasTextProof counts s p × HasTextFormula counts (with_entry a_term_or_heap s) C × HasTextProof counts s q
+  HasTextProof counts s (p_induct C M p q) =
+      HasTextFormula counts (with_entry a_term_or_heap s) C × HasTextTerm counts s M × HasTextProof counts s p × HasTextProof counts (under_next s) q
+  HasTextProof counts s (p_split C M p q) =
+      HasTextFormula counts (with_entry a_term_or_heap s) C × HasTextTerm counts s M × HasTextProof counts s p × HasTextProof counts s q
+  HasTextProof counts s (p_axiom c ts more) = IsName c × HasTextMonos counts s ts × HasTextArgs counts s more
+  HasTextProof counts s (p_unfold number at_next more) =
+      HasName (slice_get s.recs number) × (at_next < 2 ^ 64) × AreSome more × HasTextArgs counts s more
+  HasTextProof counts s (p_lem F) = HasTextFormula counts s F
+  HasTextProof counts s (p_the F p) = HasTextFormula counts s F × HasTextProof counts s p
+  HasTextProof counts s (p_block b) = BeginsBlock b × HasTextBlock counts s b
+  HasTextProof counts s (p_at at p) = HasTextProof counts s p
 
-  pub HasTextBlock : PrintScope → BlockTree → Type 0
-  HasTextBlock s (b_then d b) = HasTextStmt s d × HasTextBlock (after_stmt d s) b
-  HasTextBlock s (b_end p) = IsNoBlock p × HasTextProof s p
+  pub HasTextBlock : List ℕ → PrintScope → BlockTree → Type 0
+  HasTextBlock counts s (b_then d b) = HasTextStmt counts s d × HasTextBlock counts (after_stmt d s) b
+  HasTextBlock counts s (b_end p) = (is_block p ≡ false) × HasTextProof counts s p
 
-  pub HasTextStmt : PrintScope → StmtTree → Type 0
-  HasTextStmt s d_intro = Unit {0}
-  HasTextStmt s d_gen = Unit {0}
-  HasTextStmt s (d_have F p) = HasTextFormula s F × HasTextProof s p
-  HasTextStmt s (d_open p) = HasTextProof s p
-  HasTextStmt s (d_at at d) = HasTextStmt s d
+  pub HasTextStmt : List ℕ → PrintScope → StmtTree → Type 0
+  HasTextStmt counts s d_intro = Unit {0}
+  HasTextStmt counts s d_gen = Unit {0}
+  HasTextStmt counts s (d_have F p) = HasTextFormula counts s F × HasTextProof counts s p
+  HasTextStmt counts s (d_open p) = HasTextProof counts s p
+  HasTextStmt counts s (d_at at d) = HasTextStmt counts s d

@@ -15,6 +15,6 @@ pub record HasPrintedTokens (p : Printed) : Type 0 where
   pub are_tokens : AreTokens (bytes_of p) (tokens_of (bytes_of p) p spoken)
 
 pub record PrintedTokens : Type 0 where
-  pub types : (s : PrintScope) (A : TyTree) → HasTextTy s A → HasPrintedTokens (ty s A)
-  pub formulas : (s : PrintScope) (F : FormulaTree) → HasTextFormula s F → HasPrintedTokens (formula s F)
-  pub proofs : (s : PrintScope) (p : ProofTree) → HasTextProof s p → HasPrintedTokens (proof s p)
+  pub types : (counts : List ℕ) (s : PrintScope) (A : TyTree) → HasTextTy counts s A → HasPrintedTokens (ty s A)
+  pub formulas : (counts : List ℕ) (s : PrintScope) (F : FormulaTree) → HasTextFormula counts s F → HasPrintedTokens (formula s F)
+  pub proofs : (counts : List ℕ) (s : PrintScope) (p : ProofTree) → HasTextProof counts s p → HasPrintedTokens (proof s p)

@@ -19,7 +19,7 @@ pub record NameToken (text name : List ℕ) : Type 0 where
   pub bytes : bytes_of text (span_of token) ≡ name
 
 -- a token for each lexeme that is one
-unfoldable pub Spoken : List ℕ → Printed → Type 0
+abbrev pub Spoken : List ℕ → Printed → Type 0
 Spoken text nothing = Unit {0}
 Spoken text (one a_space) = Unit {0}
 Spoken text (one (a_word w)) = KindToken (kinds.Keyword w)
@@ -31,7 +31,7 @@ Spoken text (deeper p) = Spoken text p
 Spoken text (operand n p) = Spoken text p
 
 -- these tokens in a row
-unfoldable pub tokens_of : (text : List ℕ) (p : Printed) → Spoken text p → List Token
+abbrev pub tokens_of : (text : List ℕ) (p : Printed) → Spoken text p → List Token
 tokens_of text nothing v = []
 tokens_of text (one a_space) v = []
 tokens_of text (one (a_word w)) v = v.token ∷ []
