@@ -72,6 +72,12 @@ pub record ReadsTerms (spell : ℕ → raw.RawTermTrees → List Mark) (r : Scop
 
 -- ---- small facts
 
+plus_zero : (n : ℕ) → n ≡ n + zero
+plus_zero n = omega arith
+
+plus_suc : (n m : ℕ) → suc n + m ≡ n + suc m
+plus_suc n m = omega arith
+
 pub some_same : {A : Type 0} {x y : A} → Some x ≡ Some y → x ≡ y
 some_same {x = x} e = ap (λ o. from o x) e
   where
@@ -192,14 +198,14 @@ onto (raw.mono_part t parts) last = raw.mono_part t (onto parts last)
 
 onto_marks : (l k : ℕ) (parts last : raw.RawPartTrees) → grammar.parts l k (onto parts last) ≡ grammar.parts l k parts ⨟ grammar.parts l (k + count_parts parts) last
 unfolding grammar.term ◌⨟◌
-onto_marks l k raw.no_parts last = ap (λ n. grammar.parts l n last) (omega arith)
+onto_marks l k raw.no_parts last = ap (λ n. grammar.parts l n last) (plus_zero k)
 onto_marks l k (raw.atom_part a parts) last =
-    ap (λ ms. marks.numbered k (grammar.atom l a) ++ ms) (onto_marks l (suc k) parts last ∙ ap (λ n. grammar.parts l (suc k) parts ++ grammar.parts l n last) (omega arith))
+    ap (λ ms. marks.numbered k (grammar.atom l a) ++ ms) (onto_marks l (suc k) parts last ∙ ap (λ n. grammar.parts l (suc k) parts ++ grammar.parts l n last) (plus_suc k (count_parts parts)))
     ∙ sym (append_assoc (marks.numbered k (grammar.atom l a)) (grammar.parts l (suc k) parts) (grammar.parts l (k + suc (count_parts parts)) last))
 onto_marks l k (raw.mono_part t parts) last =
     let inside = marks.numbered k (grammar.mono l t) in
     let closing = marks.sign l CloseBracketSign in
-    ap (λ ms. marks.sign l OpenBracketSign ++ (inside ++ (closing ++ ms))) (onto_marks l (suc k) parts last ∙ ap (λ n. grammar.parts l (suc k) parts ++ grammar.parts l n last) (omega arith))
+    ap (λ ms. marks.sign l OpenBracketSign ++ (inside ++ (closing ++ ms))) (onto_marks l (suc k) parts last ∙ ap (λ n. grammar.parts l (suc k) parts ++ grammar.parts l n last) (plus_suc k (count_parts parts)))
     ∙ ap (λ ms. marks.sign l OpenBracketSign ++ ms) (sym (append_assoc inside (closing ++ grammar.parts l (suc k) parts) (grammar.parts l (k + suc (count_parts parts)) last)))
 
 onto_count : (parts last : raw.RawPartTrees) → count_parts (onto parts last) ≡ count_parts parts + count_parts last

@@ -48,13 +48,19 @@ abbrev pub NaturalMono : (r : Scope) (l : ℕ) (p : Printed) → Spoken r.text p
 NaturalMono r l p v told an_atom = ReadsFactor r l p v told
 NaturalMono r l p v told _ = ReadsMono r l p v told
 
-pub any_mono : {r : Scope} {l : ℕ} {p : Printed} {v : Spoken r.text p} {told : MonoTree} (form : Form) → NaturalMono r l p v told form → ReadsMono r l p v told
+-- a printed monotype that is read as what it is
+pub record MonoRead (r : Scope) (l : ℕ) (p : Printed) (v : Spoken r.text p) (told : MonoTree) (form : Form) : Type 0 where
+  pub natural : NaturalMono r l p v told form
+
+pub any_mono : {r : Scope} {l : ℕ} {p : Printed} {v : Spoken r.text p} {told : MonoTree} (form : Form) → MonoRead r l p v told form → ReadsMono r l p v told
 unfolding grammar.mono mono_comes
-any_mono an_atom h = record { tree = raw.m_factor h.tree; meets = record { meets = h.meets.meets }; given = h.given; comes = h.comes; same = h.same }
-any_mono an_application h = h
-any_mono a_prefixed h = h
-any_mono an_operation h = h
-any_mono a_binding h = h
+any_mono an_atom h =
+    let f = h.natural in
+    record { tree = raw.m_factor f.tree; meets = record { meets = f.meets.meets }; given = f.given; comes = f.comes; same = f.same }
+any_mono an_application h = h.natural
+any_mono a_prefixed h = h.natural
+any_mono an_operation h = h.natural
+any_mono a_binding h = h.natural
 
 mono_in_parens : {r : Scope} {l : ℕ} {p : Printed} {told : MonoTree} (v : Spoken r.text (in_parens p)) → ReadsMono r l p v.1.0 told → ReadsFactor r l (in_parens p) v told
 unfolding grammar.mono mono_comes
@@ -71,15 +77,15 @@ abbrev pub mono_at : Form → Printed → Printed
 mono_at form p = cond (needs_brackets an_operand form) (in_parens p) p
 
 pub factor_at : {r : Scope} {l : ℕ} {p : Printed} {told : MonoTree} (form : Form)
-    → ((v : Spoken r.text p) → NaturalMono r l p v told form)
+    → ((v : Spoken r.text p) → MonoRead r l p v told form)
     → (v : Spoken r.text (mono_at form p))
     → ReadsFactor r l (mono_at form p) v told
 unfolding needs_brackets
-factor_at an_atom h v = h v
-factor_at an_application h v = mono_in_parens v (h v.1.0)
-factor_at a_prefixed h v = mono_in_parens v (h v.1.0)
-factor_at an_operation h v = mono_in_parens v (h v.1.0)
-factor_at a_binding h v = mono_in_parens v (h v.1.0)
+factor_at an_atom h v = (h v).natural
+factor_at an_application h v = mono_in_parens v (h v.1.0).natural
+factor_at a_prefixed h v = mono_in_parens v (h v.1.0).natural
+factor_at an_operation h v = mono_in_parens v (h v.1.0).natural
+factor_at a_binding h v = mono_in_parens v (h v.1.0).natural
 
 -- ---- terms
 
@@ -119,6 +125,10 @@ NaturalTerm r l p v told arguments a_prefixed = ReadsAppl r l p v told × (argum
 NaturalTerm r l p v told arguments an_operation = ReadsRel r l p v told × (arguments ≡ zero)
 NaturalTerm r l p v told arguments a_binding = ReadsTerm r l p v told × (arguments ≡ zero)
 
+-- a printed term that is read as what it is
+pub record TermRead (r : Scope) (l : ℕ) (p : Printed) (v : Spoken r.text p) (told : TermTree) (arguments : ℕ) (form : Form) : Type 0 where
+  pub natural : NaturalTerm r l p v told arguments form
+
 head_of_atom : {r : Scope} {l : ℕ} {p : Printed} {v : Spoken r.text p} {told : TermTree} → ReadsAtom r l p v told → ReadsHead r l p v told zero
 unfolding grammar.term term_comes
 head_of_atom h =
@@ -154,13 +164,13 @@ unfolding grammar.term term_comes
 term_of_rel h = record { tree = raw.t_rel h.tree; meets = record { meets = h.meets.meets }; given = h.given; comes = h.comes; same = h.same }
 
 pub any_term : {r : Scope} {l : ℕ} {p : Printed} {v : Spoken r.text p} {told : TermTree} {arguments : ℕ} (form : Form)
-    → NaturalTerm r l p v told arguments form
+    → TermRead r l p v told arguments form
     → ReadsTerm r l p v told
-any_term an_atom h = term_of_rel (rel_of_appl (appl_of_head (head_of_atom h.0)))
-any_term an_application h = term_of_rel (rel_of_appl (appl_of_head h))
-any_term a_prefixed h = term_of_rel (rel_of_appl h.0)
-any_term an_operation h = term_of_rel h.0
-any_term a_binding h = h.0
+any_term an_atom h = term_of_rel (rel_of_appl (appl_of_head (head_of_atom h.natural.0)))
+any_term an_application h = term_of_rel (rel_of_appl (appl_of_head h.natural))
+any_term a_prefixed h = term_of_rel (rel_of_appl h.natural.0)
+any_term an_operation h = term_of_rel h.natural.0
+any_term a_binding h = h.natural.0
 
 term_in_parens : {r : Scope} {l : ℕ} {p : Printed} {told : TermTree} (v : Spoken r.text (in_parens (deeper p)))
     → ReadsTerm r (suc l) p v.1.0 told
@@ -181,14 +191,14 @@ term_at place form p = cond (needs_brackets place form) (in_parens (deeper p)) p
 
 -- a printed term that is read at every level
 abbrev pub IsRead : (r : Scope) (p : Printed) → TermTree → ℕ → Form → Type 0
-IsRead r p told arguments form = (l : ℕ) (v : Spoken r.text p) → NaturalTerm r l p v told arguments form
+IsRead r p told arguments form = (l : ℕ) (v : Spoken r.text p) → TermRead r l p v told arguments form
 
 pub atom_at : {r : Scope} {p : Printed} {told : TermTree} {arguments : ℕ} (form : Form) (l : ℕ)
     → IsRead r p told arguments form
     → (v : Spoken r.text (term_at an_operand form p))
     → ReadsAtom r l (term_at an_operand form p) v told
 unfolding needs_brackets
-atom_at an_atom l h v = (h l v).0
+atom_at an_atom l h v = (h l v).natural.0
 atom_at an_application l h v = term_in_parens v (any_term an_application (h (suc l) v.1.0))
 atom_at a_prefixed l h v = term_in_parens v (any_term a_prefixed (h (suc l) v.1.0))
 atom_at an_operation l h v = term_in_parens v (any_term an_operation (h (suc l) v.1.0))
@@ -202,20 +212,20 @@ pub head_at : {r : Scope} {p : Printed} {told : TermTree} {arguments : ℕ} (for
     → (v : Spoken r.text (term_at a_head form p))
     → ReadsHead r l (term_at a_head form p) v told arguments
 unfolding needs_brackets
-head_at an_atom l h v = let m = h l v in without_arguments m.1 (head_of_atom m.0)
-head_at an_application l h v = h l v
-head_at a_prefixed l h v = let m = h (suc l) v.1.0 in without_arguments m.1 (head_of_atom (term_in_parens v (any_term a_prefixed m)))
-head_at an_operation l h v = let m = h (suc l) v.1.0 in without_arguments m.1 (head_of_atom (term_in_parens v (any_term an_operation m)))
-head_at a_binding l h v = let m = h (suc l) v.1.0 in without_arguments m.1 (head_of_atom (term_in_parens v (any_term a_binding m)))
+head_at an_atom l h v = let m = (h l v).natural in without_arguments m.1 (head_of_atom m.0)
+head_at an_application l h v = (h l v).natural
+head_at a_prefixed l h v = let m = h (suc l) v.1.0 in without_arguments m.natural.1 (head_of_atom (term_in_parens v (any_term a_prefixed m)))
+head_at an_operation l h v = let m = h (suc l) v.1.0 in without_arguments m.natural.1 (head_of_atom (term_in_parens v (any_term an_operation m)))
+head_at a_binding l h v = let m = h (suc l) v.1.0 in without_arguments m.natural.1 (head_of_atom (term_in_parens v (any_term a_binding m)))
 
 pub run_at : {r : Scope} {p : Printed} {told : TermTree} {arguments : ℕ} (form : Form) (l : ℕ)
     → IsRead r p told arguments form
     → (v : Spoken r.text (term_at a_run form p))
     → ReadsAppl r l (term_at a_run form p) v told
 unfolding needs_brackets
-run_at an_atom l h v = appl_of_head (head_of_atom (h l v).0)
-run_at an_application l h v = appl_of_head (h l v)
-run_at a_prefixed l h v = (h l v).0
+run_at an_atom l h v = appl_of_head (head_of_atom (h l v).natural.0)
+run_at an_application l h v = appl_of_head (h l v).natural
+run_at a_prefixed l h v = (h l v).natural.0
 run_at an_operation l h v = appl_of_head (head_of_atom (term_in_parens v (any_term an_operation (h (suc l) v.1.0))))
 run_at a_binding l h v = appl_of_head (head_of_atom (term_in_parens v (any_term a_binding (h (suc l) v.1.0))))
 
@@ -224,10 +234,10 @@ pub side_at : {r : Scope} {p : Printed} {told : TermTree} {arguments : ℕ} (for
     → (v : Spoken r.text (term_at a_side form p))
     → ReadsRel r l (term_at a_side form p) v told
 unfolding needs_brackets
-side_at an_atom l h v = rel_of_appl (appl_of_head (head_of_atom (h l v).0))
-side_at an_application l h v = rel_of_appl (appl_of_head (h l v))
-side_at a_prefixed l h v = rel_of_appl (h l v).0
-side_at an_operation l h v = (h l v).0
+side_at an_atom l h v = rel_of_appl (appl_of_head (head_of_atom (h l v).natural.0))
+side_at an_application l h v = rel_of_appl (appl_of_head (h l v).natural)
+side_at a_prefixed l h v = rel_of_appl (h l v).natural.0
+side_at an_operation l h v = (h l v).natural.0
 side_at a_binding l h v = rel_of_appl (appl_of_head (head_of_atom (term_in_parens v (any_term a_binding (h (suc l) v.1.0)))))
 
 -- ---- formulas
@@ -242,6 +252,10 @@ abbrev pub NaturalFormula : (r : Scope) (l : ℕ) (p : Printed) → Spoken r.tex
 NaturalFormula r l p v told an_atom = ReadsFatom r l p v told
 NaturalFormula r l p v told _ = ReadsFormula r l p v told
 
+-- a printed formula that is read as what it is
+pub record FormulaRead (r : Scope) (l : ℕ) (p : Printed) (v : Spoken r.text p) (told : FormulaTree) (form : Form) : Type 0 where
+  pub natural : NaturalFormula r l p v told form
+
 formula_of_fatom : {r : Scope} {l : ℕ} {p : Printed} {v : Spoken r.text p} {told : FormulaTree} → ReadsFatom r l p v told → ReadsFormula r l p v told
 unfolding grammar.term term_comes
 formula_of_fatom h =
@@ -253,12 +267,12 @@ formula_of_fatom h =
       same = h.same;
     }
 
-pub any_formula : {r : Scope} {l : ℕ} {p : Printed} {v : Spoken r.text p} {told : FormulaTree} (form : Form) → NaturalFormula r l p v told form → ReadsFormula r l p v told
-any_formula an_atom h = formula_of_fatom h
-any_formula an_application h = h
-any_formula a_prefixed h = h
-any_formula an_operation h = h
-any_formula a_binding h = h
+pub any_formula : {r : Scope} {l : ℕ} {p : Printed} {v : Spoken r.text p} {told : FormulaTree} (form : Form) → FormulaRead r l p v told form → ReadsFormula r l p v told
+any_formula an_atom h = formula_of_fatom h.natural
+any_formula an_application h = h.natural
+any_formula a_prefixed h = h.natural
+any_formula an_operation h = h.natural
+any_formula a_binding h = h.natural
 
 formula_in_brackets : {r : Scope} {l : ℕ} {p : Printed} {told : FormulaTree} (v : Spoken r.text (in_brackets (deeper p)))
     → ReadsFormula r (suc l) p v.1.0 told
@@ -277,12 +291,12 @@ abbrev pub formula_at : Form → Printed → Printed
 formula_at form p = cond (needs_brackets an_operand form) (in_brackets (deeper p)) p
 
 pub fatom_at : {r : Scope} {p : Printed} {told : FormulaTree} (form : Form) (l : ℕ)
-    → ((k : ℕ) (v : Spoken r.text p) → NaturalFormula r k p v told form)
+    → ((k : ℕ) (v : Spoken r.text p) → FormulaRead r k p v told form)
     → (v : Spoken r.text (formula_at form p))
     → ReadsFatom r l (formula_at form p) v told
 unfolding needs_brackets
-fatom_at an_atom l h v = h l v
-fatom_at an_application l h v = formula_in_brackets v (h (suc l) v.1.0)
-fatom_at a_prefixed l h v = formula_in_brackets v (h (suc l) v.1.0)
-fatom_at an_operation l h v = formula_in_brackets v (h (suc l) v.1.0)
-fatom_at a_binding l h v = formula_in_brackets v (h (suc l) v.1.0)
+fatom_at an_atom l h v = (h l v).natural
+fatom_at an_application l h v = formula_in_brackets v (h (suc l) v.1.0).natural
+fatom_at a_prefixed l h v = formula_in_brackets v (h (suc l) v.1.0).natural
+fatom_at an_operation l h v = formula_in_brackets v (h (suc l) v.1.0).natural
+fatom_at a_binding l h v = formula_in_brackets v (h (suc l) v.1.0).natural

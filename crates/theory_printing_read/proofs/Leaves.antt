@@ -54,6 +54,9 @@ under_own_heaps n = record { locals = named_mem (named_init n.locals); declared 
 
 -- ---- what a name stands for
 
+zero_plus : (n : ℕ) → zero + n ≡ n
+zero_plus n = omega arith
+
 use_found : {s : PrintScope} {counts : List ℕ} {r : Scope} (index : ℕ) (sort : Sort) (span : Span)
     → HasPrintedNames s counts r
     → slice_get s.entries index ≡ Some sort
@@ -63,7 +66,7 @@ use_found : {s : PrintScope} {counts : List ℕ} {r : Scope} (index : ℕ) (sort
     → use_at r span ≡ Some (a_variable index sort)
 use_found {s} {counts} {r} index sort span n at is few e =
     ap (λ o. first_some o (declared_use (bytes_of r.text span) r.names)) (entry_found index zero sort (bytes_of r.text span) n.locals at is few e)
-    ∙ ap (λ m. Some (a_variable m sort)) (omega arith)
+    ∙ ap (λ m. Some (a_variable m sort)) (zero_plus index)
 
 declared_found : {s : PrintScope} {counts : List ℕ} {r : Scope} (name : List ℕ) (span : Span)
     → HasPrintedNames s counts r
@@ -187,7 +190,7 @@ mem_past {r} l index (suc n) v e =
     }
 
 from_zero : (index : ℕ) → Some (zero + index) ≡ Some index
-from_zero index = ap Some (omega arith)
+from_zero index = ap Some (zero_plus index)
 
 heap_of_sort : {s : PrintScope} {counts : List ℕ} {r : Scope} (l index : ℕ) (o : Option Sort)
     → HasPrintedNames s counts r

@@ -6,3 +6,4 @@ pub mod Chains
 pub mod Phrases
 pub mod Proofs
 pub mod Printed
+pub mod Sequents

@@ -34,6 +34,15 @@ plus_zero n = omega arith
 plus_suc : (n m : ℕ) → suc n + m ≡ n + suc m
 plus_suc n m = omega arith
 
+zero_plus : (n : ℕ) → zero + n ≡ n
+zero_plus n = omega arith
+
+one_plus : (n : ℕ) → 1 + n ≡ suc n
+one_plus n = omega arith
+
+moved_in : (n index : ℕ) → suc n - suc (suc index) ≡ n - suc index
+moved_in n index = omega arith
+
 init_unnamed : (sort : Sort) → Some the_init ≡ Some sort → named.is_named sort ≡ true → ⊥
 init_unnamed sort at is = let e = ap named.is_named (some_same at) in cc
 
@@ -140,7 +149,7 @@ entry_found zero off sort name (named_entry {locals} {sorts} {n} {own} {other} h
     ∙ ap Some (use_named other off locals h ∙ ap (a_variable off) same ∙ ap (λ m. a_variable m sort) (plus_zero off))
 entry_found (suc index) off sort name (named_entry {locals} {sorts} {n} {own} {other} h own_e rest) at is few e =
     let below = there_is sorts index sort at in
-    let moved : name ≡ name_at sort (length sorts - suc index) = e ∙ ap (name_at sort) (omega arith) in
+    let moved : name ≡ name_at sort (length sorts - suc index) = e ∙ ap (name_at sort) (moved_in (length sorts) index) in
     let differ : name_at other (length sorts) ≡ name → ⊥ =
     λ same. let p = positions_same other sort (length sorts) (length sorts - suc index) (omega (arith, few)) (omega (arith, few)) (same ∙ moved) in omega (arith, p, below) in
     there name off (record { name = own; sort = other }) locals (other_name name (name_at other (length sorts)) own own_e differ)
@@ -150,12 +159,12 @@ entry_found (suc index) off sort name (named_entry {locals} {sorts} {n} {own} {o
 entry_found zero off sort name (named_init rest) at is few e = absurd (init_unnamed sort at is)
 entry_found (suc index) off sort name (named_init {locals} {sorts} rest) at is few e =
     there name off (record { name = None; sort = the_init }) locals refl
-    ∙ entry_found index (suc off) sort name rest at is (omega (arith, few)) (e ∙ ap (name_at sort) (omega arith))
+    ∙ entry_found index (suc off) sort name rest at is (omega (arith, few)) (e ∙ ap (name_at sort) (moved_in (length sorts) index))
     ∙ ap (λ m. Some (a_variable m sort)) (plus_suc off index)
 entry_found zero off sort name (named_mem rest) at is few e = absurd (mem_unnamed sort at is)
 entry_found (suc index) off sort name (named_mem {locals} {sorts} rest) at is few e =
     there name off (record { name = None; sort = the_mem }) locals refl
-    ∙ entry_found index (suc off) sort name rest at is (omega (arith, few)) (e ∙ ap (name_at sort) (omega arith))
+    ∙ entry_found index (suc off) sort name rest at is (omega (arith, few)) (e ∙ ap (name_at sort) (moved_in (length sorts) index))
     ∙ ap (λ m. Some (a_variable m sort)) (plus_suc off index)
 entry_found index off sort name (named_hypothesis {locals} {sorts} {n} {own} own_e rest) at is few e =
     let differ : hypothesis_name n ≡ name → ⊥ = λ same. entry_is_no_hypothesis sort (length sorts - suc index) n (sym (same ∙ e)) in
@@ -165,8 +174,8 @@ entry_found index off sort name (named_hypothesis {locals} {sorts} {n} {own} own
 -- ---- heaps without names, past as many of their kind as stand inside
 
 passes : (t : Bool) (c n : ℕ) (outer : ℕ → Option ℕ) → heap_or_outer t (cond t 1 0 + c) n outer ≡ outer c
-passes true c n outer = refl
-passes false c n outer = refl
+passes true c n outer = ap (λ k. heap_or_outer true k n outer) (one_plus c)
+passes false c n outer = ap (λ k. heap_or_outer false k n outer) (zero_plus c)
 
 stops : (t : Bool) (n : ℕ) (outer : ℕ → Option ℕ) → t ≡ true → heap_or_outer t zero n outer ≡ Some n
 stops t n outer h = ap (λ u. heap_or_outer u zero n outer) h

@@ -33,27 +33,27 @@ use Rattle.theory_printing_read.specs.Said.{said_ty, said_triple, said_term, sai
 use Rattle.theory_printing_read.specs.Scopes.{HasPrintedNames}
 use Rattle.theory_printing_read.proofs.Meets.{go, goes_then, goes, deep, numbered, goes_space, goes_sign, goes_sign_at, goes_word, goes_word_at, goes_name, goes_between, goes_comma}
 use Rattle.theory_printing_read.proofs.Meets.{ends_sign, ends_word_at, ends_number_at}
-use Rattle.theory_printing_read.proofs.Forms.{bind, NaturalMono, any_mono, factor_at, NaturalTerm, any_term, atom_at, head_at, run_at, side_at, NaturalFormula, any_formula, fatom_at}
+use Rattle.theory_printing_read.proofs.Forms.{bind, MonoRead, any_mono, factor_at, TermRead, any_term, atom_at, head_at, run_at, side_at, FormulaRead, any_formula, fatom_at}
 use Rattle.theory_printing_read.proofs.Leaves.{under_entry, under_own_mem, under_own_heaps, mono_entry, term_entry, heap_entry, value, predicate}
 use Rattle.theory_printing_read.proofs.Chains.{ReadsTy, ReadsSpec, ReadsFix, ReadsComp, ReadsStep, ReadsTerms, place_read, operation, applied, instantiated, regrouped, no_terms_meet, right_number, some_same}
 
-pub read_mono : {s : PrintScope} {counts : List ℕ} {r : Scope} → HasPrintedNames s counts r → (t : MonoTree) → HasTextMono counts s t → (l : ℕ) (v : Spoken r.text (mono s t)) → NaturalMono r l (mono s t) v t (mono_form t)
+pub read_mono : {s : PrintScope} {counts : List ℕ} {r : Scope} → HasPrintedNames s counts r → (t : MonoTree) → HasTextMono counts s t → (l : ℕ) (v : Spoken r.text (mono s t)) → MonoRead r l (mono s t) v t (mono_form t)
 unfolding marks_of mono HasTextMono grammar.mono mono_comes ◌⨟◌
-read_mono {s} {counts} {r} names m_word has l v = record { tree = raw.m_name (mono_names.Word v.token.from); meets = ends_word_at r.text l WordWord v; given = m_word; comes = refl; same = refl }
-read_mono {s} {counts} {r} names m_bool has l v = record { tree = raw.m_name (mono_names.Bool v.token.from); meets = ends_word_at r.text l BoolWord v; given = m_bool; comes = refl; same = refl }
-read_mono {s} {counts} {r} names m_loc has l v = record { tree = raw.m_name (mono_names.Loc v.token.from); meets = ends_word_at r.text l LocWord v; given = m_loc; comes = refl; same = refl }
-read_mono {s} {counts} {r} names m_unit has l v = record { tree = raw.m_name (mono_names.Unit v.token.from); meets = ends_word_at r.text l UnitWord v; given = m_unit; comes = refl; same = refl }
+read_mono {s} {counts} {r} names m_word has l v = record { natural = record { tree = raw.m_name (mono_names.Word v.token.from); meets = ends_word_at r.text l WordWord v; given = m_word; comes = refl; same = refl } }
+read_mono {s} {counts} {r} names m_bool has l v = record { natural = record { tree = raw.m_name (mono_names.Bool v.token.from); meets = ends_word_at r.text l BoolWord v; given = m_bool; comes = refl; same = refl } }
+read_mono {s} {counts} {r} names m_loc has l v = record { natural = record { tree = raw.m_name (mono_names.Loc v.token.from); meets = ends_word_at r.text l LocWord v; given = m_loc; comes = refl; same = refl } }
+read_mono {s} {counts} {r} names m_unit has l v = record { natural = record { tree = raw.m_name (mono_names.Unit v.token.from); meets = ends_word_at r.text l UnitWord v; given = m_unit; comes = refl; same = refl } }
 read_mono {s} {counts} {r} names (m_pair t u) has l v =
     let left = factor_at (mono_form t) (λ w. read_mono names t has.0 l w) v.0 in
     let right = factor_at (mono_form u) (λ w. read_mono names u has.1 (suc l) w) v.1.1 in
-    record {
+    record { natural = record {
       tree = raw.m_pair left.tree (raw.m_factor right.tree);
       meets = go (goes left.meets) (go (goes_between r.text l StarSign v.1.0) (deep right.meets));
       given = m_pair left.given right.given;
       comes = bind left.comes (bind right.comes refl);
       same = λ i. m_pair (left.same i) (right.same i);
-    }
-read_mono names (m_var index) has l v = mono_entry l index names has v
+    } }
+read_mono names (m_var index) has l v = record { natural = mono_entry l index names has v }
 
 mutual
   unfolding marks_of term HasTextTerm terms_in arguments_of term_form formula_form under_params said_term grammar.mono grammar.term mono_comes term_comes ◌⨟◌
@@ -112,163 +112,163 @@ mutual
         same = λ i. triple (pre.same i) (mono.same i) (post.same i);
       }
 
-  pub read_term : {s : PrintScope} {counts : List ℕ} {r : Scope} → HasPrintedNames s counts r → (M : TermTree) → HasTextTerm counts s M → (l : ℕ) (v : Spoken r.text (term s M)) → NaturalTerm r l (term s M) v (said_term M) (arguments_of M) (term_form M)
+  pub read_term : {s : PrintScope} {counts : List ℕ} {r : Scope} → HasPrintedNames s counts r → (M : TermTree) → HasTextTerm counts s M → (l : ℕ) (v : Spoken r.text (term s M)) → TermRead r l (term s M) v (said_term M) (arguments_of M) (term_form M)
   read_term {s} {counts} {r} names (t_var index) has l v =
-      (term_entry l index names has v, refl)
+      record { natural = (term_entry l index names has v, refl) }
   read_term {s} {counts} {r} names (t_val number) has l v =
-      (value l number names has v, refl)
+      record { natural = (value l number names has v, refl) }
   read_term {s} {counts} {r} names (t_app K M) has l v =
       let head = head_at (term_form K) l (λ k w. read_term names K has.0 k w) v.0 in
       let argument = atom_at (term_form M) l (λ k w. read_term names M has.1 k w) v.1.1 in
-      applied head argument v.1.0
+      record { natural = applied head argument v.1.0 }
   read_term {s} {counts} {r} names (t_inst K t) has l v =
       let head = head_at (term_form K) l (λ k w. read_term names K has.0 k w) v.0 in
       let mono = any_mono (mono_form t) (read_mono names t has.1 l v.1.1.1.0) in
-      instantiated head v.1.0 v.1.1.0 mono v.1.1.1.1
+      record { natural = instantiated head v.1.0 v.1.1.0 mono v.1.1.1.1 }
   read_term {s} {counts} {r} names (t_lam M) has l v =
       let m = any_term (term_form M) (read_term (under_entry a_term (span_of v.1.1.0.token) refl v.1.1.0.bytes names) M has (suc l) v.1.1.1.1) in
-      (record {
+      record { natural = (record {
         tree = raw.t_fun v.0.token.from (binders.Name (span_of v.1.1.0.token)) m.tree;
         meets = go (goes_word_at r.text l FunWord v.0) (go (goes_space r.text l v.1.0) (go (goes_name r.text l (name_at a_term (length s.entries)) v.1.1.0) (go (goes_between r.text l DotSign v.1.1.1.0) (deep (m.meets)))));
         given = t_at v.0.token.from (t_lam m.given);
         comes = bind m.comes refl;
         same = λ i. t_lam (m.same i);
-      }, refl)
+      }, refl) }
   read_term {s} {counts} {r} names (t_lam_t M) has l v =
       let m = any_term (term_form M) (read_term (under_entry a_mono (span_of v.1.1.0.1.0.token) refl v.1.1.0.1.0.bytes names) M has (suc l) v.1.1.1.1) in
-      (record {
+      record { natural = (record {
         tree = raw.t_fun_mono v.0.token.from (span_of v.1.1.0.1.0.token) m.tree;
         meets = go (goes_word_at r.text l FunWord v.0) (go (goes_space r.text l v.1.0) (go (goes_then (goes_sign r.text l OpenBracketSign v.1.1.0.0) (goes_then (goes_name r.text l (name_at a_mono (length s.entries)) v.1.1.0.1.0) (goes_sign r.text l CloseBracketSign v.1.1.0.1.1))) (go (goes_between r.text l DotSign v.1.1.1.0) (deep (m.meets)))));
         given = t_at v.0.token.from (t_lam_t m.given);
         comes = bind m.comes refl;
         same = λ i. t_lam_t (m.same i);
-      }, refl)
+      }, refl) }
   read_term {s} {counts} {r} names (t_do E) has l v =
       let body = read_comp names E has (suc l) v.1.1 in
-      (record {
+      record { natural = (record {
         tree = raw.t_do v.0.token.from body.tree;
         meets = go (goes_word_at r.text l DoWord v.0) (go (goes_space r.text l v.1.0) (deep (body.meets)));
         given = t_at v.0.token.from (t_do body.given);
         comes = bind body.comes refl;
         same = λ i. t_do (body.same i);
-      }, refl)
+      }, refl) }
   read_term {s} {counts} {r} names (t_fix at X) has l v =
       let name = v.1.1.0 in
       let x = read_fix names X has (span_of name.token) name.bytes l v.1.1.1 in
-      (record {
+      record { natural = (record {
         tree = raw.t_fix v.0.token.from (span_of name.token) x.params x.spec x.body;
         meets = go (goes_word_at r.text l FixWord v.0) (go (goes_space r.text l v.1.0) (go (goes_name r.text l (name_at a_term (length (under_params X s).entries)) name) x.meets));
         given = t_at v.0.token.from (t_fix v.0.token.from x.given);
         comes = bind x.comes refl;
         same = λ i. t_fix 0 (x.same i);
-      }, refl)
+      }, refl) }
   read_term {s} {counts} {r} names (t_word n) has l v =
-      (record {
+      record { natural = (record {
         tree = raw.a_number v.token.from n;
         meets = ends_number_at r.text l n v;
         given = t_at v.token.from (t_word n);
         comes = refl;
         same = refl;
-      }, refl)
+      }, refl) }
   read_term {s} {counts} {r} names (t_bool true) has l v =
-      (record {
+      record { natural = (record {
         tree = raw.a_true v.token.from;
         meets = ends_word_at r.text l TrueWord v;
         given = t_at v.token.from (t_bool true);
         comes = refl;
         same = refl;
-      }, refl)
+      }, refl) }
   read_term {s} {counts} {r} names (t_bool false) has l v =
-      (record {
+      record { natural = (record {
         tree = raw.a_false v.token.from;
         meets = ends_word_at r.text l FalseWord v;
         given = t_at v.token.from (t_bool false);
         comes = refl;
         same = refl;
-      }, refl)
+      }, refl) }
   read_term {s} {counts} {r} names (t_loc n) has l v =
-      (place_read l n v, refl)
+      record { natural = (place_read l n v, refl) }
   read_term {s} {counts} {r} names t_unit has l v =
-      (record {
+      record { natural = (record {
         tree = raw.a_unit v.0.token.from;
         meets = go (goes_sign_at r.text l OpenParenSign v.0) (ends_sign r.text l CloseParenSign v.1);
         given = t_at v.0.token.from t_unit;
         comes = refl;
         same = refl;
-      }, refl)
+      }, refl) }
   read_term {s} {counts} {r} names (t_pair M N) has l v =
       let m = any_term (term_form M) (read_term names M has.0 (suc l) v.1.0.0) in
       let other = any_term (term_form N) (read_term names N has.1 (suc l) v.1.0.1.1) in
-      (record {
+      record { natural = (record {
         tree = raw.a_pair v.0.token.from m.tree other.tree;
         meets = go (goes_sign_at r.text l OpenParenSign v.0) (go (goes_then (goes (deep (m.meets))) (goes_then (goes_comma r.text l v.1.0.1.0) (goes (deep (other.meets))))) (ends_sign r.text l CloseParenSign v.1.1));
         given = t_at v.0.token.from (t_pair m.given other.given);
         comes = bind m.comes (bind other.comes refl);
         same = λ i. t_pair (m.same i) (other.same i);
-      }, refl)
+      }, refl) }
   read_term {s} {counts} {r} names (t_fst M) has l v =
       let m = atom_at (term_form M) l (λ k w. read_term names M has k w) v.1.1 in
-      (record {
+      record { natural = (record {
         tree = raw.l_unary v.0.token.from unary_words.Fst m.tree;
         meets = go (goes_word_at r.text l FstWord v.0) (go (goes_space r.text l v.1.0) (m.meets));
         given = t_at v.0.token.from (t_fst m.given);
         comes = bind m.comes refl;
         same = λ i. t_fst (m.same i);
-      }, refl)
+      }, refl) }
   read_term {s} {counts} {r} names (t_snd M) has l v =
       let m = atom_at (term_form M) l (λ k w. read_term names M has k w) v.1.1 in
-      (record {
+      record { natural = (record {
         tree = raw.l_unary v.0.token.from unary_words.Snd m.tree;
         meets = go (goes_word_at r.text l SndWord v.0) (go (goes_space r.text l v.1.0) (m.meets));
         given = t_at v.0.token.from (t_snd m.given);
         comes = bind m.comes refl;
         same = λ i. t_snd (m.same i);
-      }, refl)
+      }, refl) }
   read_term {s} {counts} {r} names (t_not M) has l v =
       let m = atom_at (term_form M) l (λ k w. read_term names M has k w) v.1.1 in
-      (record {
+      record { natural = (record {
         tree = raw.l_unary v.0.token.from unary_words.Not m.tree;
         meets = go (goes_word_at r.text l NotWord v.0) (go (goes_space r.text l v.1.0) (m.meets));
         given = t_at v.0.token.from (t_not m.given);
         comes = bind m.comes refl;
         same = λ i. t_not (m.same i);
-      }, refl)
+      }, refl) }
   read_term {s} {counts} {r} names (t_bin op M N) has l v =
-      (operation op (λ k w. atom_at (term_form M) k (λ j u. read_term names M has.0 j u) w)
-      (λ k w. atom_at (term_form N) k (λ j u. read_term names N has.1 j u) w) l v, refl)
+      record { natural = (operation op (λ k w. atom_at (term_form M) k (λ j u. read_term names M has.0 j u) w)
+      (λ k w. atom_at (term_form N) k (λ j u. read_term names N has.1 j u) w) l v, refl) }
   read_term {s} {counts} {r} names (t_eq t M N) has l v =
       let mono_read = any_mono (mono_form t) (read_mono names t has.0 l v.1.0.1.0) in
       let m = any_term (term_form M) (read_term names M has.1 (suc l) v.1.1.1.0.0) in
       let other = any_term (term_form N) (read_term names N has.2 (suc l) v.1.1.1.0.1.1) in
-      (record {
+      record { natural = (record {
         tree = raw.a_eq v.0.token.from mono_read.tree m.tree other.tree;
         meets = go (goes_word_at r.text l EqWord v.0) (go (goes_then (goes_sign r.text l OpenBracketSign v.1.0.0) (goes_then (goes (mono_read.meets)) (goes_sign r.text l CloseBracketSign v.1.0.1.1))) (go (goes_sign r.text l OpenParenSign v.1.1.0) (go (goes_then (goes (deep (m.meets))) (goes_then (goes_comma r.text l v.1.1.1.0.1.0) (goes (deep (other.meets))))) (ends_sign r.text l CloseParenSign v.1.1.1.1))));
         given = t_at v.0.token.from (t_eq mono_read.given m.given other.given);
         comes = bind mono_read.comes (bind m.comes (bind other.comes refl));
         same = λ i. t_eq (mono_read.same i) (m.same i) (other.same i);
-      }, refl)
+      }, refl) }
   read_term {s} {counts} {r} names (t_sel t B M N) has l v =
       let mono_read = any_mono (mono_form t) (read_mono names t has.0 l v.1.0.1.0) in
       let answer = any_term (term_form B) (read_term names B has.1 (suc l) v.1.1.1.0.0) in
       let m = any_term (term_form M) (read_term names M has.2 (suc l) v.1.1.1.0.1.1.0) in
       let other = any_term (term_form N) (read_term names N has.3 (suc l) v.1.1.1.0.1.1.1.1) in
-      (record {
+      record { natural = (record {
         tree = raw.a_sel v.0.token.from mono_read.tree answer.tree m.tree other.tree;
         meets = go (goes_word_at r.text l SelWord v.0) (go (goes_then (goes_sign r.text l OpenBracketSign v.1.0.0) (goes_then (goes (mono_read.meets)) (goes_sign r.text l CloseBracketSign v.1.0.1.1))) (go (goes_sign r.text l OpenParenSign v.1.1.0) (go (goes_then (goes (deep (answer.meets))) (goes_then (goes_comma r.text l v.1.1.1.0.1.0) (goes_then (goes (deep (m.meets))) (goes_then (goes_comma r.text l v.1.1.1.0.1.1.1.0) (goes (deep (other.meets))))))) (ends_sign r.text l CloseParenSign v.1.1.1.1))));
         given = t_at v.0.token.from (t_sel mono_read.given answer.given m.given other.given);
         comes = bind mono_read.comes (bind answer.comes (bind m.comes (bind other.comes refl)));
         same = λ i. t_sel (mono_read.same i) (answer.same i) (m.same i) (other.same i);
-      }, refl)
+      }, refl) }
   read_term {s} {counts} {r} names (t_ann M A) has l v =
       let m = any_term (term_form M) (read_term names M has.0 (suc l) v.1.0.0) in
       let argument = read_ty names A has.1 (suc l) v.1.0.1.1 in
-      (record {
+      record { natural = (record {
         tree = raw.a_annotated v.0.token.from m.tree argument.tree;
         meets = go (goes_sign_at r.text l OpenParenSign v.0) (go (goes_then (goes (deep (m.meets))) (goes_then (goes_between r.text l ColonSign v.1.0.1.0) (goes (deep (argument.meets))))) (ends_sign r.text l CloseParenSign v.1.1));
         given = t_at v.0.token.from (t_ann m.given argument.given);
         comes = bind m.comes (bind argument.comes refl);
         same = λ i. t_ann (m.same i) (argument.same i);
-      }, refl)
+      }, refl) }
   read_term {s} {counts} {r} names (t_at at M) has l v =
       read_term names M has l v
   read_term {s} {counts} {r} names (t_def number) has l v =
@@ -399,155 +399,155 @@ mutual
         same = λ i. s_claim (f.same i);
       }
 
-  pub read_formula : {s : PrintScope} {counts : List ℕ} {r : Scope} → HasPrintedNames s counts r → (F : FormulaTree) → HasTextFormula counts s F → (l : ℕ) (v : Spoken r.text (formula s F)) → NaturalFormula r l (formula s F) v (said_formula F) (formula_form F)
+  pub read_formula : {s : PrintScope} {counts : List ℕ} {r : Scope} → HasPrintedNames s counts r → (F : FormulaTree) → HasTextFormula counts s F → (l : ℕ) (v : Spoken r.text (formula s F)) → FormulaRead r l (formula s F) v (said_formula F) (formula_form F)
   read_formula {s} {counts} {r} names f_tt has l v =
-      record {
+      record { natural = record {
         tree = raw.g_tt v.token.from;
         meets = ends_word_at r.text l TtWord v;
         given = f_at v.token.from f_tt;
         comes = refl;
         same = refl;
-      }
+      } }
   read_formula {s} {counts} {r} names f_ff has l v =
-      record {
+      record { natural = record {
         tree = raw.g_ff v.token.from;
         meets = ends_word_at r.text l FfWord v;
         given = f_at v.token.from f_ff;
         comes = refl;
         same = refl;
-      }
+      } }
   read_formula {s} {counts} {r} names (f_and F G) has l v =
       let f = fatom_at (formula_form F) l (λ k w. read_formula names F has.0 k w) v.0 in
       let g = fatom_at (formula_form G) (suc l) (λ k w. read_formula names G has.1 k w) v.1.1 in
-      record {
+      record { natural = record {
         tree = raw.f_disj (raw.d_conj (raw.j_and (raw.k_fatom f.tree) (raw.j_star (raw.k_fatom g.tree))));
         meets = go (goes (f.meets)) (go (goes_between r.text l AndSign v.1.0) (deep (g.meets)));
         given = f_at (byte_of_fatom f.tree) (f_and f.given g.given);
         comes = bind f.comes (bind g.comes refl);
         same = λ i. f_and (f.same i) (g.same i);
-      }
+      } }
   read_formula {s} {counts} {r} names (f_or F G) has l v =
       let f = fatom_at (formula_form F) l (λ k w. read_formula names F has.0 k w) v.0 in
       let g = fatom_at (formula_form G) (suc l) (λ k w. read_formula names G has.1 k w) v.1.1 in
-      record {
+      record { natural = record {
         tree = raw.f_disj (raw.d_or (raw.j_star (raw.k_fatom f.tree)) (raw.d_conj (raw.j_star (raw.k_fatom g.tree))));
         meets = go (goes (f.meets)) (go (goes_between r.text l OrSign v.1.0) (deep (g.meets)));
         given = f_at (byte_of_fatom f.tree) (f_or f.given g.given);
         comes = bind f.comes (bind g.comes refl);
         same = λ i. f_or (f.same i) (g.same i);
-      }
+      } }
   read_formula {s} {counts} {r} names (f_imp F G) has l v =
       let f = fatom_at (formula_form F) l (λ k w. read_formula names F has.0 k w) v.0 in
       let g = fatom_at (formula_form G) (suc l) (λ k w. read_formula names G has.1 k w) v.1.1 in
-      record {
+      record { natural = record {
         tree = raw.f_implies (raw.d_conj (raw.j_star (raw.k_fatom f.tree))) (raw.f_disj (raw.d_conj (raw.j_star (raw.k_fatom g.tree))));
         meets = go (goes (f.meets)) (go (goes_between r.text l ImpliesSign v.1.0) (deep (g.meets)));
         given = f_at (byte_of_fatom f.tree) (f_imp f.given g.given);
         comes = bind f.comes (bind g.comes refl);
         same = λ i. f_imp (f.same i) (g.same i);
-      }
+      } }
   read_formula {s} {counts} {r} names (f_all_t t F) has l v =
       let mono_read = any_mono (mono_form t) (read_mono names t has.0 l v.1.1.0.1.1) in
       let f = any_formula (formula_form F) (read_formula (under_entry a_term (span_of v.1.1.0.0.token) refl v.1.1.0.0.bytes names) F has.1 (suc l) v.1.1.1.1) in
-      record {
+      record { natural = record {
         tree = raw.f_all v.0.token.from (binders.Name (span_of v.1.1.0.0.token)) (raw.over_mono mono_read.tree) f.tree;
         meets = go (goes_word_at r.text l AllWord v.0) (go (goes_space r.text l v.1.0) (go (goes_then (goes_name r.text l (name_at a_term (length s.entries)) v.1.1.0.0) (goes_then (goes_between r.text l ColonSign v.1.1.0.1.0) (goes (mono_read.meets)))) (go (goes_between r.text l DotSign v.1.1.1.0) (deep (f.meets)))));
         given = f_at v.0.token.from (f_all_t mono_read.given f.given);
         comes = bind mono_read.comes (bind f.comes refl);
         same = λ i. f_all_t (mono_read.same i) (f.same i);
-      }
+      } }
   read_formula {s} {counts} {r} names (f_ex_t t F) has l v =
       let mono_read = any_mono (mono_form t) (read_mono names t has.0 l v.1.1.0.1.1) in
       let f = any_formula (formula_form F) (read_formula (under_entry a_term (span_of v.1.1.0.0.token) refl v.1.1.0.0.bytes names) F has.1 (suc l) v.1.1.1.1) in
-      record {
+      record { natural = record {
         tree = raw.f_ex v.0.token.from (binders.Name (span_of v.1.1.0.0.token)) (raw.over_mono mono_read.tree) f.tree;
         meets = go (goes_word_at r.text l ExWord v.0) (go (goes_space r.text l v.1.0) (go (goes_then (goes_name r.text l (name_at a_term (length s.entries)) v.1.1.0.0) (goes_then (goes_between r.text l ColonSign v.1.1.0.1.0) (goes (mono_read.meets)))) (go (goes_between r.text l DotSign v.1.1.1.0) (deep (f.meets)))));
         given = f_at v.0.token.from (f_ex_t mono_read.given f.given);
         comes = bind mono_read.comes (bind f.comes refl);
         same = λ i. f_ex_t (mono_read.same i) (f.same i);
-      }
+      } }
   read_formula {s} {counts} {r} names (f_all_h F) has l v =
       let f = any_formula (formula_form F) (read_formula (under_entry a_heap (span_of v.1.1.0.0.token) refl v.1.1.0.0.bytes names) F has (suc l) v.1.1.1.1) in
-      record {
+      record { natural = record {
         tree = raw.f_all v.0.token.from (binders.Name (span_of v.1.1.0.0.token)) raw.over_heap f.tree;
         meets = go (goes_word_at r.text l AllWord v.0) (go (goes_space r.text l v.1.0) (go (goes_then (goes_name r.text l (name_at a_heap (length s.entries)) v.1.1.0.0) (goes_then (goes_between r.text l ColonSign v.1.1.0.1.0) (goes_word r.text l HeapWord v.1.1.0.1.1))) (go (goes_between r.text l DotSign v.1.1.1.0) (deep (f.meets)))));
         given = f_at v.0.token.from (f_all_h f.given);
         comes = bind f.comes refl;
         same = λ i. f_all_h (f.same i);
-      }
+      } }
   read_formula {s} {counts} {r} names (f_ex_h F) has l v =
       let f = any_formula (formula_form F) (read_formula (under_entry a_heap (span_of v.1.1.0.0.token) refl v.1.1.0.0.bytes names) F has (suc l) v.1.1.1.1) in
-      record {
+      record { natural = record {
         tree = raw.f_ex v.0.token.from (binders.Name (span_of v.1.1.0.0.token)) raw.over_heap f.tree;
         meets = go (goes_word_at r.text l ExWord v.0) (go (goes_space r.text l v.1.0) (go (goes_then (goes_name r.text l (name_at a_heap (length s.entries)) v.1.1.0.0) (goes_then (goes_between r.text l ColonSign v.1.1.0.1.0) (goes_word r.text l HeapWord v.1.1.0.1.1))) (go (goes_between r.text l DotSign v.1.1.1.0) (deep (f.meets)))));
         given = f_at v.0.token.from (f_ex_h f.given);
         comes = bind f.comes refl;
         same = λ i. f_ex_h (f.same i);
-      }
+      } }
   read_formula {s} {counts} {r} names (f_emp h) has l v =
       let heap = heap_entry l h names has v.1.1.0 in
-      record {
+      record { natural = record {
         tree = raw.g_emp_of v.0.token.from heap.tree;
         meets = go (goes_word_at r.text l CapitalEmpWord v.0) (go (goes_sign r.text l OpenParenSign v.1.0) (go (goes (heap.meets)) (ends_sign r.text l CloseParenSign v.1.1.1)));
         given = f_at v.0.token.from (f_emp h);
         comes = bind heap.comes refl;
         same = λ i. f_emp h;
-      }
+      } }
   read_formula {s} {counts} {r} names (f_cell t h M N) has l v =
       let mono_read = any_mono (mono_form t) (read_mono names t has.0 l v.1.0.1.0) in
       let heap = heap_entry l h names has.1 v.1.1.1.0.0 in
       let m = any_term (term_form M) (read_term names M has.2 (suc l) v.1.1.1.0.1.1.0) in
       let other = any_term (term_form N) (read_term names N has.3 (suc l) v.1.1.1.0.1.1.1.1) in
-      record {
+      record { natural = record {
         tree = raw.g_cell v.0.token.from mono_read.tree heap.tree m.tree other.tree;
         meets = go (goes_word_at r.text l CellWord v.0) (go (goes_then (goes_sign r.text l OpenBracketSign v.1.0.0) (goes_then (goes (mono_read.meets)) (goes_sign r.text l CloseBracketSign v.1.0.1.1))) (go (goes_sign r.text l OpenParenSign v.1.1.0) (go (goes_then (goes (heap.meets)) (goes_then (goes_comma r.text l v.1.1.1.0.1.0) (goes_then (goes (deep (m.meets))) (goes_then (goes_comma r.text l v.1.1.1.0.1.1.1.0) (goes (deep (other.meets))))))) (ends_sign r.text l CloseParenSign v.1.1.1.1))));
         given = f_at v.0.token.from (f_cell mono_read.given h m.given other.given);
         comes = bind mono_read.comes (bind heap.comes (bind m.comes (bind other.comes refl)));
         same = λ i. f_cell (mono_read.same i) h (m.same i) (other.same i);
-      }
+      } }
   read_formula {s} {counts} {r} names (f_block t h M) has l v =
       let mono_read = any_mono (mono_form t) (read_mono names t has.0 l v.1.0.1.0) in
       let heap = heap_entry l h names has.1 v.1.1.1.0.0 in
       let m = any_term (term_form M) (read_term names M has.2 (suc l) v.1.1.1.0.1.1) in
-      record {
+      record { natural = record {
         tree = raw.g_block v.0.token.from mono_read.tree heap.tree m.tree;
         meets = go (goes_word_at r.text l BlockWord v.0) (go (goes_then (goes_sign r.text l OpenBracketSign v.1.0.0) (goes_then (goes (mono_read.meets)) (goes_sign r.text l CloseBracketSign v.1.0.1.1))) (go (goes_sign r.text l OpenParenSign v.1.1.0) (go (goes_then (goes (heap.meets)) (goes_then (goes_comma r.text l v.1.1.1.0.1.0) (goes (deep (m.meets))))) (ends_sign r.text l CloseParenSign v.1.1.1.1))));
         given = f_at v.0.token.from (f_block mono_read.given h m.given);
         comes = bind mono_read.comes (bind heap.comes (bind m.comes refl));
         same = λ i. f_block (mono_read.same i) h (m.same i);
-      }
+      } }
   read_formula {s} {counts} {r} names (f_join h a b) has l v =
       let heap = heap_entry l h names has.0 v.1.1.0.0 in
       let left_heap = heap_entry l a names has.1 v.1.1.0.1.1.0 in
       let right_heap = heap_entry l b names has.2 v.1.1.0.1.1.1.1 in
-      record {
+      record { natural = record {
         tree = raw.g_join v.0.token.from heap.tree left_heap.tree right_heap.tree;
         meets = go (goes_word_at r.text l JoinWord v.0) (go (goes_sign r.text l OpenParenSign v.1.0) (go (goes_then (goes (heap.meets)) (goes_then (goes_comma r.text l v.1.1.0.1.0) (goes_then (goes (left_heap.meets)) (goes_then (goes_comma r.text l v.1.1.0.1.1.1.0) (goes (right_heap.meets)))))) (ends_sign r.text l CloseParenSign v.1.1.1)));
         given = f_at v.0.token.from (f_join h a b);
         comes = bind heap.comes (bind left_heap.comes (bind right_heap.comes refl));
         same = λ i. f_join h a b;
-      }
+      } }
   read_formula {s} {counts} {r} names (f_same h k) has l v =
       let heap = heap_entry l h names has.0 v.1.1.0.0 in
       let right_heap = heap_entry l k names has.1 v.1.1.0.1.1 in
-      record {
+      record { natural = record {
         tree = raw.g_same v.0.token.from heap.tree right_heap.tree;
         meets = go (goes_word_at r.text l SameWord v.0) (go (goes_sign r.text l OpenParenSign v.1.0) (go (goes_then (goes (heap.meets)) (goes_then (goes_comma r.text l v.1.1.0.1.0) (goes (right_heap.meets)))) (ends_sign r.text l CloseParenSign v.1.1.1)));
         given = f_at v.0.token.from (f_same h k);
         comes = bind heap.comes (bind right_heap.comes refl);
         same = λ i. f_same h k;
-      }
+      } }
   read_formula {s} {counts} {r} names (f_eq t M N) has l v =
       let m = side_at (term_form M) l (λ k w. read_term names M has.0 k w) v.0 in
       let mono_read = any_mono (mono_form t) (read_mono names t has.1 l v.1.1.1.0.1.0) in
       let other = side_at (term_form N) l (λ k w. read_term names N has.2 k w) v.1.1.1.1.1 in
-      record {
+      record { natural = record {
         tree = raw.g_eq m.tree mono_read.tree other.tree;
         meets = go (goes (m.meets)) (go (goes_space r.text l v.1.0) (go (goes_sign r.text l EqualSign v.1.1.0) (go (goes_then (goes_sign r.text l OpenBracketSign v.1.1.1.0.0) (goes_then (goes (mono_read.meets)) (goes_sign r.text l CloseBracketSign v.1.1.1.0.1.1))) (go (goes_space r.text l v.1.1.1.1.0) (other.meets)))));
         given = f_at (byte_of_rel m.tree) (f_eq mono_read.given m.given other.given);
         comes = bind m.comes (bind mono_read.comes (bind other.comes refl));
         same = λ i. f_eq (mono_read.same i) (m.same i) (other.same i);
-      }
+      } }
   read_formula {s} {counts} {r} names (f_at at F) has l v =
       read_formula names F has l v
   read_formula {s} {counts} {r} names (f_rec p h N Ms) has l v =
@@ -557,13 +557,13 @@ mutual
       let terms = read_arguments names Ms has.3 l v.1.1.1.1.1.0.1.1 in
       let fits = right_number v.0.token.from (terms.count ∙ some_same (sym has.4 ∙ rec.counted)) in
       let inside = goes_then (goes (deep n.meets)) (goes_then (goes_sign r.text l SemicolonSign v.1.1.1.1.1.0.1.0) (goes terms.meets)) in
-      record {
+      record { natural = record {
         tree = raw.g_use_at_heap v.0.token.from rec.span heap.tree n.tree terms.tree;
         meets = go (goes_sign_at r.text l BangSign v.0) (go (goes rec.meets) (go (goes_sign r.text l AtSign v.1.1.0) (go (goes heap.meets) (go (goes_sign r.text l OpenParenSign v.1.1.1.1.0) (go inside (ends_sign r.text l CloseParenSign v.1.1.1.1.1.1))))));
         given = f_at v.0.token.from (f_rec p h n.given terms.given);
         comes = bind rec.comes (bind fits (bind heap.comes (bind n.comes (bind terms.comes refl))));
         same = λ i. f_rec p h (n.same i) (terms.same i);
-      }
+      } }
 
   read_arguments : {s : PrintScope} {counts : List ℕ} {r : Scope} → HasPrintedNames s counts r → (Ms : TermTrees) → HasTextTerms counts s Ms → (l : ℕ) (v : Spoken r.text (arguments s Ms)) → ReadsTerms grammar.terms r l (arguments s Ms) v (said_terms Ms) (terms_in Ms)
   read_arguments {s} {counts} {r} names no_terms has l v =

@@ -48,6 +48,10 @@ abbrev NaturalProof : (r : Scope) (l : ℕ) (p : Printed) → Spoken r.text p �
 NaturalProof r l p v told true = ReadsProof r l p v told
 NaturalProof r l p v told false = ReadsEnd r l p v told
 
+-- a printed proof that is read as what it is: a block, or not
+pub record ProofRead (r : Scope) (l : ℕ) (p : Printed) (v : Spoken r.text p) (told : ProofTree) (block : Bool) : Type 0 where
+  pub natural : NaturalProof r l p v told block
+
 -- a statement, and the place of what follows it
 record ReadsStmt (s : PrintScope) (counts : List ℕ) (r : Scope) (l : ℕ) (d : StmtTree) (p : Printed) (v : Spoken r.text p) : Type 0 where
   tree : raw.RawStmtTree
@@ -69,13 +73,15 @@ same_stmt h =
 there : {q r : Scope} {tree : raw.RawProofTree} {b : Result BlockTree Stop} → r ≡ q → block_comes q tree ≡ b → block_comes r tree ≡ b
 there {tree = tree} {b = b} e h = subst (λ r. block_comes r tree ≡ b) (sym e) h
 
-pub any_proof : {r : Scope} {l : ℕ} {p : Printed} {v : Spoken r.text p} {told : ProofTree} (b : Bool) → NaturalProof r l p v told b → ReadsProof r l p v told
+pub any_proof : {r : Scope} {l : ℕ} {p : Printed} {v : Spoken r.text p} {told : ProofTree} (b : Bool) → ProofRead r l p v told b → ReadsProof r l p v told
 unfolding grammar.proof proof_comes
-any_proof true h = h
-any_proof false h = record { tree = raw.p_end h.tree; meets = record { meets = h.meets.meets }; given = h.given; comes = h.comes; same = h.same }
+any_proof true h = h.natural
+any_proof false h =
+    let e = h.natural in
+    record { tree = raw.p_end e.tree; meets = record { meets = e.meets.meets }; given = e.given; comes = e.comes; same = e.same }
 
-as_end : {r : Scope} {l : ℕ} {p : Printed} {v : Spoken r.text p} {told : ProofTree} {b : Bool} → b ≡ false → NaturalProof r l p v told b → ReadsEnd r l p v told
-as_end {r} {l} {p} {v} {told} e h = subst (λ b. NaturalProof r l p v told b) e h
+as_end : {r : Scope} {l : ℕ} {p : Printed} {v : Spoken r.text p} {told : ProofTree} {b : Bool} → b ≡ false → ProofRead r l p v told b → ReadsEnd r l p v told
+as_end {r} {l} {p} {v} {told} e h = (subst (λ b. ProofRead r l p v told b) e h).natural
 
 end_of_block : {r : Scope} {l : ℕ} {p : Printed} {v : Spoken r.text p} {told : ProofTree} → ReadsEnd r l p v told → ReadsBlock r l p v (b_end told)
 unfolding grammar.proof proof_comes said_proof
@@ -185,179 +191,179 @@ read_motive {s} {counts} {r} names C has l v =
 mutual
   unfolding marks_of proof HasTextProof is_block said_proof after_stmt grammar.proof proof_comes args_come inst_at ◌⨟◌
 
-  pub read_proof : {s : PrintScope} {counts : List ℕ} {r : Scope} → HasPrintedNames s counts r → (p : ProofTree) → HasTextProof counts s p → (l : ℕ) (v : Spoken r.text (proof s p)) → NaturalProof r l (proof s p) v (said_proof p) (is_block p)
+  pub read_proof : {s : PrintScope} {counts : List ℕ} {r : Scope} → HasPrintedNames s counts r → (p : ProofTree) → HasTextProof counts s p → (l : ℕ) (v : Spoken r.text (proof s p)) → ProofRead r l (proof s p) v (said_proof p) (is_block p)
   read_proof {s} {counts} {r} names (p_hyp number) has l v =
-      record {
+      record { natural = record {
         tree = raw.e_name (span_of v.token);
         meets = ends_name r.text l (hypothesis_name number) v;
         given = p_at v.token.from (p_hyp number);
         comes = bind (hypothesis_read number (span_of v.token) names has v.bytes) refl;
         same = refl;
-      }
+      } }
   read_proof {s} {counts} {r} names p_trivial has l v =
-      record {
+      record { natural = record {
         tree = raw.e_trivial v.token.from;
         meets = ends_word_at r.text l TrivialWord v;
         given = p_at v.token.from p_trivial;
         comes = refl;
         same = refl;
-      }
+      } }
   read_proof {s} {counts} {r} names p_refl has l v =
-      record {
+      record { natural = record {
         tree = raw.e_refl v.token.from;
         meets = ends_word_at r.text l ReflWord v;
         given = p_at v.token.from p_refl;
         comes = refl;
         same = refl;
-      }
+      } }
   read_proof {s} {counts} {r} names (p_first p) has l v =
       let first = any_proof (is_block p) (read_proof names p has (suc l) v.1.1.0) in
-      record {
+      record { natural = record {
         tree = raw.e_unary v.0.token.from rules.First first.tree;
         meets = go (goes_word_at r.text l FirstWord v.0) (go (goes_sign r.text l OpenParenSign v.1.0) (go (goes (deep (first.meets))) (ends_sign r.text l CloseParenSign v.1.1.1)));
         given = p_at v.0.token.from (p_first first.given);
         comes = bind first.comes refl;
         same = λ i. p_first (first.same i);
-      }
+      } }
   read_proof {s} {counts} {r} names (p_second p) has l v =
       let first = any_proof (is_block p) (read_proof names p has (suc l) v.1.1.0) in
-      record {
+      record { natural = record {
         tree = raw.e_unary v.0.token.from rules.Second first.tree;
         meets = go (goes_word_at r.text l SecondWord v.0) (go (goes_sign r.text l OpenParenSign v.1.0) (go (goes (deep (first.meets))) (ends_sign r.text l CloseParenSign v.1.1.1)));
         given = p_at v.0.token.from (p_second first.given);
         comes = bind first.comes refl;
         same = λ i. p_second (first.same i);
-      }
+      } }
   read_proof {s} {counts} {r} names (p_left p) has l v =
       let first = any_proof (is_block p) (read_proof names p has (suc l) v.1.1.0) in
-      record {
+      record { natural = record {
         tree = raw.e_unary v.0.token.from rules.Left first.tree;
         meets = go (goes_word_at r.text l LeftWord v.0) (go (goes_sign r.text l OpenParenSign v.1.0) (go (goes (deep (first.meets))) (ends_sign r.text l CloseParenSign v.1.1.1)));
         given = p_at v.0.token.from (p_left first.given);
         comes = bind first.comes refl;
         same = λ i. p_left (first.same i);
-      }
+      } }
   read_proof {s} {counts} {r} names (p_right p) has l v =
       let first = any_proof (is_block p) (read_proof names p has (suc l) v.1.1.0) in
-      record {
+      record { natural = record {
         tree = raw.e_unary v.0.token.from rules.Right first.tree;
         meets = go (goes_word_at r.text l RightWord v.0) (go (goes_sign r.text l OpenParenSign v.1.0) (go (goes (deep (first.meets))) (ends_sign r.text l CloseParenSign v.1.1.1)));
         given = p_at v.0.token.from (p_right first.given);
         comes = bind first.comes refl;
         same = λ i. p_right (first.same i);
-      }
+      } }
   read_proof {s} {counts} {r} names (p_absurd p) has l v =
       let first = any_proof (is_block p) (read_proof names p has (suc l) v.1.1.0) in
-      record {
+      record { natural = record {
         tree = raw.e_unary v.0.token.from rules.Absurd first.tree;
         meets = go (goes_word_at r.text l AbsurdWord v.0) (go (goes_sign r.text l OpenParenSign v.1.0) (go (goes (deep (first.meets))) (ends_sign r.text l CloseParenSign v.1.1.1)));
         given = p_at v.0.token.from (p_absurd first.given);
         comes = bind first.comes refl;
         same = λ i. p_absurd (first.same i);
-      }
+      } }
   read_proof {s} {counts} {r} names (p_both p q) has l v =
       let first = any_proof (is_block p) (read_proof names p has.0 (suc l) v.1.1.0.0) in
       let second = any_proof (is_block q) (read_proof names q has.1 (suc l) v.1.1.0.1.1) in
-      record {
+      record { natural = record {
         tree = raw.e_both v.0.token.from first.tree second.tree;
         meets = go (goes_word_at r.text l BothWord v.0) (go (goes_sign r.text l OpenParenSign v.1.0) (go (goes_then (goes (deep (first.meets))) (goes_then (goes_comma r.text l v.1.1.0.1.0) (goes (deep (second.meets))))) (ends_sign r.text l CloseParenSign v.1.1.1)));
         given = p_at v.0.token.from (p_both first.given second.given);
         comes = bind first.comes (bind second.comes refl);
         same = λ i. p_both (first.same i) (second.same i);
-      }
+      } }
   read_proof {s} {counts} {r} names (p_give a p) has l v =
       let left_heap = read_arg names a has.0 l v.1.1.0.0 in
       let first = any_proof (is_block p) (read_proof names p has.1 (suc l) v.1.1.0.1.1) in
-      record {
+      record { natural = record {
         tree = raw.e_give v.0.token.from left_heap.tree first.tree;
         meets = go (goes_word_at r.text l GiveWord v.0) (go (goes_sign r.text l OpenParenSign v.1.0) (go (goes_then (goes (left_heap.meets)) (goes_then (goes_comma r.text l v.1.1.0.1.0) (goes (deep (first.meets))))) (ends_sign r.text l CloseParenSign v.1.1.1)));
         given = p_at v.0.token.from (p_give left_heap.given first.given);
         comes = bind left_heap.comes (bind first.comes refl);
         same = λ i. p_give (left_heap.same i) (first.same i);
-      }
+      } }
   read_proof {s} {counts} {r} names (p_app p q) has l v =
       let first = any_proof (is_block p) (read_proof names p has.0 (suc l) v.1.1.0.0) in
       let second = any_proof (is_block q) (read_proof names q has.1 (suc l) v.1.1.0.1.1) in
-      record {
+      record { natural = record {
         tree = raw.e_app v.0.token.from first.tree second.tree raw.no_proofs;
         meets = go (goes_word_at r.text l AppWord v.0) (go (goes_sign r.text l OpenParenSign v.1.0) (go (goes_then (goes (deep (first.meets))) (goes_then (goes_comma r.text l v.1.1.0.1.0) (goes (numbered 2 (deep (second.meets)))))) (ends_sign r.text l CloseParenSign v.1.1.1)));
         given = p_at v.0.token.from (p_app first.given second.given);
         comes = bind first.comes (bind second.comes refl);
         same = λ i. p_app (first.same i) (second.same i);
-      }
+      } }
   read_proof {s} {counts} {r} names (p_inst p a) has l v =
       let first = any_proof (is_block p) (read_proof names p has.0 (suc l) v.1.1.0.0) in
       let left_heap = read_arg names a has.1 l v.1.1.0.1.1 in
-      record {
+      record { natural = record {
         tree = raw.e_inst v.0.token.from first.tree left_heap.tree [];
         meets = go (goes_word_at r.text l InstWord v.0) (go (goes_sign r.text l OpenParenSign v.1.0) (go (goes_then (goes (deep (first.meets))) (goes_then (goes_comma r.text l v.1.1.0.1.0) (goes (numbered 2 (left_heap.meets))))) (ends_sign r.text l CloseParenSign v.1.1.1)));
         given = p_at v.0.token.from (p_inst first.given left_heap.given);
         comes = bind first.comes (bind left_heap.comes refl);
         same = λ i. p_inst (first.same i) (left_heap.same i);
-      }
+      } }
   read_proof {s} {counts} {r} names (p_case p q o) has l v =
       let first = any_proof (is_block p) (read_proof names p has.0 (suc l) v.1.1.0.0) in
       let second = any_proof (is_block q) (read_proof (under_new_hypothesis (span_of v.1.1.0.1.1.0.token) v.1.1.0.1.1.0.bytes names) q has.1 (suc l) v.1.1.0.1.1.1.1.0) in
       let third = any_proof (is_block o) (read_proof (under_new_hypothesis (span_of v.1.1.0.1.1.1.1.1.1.0.token) v.1.1.0.1.1.1.1.1.1.0.bytes names) o has.2 (suc l) v.1.1.0.1.1.1.1.1.1.1.1) in
-      record {
+      record { natural = record {
         tree = raw.e_case v.0.token.from first.tree (span_of v.1.1.0.1.1.0.token) second.tree (span_of v.1.1.0.1.1.1.1.1.1.0.token) third.tree;
         meets = go (goes_word_at r.text l CaseWord v.0) (go (goes_sign r.text l OpenParenSign v.1.0) (go (goes_then (goes (deep (first.meets))) (goes_then (goes_comma r.text l v.1.1.0.1.0) (goes_then (goes_name r.text l (hypothesis_name s.hypotheses) v.1.1.0.1.1.0) (goes_then (goes_between r.text l DotSign v.1.1.0.1.1.1.0) (goes_then (goes (deep (second.meets))) (goes_then (goes_comma r.text l v.1.1.0.1.1.1.1.1.0) (goes_then (goes_name r.text l (hypothesis_name s.hypotheses) v.1.1.0.1.1.1.1.1.1.0) (goes_then (goes_between r.text l DotSign v.1.1.0.1.1.1.1.1.1.1.0) (goes (deep (third.meets))))))))))) (ends_sign r.text l CloseParenSign v.1.1.1)));
         given = p_at v.0.token.from (p_case first.given second.given third.given);
         comes = bind first.comes (bind second.comes (bind third.comes refl));
         same = λ i. p_case (first.same i) (second.same i) (third.same i);
-      }
+      } }
   read_proof {s} {counts} {r} names (p_rewrite p C q) has l v =
       let first = any_proof (is_block p) (read_proof names p has.0 (suc l) v.1.1.0.0) in
       let motive_read = read_motive names C has.1 l v.1.1.0.1.1.0 in
       let second = any_proof (is_block q) (read_proof names q has.2 (suc l) v.1.1.0.1.1.1.1) in
-      record {
+      record { natural = record {
         tree = raw.e_rewrite v.0.token.from first.tree motive_read.tree second.tree;
         meets = go (goes_word_at r.text l RewriteWord v.0) (go (goes_sign r.text l OpenParenSign v.1.0) (go (goes_then (goes (deep (first.meets))) (goes_then (goes_comma r.text l v.1.1.0.1.0) (goes_then (goes (motive_read.meets)) (goes_then (goes_comma r.text l v.1.1.0.1.1.1.0) (goes (deep (second.meets))))))) (ends_sign r.text l CloseParenSign v.1.1.1)));
         given = p_at v.0.token.from (p_rewrite first.given motive_read.given second.given);
         comes = bind first.comes (bind motive_read.comes (bind second.comes refl));
         same = λ i. p_rewrite (first.same i) (motive_read.same i) (second.same i);
-      }
+      } }
   read_proof {s} {counts} {r} names (p_induct C M p q) has l v =
       let motive_read = read_motive names C has.0 l v.1.1.0.0 in
       let m = any_term (term_form M) (read_term names M has.1 (suc l) v.1.1.0.1.1.0) in
       let first = any_proof (is_block p) (read_proof names p has.2 (suc l) v.1.1.0.1.1.1.1.0) in
       let second = any_proof (is_block q) (read_proof (under_new_hypothesis (span_of v.1.1.0.1.1.1.1.1.1.1.1.1.1.0.token) v.1.1.0.1.1.1.1.1.1.1.1.1.1.0.bytes (under_new_hypothesis (span_of v.1.1.0.1.1.1.1.1.1.1.1.0.token) v.1.1.0.1.1.1.1.1.1.1.1.0.bytes (under_entry a_term_or_heap (span_of v.1.1.0.1.1.1.1.1.1.0.token) refl v.1.1.0.1.1.1.1.1.1.0.bytes names))) q has.3 (suc l) v.1.1.0.1.1.1.1.1.1.1.1.1.1.1.1) in
-      record {
+      record { natural = record {
         tree = raw.e_induct v.0.token.from motive_read.tree m.tree first.tree (binders.Name (span_of v.1.1.0.1.1.1.1.1.1.0.token)) (span_of v.1.1.0.1.1.1.1.1.1.1.1.0.token) (span_of v.1.1.0.1.1.1.1.1.1.1.1.1.1.0.token) second.tree;
         meets = go (goes_word_at r.text l InductWord v.0) (go (goes_sign r.text l OpenParenSign v.1.0) (go (goes_then (goes (motive_read.meets)) (goes_then (goes_comma r.text l v.1.1.0.1.0) (goes_then (goes (deep (m.meets))) (goes_then (goes_comma r.text l v.1.1.0.1.1.1.0) (goes_then (goes (deep (first.meets))) (goes_then (goes_comma r.text l v.1.1.0.1.1.1.1.1.0) (goes_then (goes_name r.text l (name_at a_term_or_heap (length s.entries)) v.1.1.0.1.1.1.1.1.1.0) (goes_then (goes_space r.text l v.1.1.0.1.1.1.1.1.1.1.0) (goes_then (goes_name r.text l (hypothesis_name s.hypotheses) v.1.1.0.1.1.1.1.1.1.1.1.0) (goes_then (goes_space r.text l v.1.1.0.1.1.1.1.1.1.1.1.1.0) (goes_then (goes_name r.text l (hypothesis_name (with_hypothesis s).hypotheses) v.1.1.0.1.1.1.1.1.1.1.1.1.1.0) (goes_then (goes_between r.text l DotSign v.1.1.0.1.1.1.1.1.1.1.1.1.1.1.0) (goes (deep (second.meets))))))))))))))) (ends_sign r.text l CloseParenSign v.1.1.1)));
         given = p_at v.0.token.from (p_induct motive_read.given m.given first.given second.given);
         comes = bind motive_read.comes (bind m.comes (bind first.comes (bind second.comes refl)));
         same = λ i. p_induct (motive_read.same i) (m.same i) (first.same i) (second.same i);
-      }
+      } }
   read_proof {s} {counts} {r} names (p_split C M p q) has l v =
       let motive_read = read_motive names C has.0 l v.1.1.0.0 in
       let m = any_term (term_form M) (read_term names M has.1 (suc l) v.1.1.0.1.1.0) in
       let first = any_proof (is_block p) (read_proof names p has.2 (suc l) v.1.1.0.1.1.1.1.0) in
       let second = any_proof (is_block q) (read_proof names q has.3 (suc l) v.1.1.0.1.1.1.1.1.1) in
-      record {
+      record { natural = record {
         tree = raw.e_split v.0.token.from motive_read.tree m.tree first.tree second.tree;
         meets = go (goes_word_at r.text l SplitWord v.0) (go (goes_sign r.text l OpenParenSign v.1.0) (go (goes_then (goes (motive_read.meets)) (goes_then (goes_comma r.text l v.1.1.0.1.0) (goes_then (goes (deep (m.meets))) (goes_then (goes_comma r.text l v.1.1.0.1.1.1.0) (goes_then (goes (deep (first.meets))) (goes_then (goes_comma r.text l v.1.1.0.1.1.1.1.1.0) (goes (deep (second.meets))))))))) (ends_sign r.text l CloseParenSign v.1.1.1)));
         given = p_at v.0.token.from (p_split motive_read.given m.given first.given second.given);
         comes = bind motive_read.comes (bind m.comes (bind first.comes (bind second.comes refl)));
         same = λ i. p_split (motive_read.same i) (m.same i) (first.same i) (second.same i);
-      }
+      } }
   read_proof {s} {counts} {r} names (p_axiom c ts more) has l v =
       let ts = read_monos names ts has.1 l v.1.1.1.0 in
       let arguments = read_args names more has.2 l v.1.1.1.1.1.0 in
-      record {
+      record { natural = record {
         tree = raw.e_axiom v.0.token.from (span_of v.1.1.0.token) ts.tree arguments.tree;
         meets = go (goes_word_at r.text l AxiomWord v.0) (go (goes_space r.text l v.1.0) (go (goes_name r.text l c v.1.1.0) (go (goes (ts.meets)) (go (goes_sign r.text l OpenParenSign v.1.1.1.1.0) (go (goes (arguments.meets)) (ends_sign r.text l CloseParenSign v.1.1.1.1.1.1))))));
         given = p_at v.0.token.from (p_axiom (bytes_of r.text (span_of v.1.1.0.token)) ts.given arguments.given);
         comes = bind ts.comes (bind arguments.comes refl);
         same = λ i. p_axiom (v.1.1.0.bytes i) (ts.same i) (arguments.same i);
-      }
+      } }
   read_proof {s} {counts} {r} names (p_unfold number at_next []) has l v =
       absurd has.2
   read_proof {s} {counts} {r} names (p_unfold number at_next (a ∷ others)) has l v =
       let rec = predicate l number names has.0 v.1.1.0 in
       let first = read_arg names a has.3.0 l v.1.1.1.1.1.1.0.0 in
       let rest = read_more_args names others has.3.1 l v.1.1.1.1.1.1.0.1 in
-      record {
+      record { natural = record {
         tree = raw.e_unfold v.0.token.from rec.span at_next first.tree rest.tree;
         meets =
             go (goes_word_at r.text l AxiomWord v.0) (go (goes_space r.text l v.1.0) (go (goes rec.meets) (go (goes_sign r.text l DotSign v.1.1.1.0) (go (goes_number r.text l at_next v.1.1.1.1.0)
@@ -365,36 +371,36 @@ mutual
         given = p_at v.0.token.from (p_unfold number at_next (first.given ∷ rest.given));
         comes = bind rec.comes (bind first.comes (bind rest.comes refl));
         same = λ i. p_unfold number at_next (first.same i ∷ rest.same i);
-      }
+      } }
   read_proof {s} {counts} {r} names (p_lem F) has l v =
       let f = any_formula (formula_form F) (read_formula names F has (suc l) v.1.1.0) in
-      record {
+      record { natural = record {
         tree = raw.e_lem v.0.token.from f.tree;
         meets = go (goes_word_at r.text l LemWord v.0) (go (goes_sign r.text l OpenBracketSign v.1.0) (go (goes (deep (f.meets))) (ends_sign r.text l CloseBracketSign v.1.1.1)));
         given = p_at v.0.token.from (p_lem f.given);
         comes = bind f.comes refl;
         same = λ i. p_lem (f.same i);
-      }
+      } }
   read_proof {s} {counts} {r} names (p_the F p) has l v =
       let f = any_formula (formula_form F) (read_formula names F has.0 (suc l) v.1.0.1.0) in
       let first = any_proof (is_block p) (read_proof names p has.1 (suc l) v.1.1.1.0) in
-      record {
+      record { natural = record {
         tree = raw.e_the v.0.token.from f.tree first.tree;
         meets = go (goes_word_at r.text l TheWord v.0) (go (goes_then (goes_sign r.text l OpenBracketSign v.1.0.0) (goes_then (goes (deep (f.meets))) (goes_sign r.text l CloseBracketSign v.1.0.1.1))) (go (goes_sign r.text l OpenParenSign v.1.1.0) (go (goes (deep (first.meets))) (ends_sign r.text l CloseParenSign v.1.1.1.1))));
         given = p_at v.0.token.from (p_the f.given first.given);
         comes = bind f.comes (bind first.comes refl);
         same = λ i. p_the (f.same i) (first.same i);
-      }
+      } }
   read_proof {s} {counts} {r} names (p_block (b_then d b)) has l v =
       let first = read_stmt names d has.1.0 l v.0 in
       let rest = read_block first.names b has.1.1 l v.1 in
-      record {
+      record { natural = record {
         tree = raw.p_step first.tree rest.tree;
         meets = go (goes first.meets) rest.meets;
         given = p_block (b_then first.given rest.given);
         comes = bind first.comes (bind (there first.is rest.comes) refl);
         same = λ i. p_block (b_then (first.same i) (rest.same i));
-      }
+      } }
   read_proof {s} {counts} {r} names (p_block (b_end p)) has l v =
       absurd has.0
   read_proof {s} {counts} {r} names (p_at at p) has l v =

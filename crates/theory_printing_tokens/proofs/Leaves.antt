@@ -18,7 +18,7 @@ use Rattle.theory_printing.specs.Names.{PrintScope, name_at, new_name, hypothesi
 use Rattle.theory_printing.specs.Phrases.{op_sign, right_of, literal_place}
 use Rattle.theory_printing_tokens.specs.Conditions.{IsName, HasName, IsMonoEntry, IsTermEntry, IsHeapEntry, StandsForMono, StandsForTerm, StandsForHeap}
 use Rattle.theory_printing_tokens.specs.Spoken.{Spoken, tokens_of}
-use Rattle.theory_printing_tokens.proofs.Lexing.{Lexed, Lexes, then, deep, numbered, lex_nothing, lex_space, one_token, its_bytes}
+use Rattle.theory_printing_tokens.proofs.Lexing.{Lexed, Lexes, in_turn, deep, numbered, lex_nothing, lex_space, one_token, its_bytes}
 use Rattle.theory_printing_tokens.proofs.Words.{ends, keyword_plain, keyword_token, plain_utf8, name_token, number_token, decimal_plain, own_name}
 use Rattle.theory_printing_tokens.proofs.Signs.{sign_ends, sign_token, sign_utf8}
 
@@ -27,7 +27,7 @@ abbrev pub LexesPhrase : Printed → Type 0
 LexesPhrase p = (rest : List ℕ) → ends rest ≡ true → Lexes p rest
 
 pub phrase_then : {p q : Printed} {rest : List ℕ} → LexesPhrase p → ends (bytes_of q ++ rest) ≡ true → Lexes q rest → Lexes (p ▹ q) rest
-phrase_then {p} {q} {rest} hp e hq = then (hp (bytes_of q ++ rest) e) hq
+phrase_then {p} {q} {rest} hp e hq = in_turn (hp (bytes_of q ++ rest) e) hq
 
 pub deep_phrase : {p : Printed} → LexesPhrase p → LexesPhrase (deeper p)
 deep_phrase h rest e = deep (h rest e)
@@ -75,13 +75,13 @@ lex_name name h rest e text pre t =
 
 pub lex_between : {rest : List ℕ} (s : Sign) → sign_ends s (32 ∷ rest) ≡ true → Lexes (between s) rest
 unfolding bytes_of
-lex_between {rest} s e = then lex_space (then (lex_sign s e) lex_space)
+lex_between {rest} s e = in_turn lex_space (in_turn (lex_sign s e) lex_space)
 
 pub lex_comma : {rest : List ℕ} → Lexes comma rest
-lex_comma = then (lex_sign CommaSign refl) lex_space
+lex_comma = in_turn (lex_sign CommaSign refl) lex_space
 
 pub lex_semicolon : {rest : List ℕ} → Lexes semicolon rest
-lex_semicolon = then (lex_sign SemicolonSign refl) lex_space
+lex_semicolon = in_turn (lex_sign SemicolonSign refl) lex_space
 
 pub lex_between_op : {rest : List ℕ} (op : Op) → Lexes (between (op_sign op)) rest
 lex_between_op Add = lex_between (op_sign Add) refl
@@ -107,18 +107,18 @@ lex_right_of Shr h = numbered_phrase h
 
 pub lex_place : (n : ℕ) → n < 2 ^ 64 → LexesPhrase (literal_place n)
 unfolding literal_place bytes_of
-lex_place zero h = lex_word NullWord
-lex_place (suc n) h rest e = phrase_then (lex_word PlaceWord) refl (then lex_space (lex_number (suc n) h rest e))
+lex_place zero h rest e = lex_word NullWord rest e
+lex_place (suc n) h rest e = phrase_then (lex_word PlaceWord) refl (in_turn lex_space (lex_number (suc n) h rest e))
 
 -- ---- brackets
 
 pub lex_in_parens : {p : Printed} → LexesPhrase p → LexesPhrase (in_parens p)
 unfolding bytes_of
-lex_in_parens h rest e = then (lex_sign OpenParenSign refl) (phrase_then h refl (lex_sign CloseParenSign refl))
+lex_in_parens h rest e = in_turn (lex_sign OpenParenSign refl) (phrase_then h refl (lex_sign CloseParenSign refl))
 
 pub lex_in_brackets : {p : Printed} → LexesPhrase p → LexesPhrase (in_brackets p)
 unfolding bytes_of
-lex_in_brackets h rest e = then (lex_sign OpenBracketSign refl) (phrase_then h refl (lex_sign CloseBracketSign refl))
+lex_in_brackets h rest e = in_turn (lex_sign OpenBracketSign refl) (phrase_then h refl (lex_sign CloseBracketSign refl))
 
 pub lex_mono_in : {p : Printed} (b : Bool) → LexesPhrase p → LexesPhrase (cond b (in_parens p) p)
 lex_mono_in true h = lex_in_parens h
@@ -156,7 +156,7 @@ lex_name_or_blank (Some name) h = lex_name name h.0
 lex_past : (w : Keyword) (n : ℕ) → n < 2 ^ 64 → LexesPhrase (one (a_word w) ▹ past n)
 unfolding bytes_of
 lex_past w zero h rest e = phrase_then (lex_word w) e lex_nothing
-lex_past w (suc n) h rest e = phrase_then (lex_word w) refl (then (lex_sign CaretSign refl) (lex_number (suc n) h rest e))
+lex_past w (suc n) h rest e = phrase_then (lex_word w) refl (in_turn (lex_sign CaretSign refl) (lex_number (suc n) h rest e))
 
 -- how many pass is no more than all
 one_at_most : (t : Bool) → cond t 1 0 ≤ 1

@@ -36,9 +36,9 @@ pub record Lexed (text pre : List ℕ) (p : Printed) (rest : List ℕ) : Type 0 
 abbrev pub Lexes : Printed → List ℕ → Type 0
 Lexes p rest = (text pre : List ℕ) → text ≡ pre ++ (bytes_of p ++ rest) → Lexed text pre p rest
 
-pub then : {p q : Printed} {rest : List ℕ} → Lexes p (bytes_of q ++ rest) → Lexes q rest → Lexes (p ▹ q) rest
+pub in_turn : {p q : Printed} {rest : List ℕ} → Lexes p (bytes_of q ++ rest) → Lexes q rest → Lexes (p ▹ q) rest
 unfolding bytes_of
-then {p} {q} {rest} hp hq text pre e =
+in_turn {p} {q} {rest} hp hq text pre e =
     let seam = append_assoc (bytes_of p) (bytes_of q) rest in
     let e1 = e ∙ ap (λ bs. pre ++ bs) seam in
     let a = hp text pre e1 in

@@ -3,7 +3,7 @@ use Rattle.std.proofs.Common.{◌≡◌, ℕ, zero, suc, ◌+◌, ◌<◌, ◌^�
 use Rattle.std.specs.Prelude.{◌==◌, IsUtf8, not, codes, decimal}
 use Rattle.std.specs.Fmt.{digits, digits_onto, digit_glyph}
 use Rattle.std.specs.List.{list_all}
-use Rattle.std.specs.Char.{encode_utf8, is_ascii_digit, is_ascii_alphanumeric}
+use Rattle.std.specs.Char.{encode_utf8, is_ascii_digit, is_ascii_alphanumeric, IsScalar}
 use Rattle.std.specs.Str.{encode_utf8_all, bytes_eq}
 use Rattle.std.specs.Str.Parse.{digits_value}
 use Rattle.std.proofs.lemmas.Bool.{and_parts, and_from}
@@ -86,7 +86,9 @@ pub plain_utf8 : (bs : List ℕ) → are_plain bs ≡ true → IsUtf8 bs
 plain_utf8 [] h = IsUtf8-nil
 plain_utf8 (b ∷ bs) h =
     let parts = and_parts (nat_lt b 128 && is_plain b) (are_plain bs) h in
-    let first = subst IsUtf8 (encode_ascii b (plain_small b parts.0)) (IsUtf8-encode b (search arith)) in
+    let low = plain_small b parts.0 in
+    let is_scalar : IsScalar b = grind (arith, nat_tests, low) in
+    let first = subst IsUtf8 (encode_ascii b low) (IsUtf8-encode b is_scalar) in
     IsUtf8-append (b ∷ []) bs first (plain_utf8 bs parts.1)
 
 pub plain_append : (bs cs : List ℕ) → are_plain bs ≡ true → are_plain cs ≡ true → are_plain (bs ++ cs) ≡ true
@@ -258,16 +260,16 @@ keyword_token words.TheWord rest e = plain_token 116 (codes "he") rest (kinds.Ke
 -- ---- digits
 
 glyph_digit : (d : ℕ) → d < 10 → is_ascii_digit (digit_glyph false d) ≡ true
-glyph_digit 0 h = refl
-glyph_digit 1 h = refl
-glyph_digit 2 h = refl
-glyph_digit 3 h = refl
-glyph_digit 4 h = refl
-glyph_digit 5 h = refl
-glyph_digit 6 h = refl
-glyph_digit 7 h = refl
-glyph_digit 8 h = refl
-glyph_digit 9 h = refl
+glyph_digit zero h = refl
+glyph_digit (suc zero) h = refl
+glyph_digit (suc (suc zero)) h = refl
+glyph_digit (suc (suc (suc zero))) h = refl
+glyph_digit (suc (suc (suc (suc zero)))) h = refl
+glyph_digit (suc (suc (suc (suc (suc zero))))) h = refl
+glyph_digit (suc (suc (suc (suc (suc (suc zero)))))) h = refl
+glyph_digit (suc (suc (suc (suc (suc (suc (suc zero))))))) h = refl
+glyph_digit (suc (suc (suc (suc (suc (suc (suc (suc zero)))))))) h = refl
+glyph_digit (suc (suc (suc (suc (suc (suc (suc (suc (suc zero))))))))) h = refl
 glyph_digit (suc (suc (suc (suc (suc (suc (suc (suc (suc (suc d)))))))))) h = absurd (omega (arith, h))
 
 onto_digits : (k n : ℕ) (acc : List ℕ) → list_all is_ascii_digit acc ≡ true → list_all is_ascii_digit (digits_onto k 10 false n acc) ≡ true
