@@ -7,12 +7,14 @@ use Rattle.theory_printing.specs.Names.{count_of, entry_of_sort}
 use Rattle.theory_printing.specs.Brackets.{needs_brackets, term_form, formula_form}
 use Rattle.theory_printing.specs.Phrases.{mono, literal_place, arguments_of, under_params, term}
 use Rattle.theory_printing.specs.Proofs.{more_monos, more_args, after_stmt, proof}
-use Rattle.theory_printing_examples.specs.Phrases.{PrintedMonotypes, PrintedTypes, PrintedTerms, PrintedOperands, PrintedSteps, PrintedFormulas, PrintedConnectives, PrintedHeaps}
+use Rattle.theory_printing_examples.specs.Phrases.{PrintedMonotypes, PrintedTypes, PrintedTerms, PrintedOperands, PrintedSteps, PrintedFormulas}
+use Rattle.theory_printing_examples.specs.Phrases.{PrintedConnectives, PrintedHeaps}
 use Rattle.theory_printing_examples.specs.Proofs.{PrintedProofs, PrintedBlocks}
 
 -- All that the texts compute with.
 computing : Type 0
-unfolding digits bytes_of count_of entry_of_sort needs_brackets literal_place term_form formula_form mono arguments_of under_params term more_monos more_args after_stmt proof
+unfolding digits bytes_of count_of entry_of_sort needs_brackets literal_place term_form formula_form mono arguments_of under_params term
+    more_monos more_args after_stmt proof
 computing = ⊤
 
 pub printed_monotypes : PrintedMonotypes

@@ -98,8 +98,9 @@ pub record PrintedSteps : Type 0 where
   pub run_of_an_operation : of_step (s_run one_and_two None) ≡ codes "(1 + 2)"
   pub run_of_a_computation : of_step (s_run do_one None) ≡ codes "(do ret 1)"
   pub in_a_row :
-      of_term (t_do (c_step (s_alloc m_word (t_word 1)) (c_step (s_get m_word (t_var 0)) (c_ret (t_pair (t_var
-      0) (t_var 1)))))) ≡ codes "do _x3 <- alloc[word] 1; _x4 <- get[word] _x3; ret (_x4, _x3)"
+      of_term
+      (t_do (c_step (s_alloc m_word (t_word 1)) (c_step (s_get m_word (t_var 0)) (c_ret (t_pair (t_var 0) (t_var 1))))))
+      ≡ codes "do _x3 <- alloc[word] 1; _x4 <- get[word] _x3; ret (_x4, _x3)"
 
 pub record PrintedFormulas : Type 0 where
   pub truth : of_formula f_tt ≡ codes "tt"

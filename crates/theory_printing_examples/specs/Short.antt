@@ -1,6 +1,7 @@
 -- Short forms for trees and scopes that are written out.
 use Rattle.std.specs.Prelude.{ℕ, List, [], ◌∷◌, codes}
-use Rattle.htt_syntax.specs.Trees.{MonoTree, TyTree, TermTree, FixTree, StepTree, FormulaTree, ProofTree, m_word, y_mono}
+use Rattle.htt_syntax.specs.Trees.{MonoTree, TyTree, TermTree, FixTree, StepTree, FormulaTree, ProofTree, m_word}
+use Rattle.htt_syntax.specs.Trees.{y_mono}
 use Rattle.htt_syntax.specs.Trees.{triple, t_var, t_val, t_word, t_app, t_do, t_bin, x_param, x_body, c_ret, c_step}
 use Rattle.htt_syntax.specs.Trees.{f_tt, f_same, f_emp}
 use Rattle.htt_syntax.specs.declared.mono.Op.TheVariants.{Add}

@@ -22,7 +22,8 @@ use Rattle.theory_printing.specs.Pieces.{Printed, nothing, one, ◌▹◌, opera
 use Rattle.theory_printing.specs.Phrases.{op_sign, right_of, literal_place}
 use Rattle.theory_printing_tokens.specs.Spoken.{Spoken, KindToken}
 use Rattle.theory_printing_read.specs.Said.{said_ty, said_triple, said_term, said_fix, said_comp, said_step, said_terms}
-use Rattle.theory_printing_read.proofs.Meets.{MeetsPrinted, Goes, go, goes_then, goes, numbered, alone, goes_space, goes_sign, goes_word_at, ends_word_at, ends_number, ends_sign, goes_between}
+use Rattle.theory_printing_read.proofs.Meets.{MeetsPrinted, Goes, go, goes_then, goes, numbered, alone, goes_space, goes_sign, goes_word_at, ends_word_at}
+use Rattle.theory_printing_read.proofs.Meets.{ends_number, ends_sign, goes_between}
 use Rattle.theory_printing_read.proofs.Forms.{bind, Reads, ReadsMono, ReadsAtom, ReadsRel, ReadsHead, count_parts}
 
 -- ---- what phrases are read as
@@ -57,12 +58,16 @@ pub record ReadsFix (r : Scope) (l : ℕ) (name : Span) (p : Printed) (v : Spoke
   pub params : raw.RawParamTrees
   pub spec : raw.RawTripleTree
   pub body : raw.RawCompTree
-  pub meets : MeetsPrinted r.text l p v (grammar.params l params ⨟ marks.sign l ColonSign ⨟ marks.sign l OpenBraceSign ⨟ grammar.triple l spec ⨟ marks.sign l DotSign ⨟ grammar.comp (suc l) body)
+  pub meets :
+      MeetsPrinted r.text l p v
+      (grammar.params l params ⨟ marks.sign l ColonSign ⨟ marks.sign l OpenBraceSign ⨟ grammar.triple l spec ⨟ marks.sign l DotSign ⨟
+      grammar.comp (suc l) body)
   pub given : FixTree
   pub comes : params_come r params (λ inner. behind_params name spec body inner) ≡ Ok given
   pub same : said_fix given ≡ told
 
-pub record ReadsTerms (spell : ℕ → raw.RawTermTrees → List Mark) (r : Scope) (l : ℕ) (p : Printed) (v : Spoken r.text p) (told : TermTrees) (number : ℕ) : Type 0 where
+pub record ReadsTerms (spell : ℕ → raw.RawTermTrees →
+    List Mark) (r : Scope) (l : ℕ) (p : Printed) (v : Spoken r.text p) (told : TermTrees) (number : ℕ) : Type 0 where
   pub tree : raw.RawTermTrees
   pub meets : MeetsPrinted r.text l p v (spell l tree)
   pub count : texts.count_of tree ≡ number
@@ -196,17 +201,21 @@ onto raw.no_parts last = last
 onto (raw.atom_part a parts) last = raw.atom_part a (onto parts last)
 onto (raw.mono_part t parts) last = raw.mono_part t (onto parts last)
 
-onto_marks : (l k : ℕ) (parts last : raw.RawPartTrees) → grammar.parts l k (onto parts last) ≡ grammar.parts l k parts ⨟ grammar.parts l (k + count_parts parts) last
+onto_marks : (l k : ℕ) (parts last : raw.RawPartTrees)
+    → grammar.parts l k (onto parts last) ≡ grammar.parts l k parts ⨟ grammar.parts l (k + count_parts parts) last
 unfolding grammar.term ◌⨟◌
 onto_marks l k raw.no_parts last = ap (λ n. grammar.parts l n last) (plus_zero k)
 onto_marks l k (raw.atom_part a parts) last =
-    ap (λ ms. marks.numbered k (grammar.atom l a) ++ ms) (onto_marks l (suc k) parts last ∙ ap (λ n. grammar.parts l (suc k) parts ++ grammar.parts l n last) (plus_suc k (count_parts parts)))
+    ap (λ ms. marks.numbered k (grammar.atom l a) ++ ms)
+    (onto_marks l (suc k) parts last ∙ ap (λ n. grammar.parts l (suc k) parts ++ grammar.parts l n last) (plus_suc k (count_parts parts)))
     ∙ sym (append_assoc (marks.numbered k (grammar.atom l a)) (grammar.parts l (suc k) parts) (grammar.parts l (k + suc (count_parts parts)) last))
 onto_marks l k (raw.mono_part t parts) last =
     let inside = marks.numbered k (grammar.mono l t) in
     let closing = marks.sign l CloseBracketSign in
-    ap (λ ms. marks.sign l OpenBracketSign ++ (inside ++ (closing ++ ms))) (onto_marks l (suc k) parts last ∙ ap (λ n. grammar.parts l (suc k) parts ++ grammar.parts l n last) (plus_suc k (count_parts parts)))
-    ∙ ap (λ ms. marks.sign l OpenBracketSign ++ ms) (sym (append_assoc inside (closing ++ grammar.parts l (suc k) parts) (grammar.parts l (k + suc (count_parts parts)) last)))
+    ap (λ ms. marks.sign l OpenBracketSign ++ (inside ++ (closing ++ ms)))
+    (onto_marks l (suc k) parts last ∙ ap (λ n. grammar.parts l (suc k) parts ++ grammar.parts l n last) (plus_suc k (count_parts parts)))
+    ∙ ap (λ ms. marks.sign l OpenBracketSign ++ ms)
+    (sym (append_assoc inside (closing ++ grammar.parts l (suc k) parts) (grammar.parts l (k + suc (count_parts parts)) last)))
 
 onto_count : (parts last : raw.RawPartTrees) → count_parts (onto parts last) ≡ count_parts parts + count_parts last
 onto_count raw.no_parts last = omega arith
@@ -226,7 +235,9 @@ ok_same {x = x} e = ap (λ o. from o x) e
     from (Ok y) x = y
     from (Err stop) x = x
 
-onto_comes : (r : Scope) (at : ℕ) (M : TermTree) (parts last : raw.RawPartTrees) (given : TermTree) → parts_come r at M parts ≡ Ok given → parts_come r at M (onto parts last) ≡ parts_come r at given last
+onto_comes : (r : Scope) (at : ℕ) (M : TermTree) (parts last : raw.RawPartTrees) (given : TermTree)
+    → parts_come r at M parts ≡ Ok given
+    → parts_come r at M (onto parts last) ≡ parts_come r at given last
 unfolding term_comes
 onto_comes r at M raw.no_parts last given e = ap (λ G. parts_come r at G last) (ok_same e)
 onto_comes r at M (raw.atom_part a parts) last given e =
@@ -261,8 +272,10 @@ applied {r} {l} {p} {q} {v} {w} {m} {n} {arguments} h a gap =
       head = h.head;
       parts = onto h.parts last;
       count = onto_count h.parts last ∙ ap (λ k. k + 1) h.count ∙ omega arith;
-      meets = one_more (grammar.atom l h.head) (grammar.parts l 2 h.parts) (marks.numbered (2 + arguments) (grammar.atom l a.tree) ++ []) (grammar.parts l 2 (onto h.parts last)) marks_told
-      (go (goes h.meets) (go (goes_space r.text l gap) (alone (numbered (2 + arguments) a.meets))));
+      meets =
+          one_more (grammar.atom l h.head) (grammar.parts l 2 h.parts) (marks.numbered (2 + arguments) (grammar.atom l a.tree) ++ [])
+          (grammar.parts l 2 (onto h.parts last)) marks_told
+          (go (goes h.meets) (go (goes_space r.text l gap) (alone (numbered (2 + arguments) a.meets))));
       first = h.first;
       first_comes = h.first_comes;
       given = t_at at (t_app h.given a.given);
@@ -290,7 +303,9 @@ instantiated {r} {l} {p} {q} {v} {w} {m} {t} {arguments} h gap opening u closing
       parts = onto h.parts last;
       count = onto_count h.parts last ∙ ap (λ k. k + 1) h.count ∙ omega arith;
       meets = one_more (grammar.atom l h.head) (grammar.parts l 2 h.parts) (more (2 + arguments)) (grammar.parts l 2 (onto h.parts last)) marks_told
-      (go (goes h.meets) (go (goes_space r.text l gap) (go (goes_sign r.text l OpenBracketSign opening) (go (goes (numbered (2 + arguments) u.meets)) (ends_sign r.text l CloseBracketSign closing)))));
+          (go (goes h.meets) (go (goes_space r.text l gap)
+          (go (goes_sign r.text l OpenBracketSign opening)
+          (go (goes (numbered (2 + arguments) u.meets)) (ends_sign r.text l CloseBracketSign closing)))));
       first = h.first;
       first_comes = h.first_comes;
       given = t_at at (t_inst h.given u.given);

@@ -15,7 +15,8 @@ use Rattle.theory_text.specs.Bytes.{byte_of_atom}
 use Rattle.theory_text.specs.Monotypes.{factor_comes, mono_comes}
 use Rattle.theory_text.specs.Phrases.{term_comes, rel_comes, appl_comes, parts_come, atom_comes, formula_comes, fatom_comes}
 use Rattle.theory_printing.specs.Pieces.{Printed, one, ◌▹◌, deeper, operand, in_parens, in_brackets, a_sign}
-use Rattle.theory_printing.specs.Brackets.{Form, an_atom, an_application, a_prefixed, an_operation, a_binding, Place, a_side, an_operand, a_run, a_head, needs_brackets}
+use Rattle.theory_printing.specs.Brackets.{Form, an_atom, an_application, a_prefixed, an_operation, a_binding, Place, a_side, an_operand, a_run, a_head}
+use Rattle.theory_printing.specs.Brackets.{needs_brackets}
 use Rattle.theory_printing_tokens.specs.Spoken.{Spoken, KindToken}
 use Rattle.theory_printing_read.specs.Said.{said_term, said_formula}
 use Rattle.theory_printing_read.proofs.Meets.{MeetsPrinted, Goes, go, goes_then, goes, deep, numbered, alone, goes_sign_at, ends_sign}
@@ -62,7 +63,9 @@ any_mono a_prefixed h = h.natural
 any_mono an_operation h = h.natural
 any_mono a_binding h = h.natural
 
-mono_in_parens : {r : Scope} {l : ℕ} {p : Printed} {told : MonoTree} (v : Spoken r.text (in_parens p)) → ReadsMono r l p v.1.0 told → ReadsFactor r l (in_parens p) v told
+mono_in_parens : {r : Scope} {l : ℕ} {p : Printed} {told : MonoTree} (v : Spoken r.text (in_parens p))
+    → ReadsMono r l p v.1.0 told
+    → ReadsFactor r l (in_parens p) v told
 unfolding grammar.mono mono_comes
 mono_in_parens {r} {l} v h =
     record {
@@ -144,7 +147,9 @@ head_of_atom h =
       same = h.same;
     }
 
-appl_of_head : {r : Scope} {l : ℕ} {p : Printed} {v : Spoken r.text p} {told : TermTree} {arguments : ℕ} → ReadsHead r l p v told arguments → ReadsAppl r l p v told
+appl_of_head : {r : Scope} {l : ℕ} {p : Printed} {v : Spoken r.text p} {told : TermTree} {arguments : ℕ}
+    → ReadsHead r l p v told arguments
+    → ReadsAppl r l p v told
 unfolding grammar.term term_comes
 appl_of_head h = record { tree = raw.l_apply h.head h.parts; meets = h.meets; given = h.given; comes = bind h.first_comes h.comes; same = h.same }
 
@@ -204,7 +209,10 @@ atom_at a_prefixed l h v = term_in_parens v (any_term a_prefixed (h (suc l) v.1.
 atom_at an_operation l h v = term_in_parens v (any_term an_operation (h (suc l) v.1.0))
 atom_at a_binding l h v = term_in_parens v (any_term a_binding (h (suc l) v.1.0))
 
-without_arguments : {r : Scope} {l : ℕ} {p : Printed} {v : Spoken r.text p} {told : TermTree} {arguments : ℕ} → arguments ≡ zero → ReadsHead r l p v told zero → ReadsHead r l p v told arguments
+without_arguments : {r : Scope} {l : ℕ} {p : Printed} {v : Spoken r.text p} {told : TermTree} {arguments : ℕ}
+    → arguments ≡ zero
+    → ReadsHead r l p v told zero
+    → ReadsHead r l p v told arguments
 without_arguments {r} {l} {p} {v} {told} e h = subst (λ n. ReadsHead r l p v told n) (sym e) h
 
 pub head_at : {r : Scope} {p : Printed} {told : TermTree} {arguments : ℕ} (form : Form) (l : ℕ)
@@ -267,7 +275,9 @@ formula_of_fatom h =
       same = h.same;
     }
 
-pub any_formula : {r : Scope} {l : ℕ} {p : Printed} {v : Spoken r.text p} {told : FormulaTree} (form : Form) → FormulaRead r l p v told form → ReadsFormula r l p v told
+pub any_formula : {r : Scope} {l : ℕ} {p : Printed} {v : Spoken r.text p} {told : FormulaTree} (form : Form)
+    → FormulaRead r l p v told form
+    → ReadsFormula r l p v told
 any_formula an_atom h = formula_of_fatom h.natural
 any_formula an_application h = h.natural
 any_formula a_prefixed h = h.natural

@@ -13,14 +13,18 @@ use Rattle.theory_grammar.specs.Marks as marks
 use Rattle.theory_grammar.specs.Marks.{Mark, ◌⨟◌, span_of}
 use Rattle.theory_grammar.specs.Grammar as grammar
 use Rattle.theory_text_names.specs.Stops.{Stop, ◌>>=◌}
-use Rattle.theory_text_names.specs.Scopes.{Sort, a_mono, a_term, a_heap, a_term_or_heap, the_init, the_mem, a_hypothesis, Scope, bytes_of, under_name, under_hypothesis, is_reserved, means_val, means_rec}
+use Rattle.theory_text_names.specs.Scopes.{Sort, a_mono, a_term, a_heap, a_term_or_heap, the_init, the_mem, a_hypothesis, Scope, bytes_of, under_name}
+use Rattle.theory_text_names.specs.Scopes.{under_hypothesis, is_reserved, means_val, means_rec}
 use Rattle.theory_text_names.specs.Scopes as scopes
-use Rattle.theory_text_names.specs.Uses.{Use, a_variable, the_hypothesis, a_declared, local_use, declared_use, first_some, use_at, mono_of_use, term_of_use, heap_of_use, hypothesis_of_use}
-use Rattle.theory_text_names.specs.Uses.{rec_of_use, mono_named, term_named, heap_named, hypothesis_named, rec_named, is_init, is_mem, heap_comes, heap_there, heap_outside}
+use Rattle.theory_text_names.specs.Uses.{Use, a_variable, the_hypothesis, a_declared, local_use, declared_use, first_some, use_at, mono_of_use, term_of_use}
+use Rattle.theory_text_names.specs.Uses.{heap_of_use, hypothesis_of_use}
+use Rattle.theory_text_names.specs.Uses.{rec_of_use, mono_named, term_named, heap_named, hypothesis_named, rec_named, is_init, is_mem, heap_comes, heap_there}
+use Rattle.theory_text_names.specs.Uses.{heap_outside}
 use Rattle.theory_text.specs.Monotypes.{factor_comes}
 use Rattle.theory_text.specs.Phrases.{atom_comes}
 use Rattle.theory_printing.specs.Pieces.{Printed, one, ◌▹◌, a_word, nothing, marks_of}
-use Rattle.theory_printing.specs.Names.{PrintScope, with_entry, with_hypothesis, under_mem, under_heaps, name_at, hypothesis_name, count_of, past, entry_of_sort, entry, name_or_blank, val_name, rec_name}
+use Rattle.theory_printing.specs.Names.{PrintScope, with_entry, with_hypothesis, under_mem, under_heaps, name_at, hypothesis_name, count_of, past}
+use Rattle.theory_printing.specs.Names.{entry_of_sort, entry, name_or_blank, val_name, rec_name}
 use Rattle.theory_printing_tokens.specs.Spoken.{Spoken, NameToken}
 use Rattle.theory_printing_tokens.specs.Conditions.{IsMonoEntry, IsTermEntry, IsHeapEntry, StandsForMono, StandsForTerm, StandsForHeap, IsHypothesis, HasName}
 use Rattle.theory_printing_read.specs.Said.{said_term}
@@ -49,7 +53,9 @@ under_new_hypothesis span e n =
 pub under_own_mem : {s : PrintScope} {counts : List ℕ} {r : Scope} → HasPrintedNames s counts r → HasPrintedNames (under_mem s) counts (scopes.under_mem r)
 under_own_mem n = record { locals = named_mem n.locals; declared = record { vals = n.declared.vals; recs = n.declared.recs } }
 
-pub under_own_heaps : {s : PrintScope} {counts : List ℕ} {r : Scope} → HasPrintedNames s counts r → HasPrintedNames (under_heaps s) counts (scopes.under_heaps r)
+pub under_own_heaps : {s : PrintScope} {counts : List ℕ} {r : Scope}
+    → HasPrintedNames s counts r
+    → HasPrintedNames (under_heaps s) counts (scopes.under_heaps r)
 under_own_heaps n = record { locals = named_mem (named_init n.locals); declared = record { vals = n.declared.vals; recs = n.declared.recs } }
 
 -- ---- what a name stands for

@@ -1,5 +1,6 @@
 -- The printed names stand for what they were printed for.
-use Rattle.std.proofs.Common.{◌⊎◌, inl, inr, ◌≡◌, ℕ, zero, suc, ◌+◌, ◌-◌, ◌<◌, ◌≤◌, ◌^◌, ◌/◌, ◌%◌, List, [], ◌∷◌, ◌++◌, length, take, drop, Bool, true, false, ◌||◌, ◌&&◌, cond, refl, sym, ◌∙◌, ap, subst, arith}
+use Rattle.std.proofs.Common.{◌⊎◌, inl, inr, ◌≡◌, ℕ, zero, suc, ◌+◌, ◌-◌, ◌<◌, ◌≤◌, ◌^◌, ◌/◌, ◌%◌, List, [], ◌∷◌, ◌++◌, length, take, drop, Bool, true, false}
+use Rattle.std.proofs.Common.{◌||◌, ◌&&◌, cond, refl, sym, ◌∙◌, ap, subst, arith}
 use Rattle.std.specs.Prelude.{◌==◌, codes, decimal, Option, Some, None, slice_get, bytes_eq, if◌then◌else◌}
 use Rattle.std.specs.Fmt.{digits, digits_onto, digit_glyph}
 use Rattle.std.specs.List.{list_all}
@@ -8,7 +9,8 @@ use Rattle.std.specs.Cmp.Lexicographic.{same_text}
 use Rattle.std.proofs.lemmas.Fmt.{decimal_injective}
 use Rattle.std.proofs.lemmas.Bool.{cases_eq}
 use Rattle.std.proofs.lemmas.Slice.Eq.{bytes_eq-Decides}
-use Rattle.theory_text_names.specs.Scopes.{Sort, a_mono, a_term, a_heap, a_term_or_heap, the_init, the_mem, a_hypothesis, Local, one_more, one_more_hypothesis, hypotheses, is_reserved, is_sequent_letter}
+use Rattle.theory_text_names.specs.Scopes.{Sort, a_mono, a_term, a_heap, a_term_or_heap, the_init, the_mem, a_hypothesis, Local, one_more, one_more_hypothesis}
+use Rattle.theory_text_names.specs.Scopes.{hypotheses, is_reserved, is_sequent_letter}
 use Rattle.theory_text_names.specs.Uses.{Use, a_variable, the_hypothesis, is_named, use_of, local_use, heap_or_outer, heap_outside, is_init, is_mem}
 use Rattle.theory_printing.specs.Names.{name_at, hypothesis_name, letters, count_of}
 use Rattle.theory_printing_read.specs.Scopes as named
@@ -104,7 +106,9 @@ here : (name : List ℕ) (off : ℕ) (l : Local) (ls : List Local) → is_named 
 unfolding local_use
 here name off l ls h = ap (λ t. cond t (Some (use_of l.sort off ls)) (local_use name (one_more l.sort off) ls)) h
 
-there : (name : List ℕ) (off : ℕ) (l : Local) (ls : List Local) → is_named name l.name ≡ false → local_use name off (l ∷ ls) ≡ local_use name (one_more l.sort off) ls
+there : (name : List ℕ) (off : ℕ) (l : Local) (ls : List Local)
+    → is_named name l.name ≡ false
+    → local_use name off (l ∷ ls) ≡ local_use name (one_more l.sort off) ls
 unfolding local_use
 there name off l ls h = ap (λ t. cond t (Some (use_of l.sort off ls)) (local_use name (one_more l.sort off) ls)) h
 
@@ -151,7 +155,9 @@ entry_found (suc index) off sort name (named_entry {locals} {sorts} {n} {own} {o
     let below = there_is sorts index sort at in
     let moved : name ≡ name_at sort (length sorts - suc index) = e ∙ ap (name_at sort) (moved_in (length sorts) index) in
     let differ : name_at other (length sorts) ≡ name → ⊥ =
-    λ same. let p = positions_same other sort (length sorts) (length sorts - suc index) (omega (arith, few)) (omega (arith, few)) (same ∙ moved) in omega (arith, p, below) in
+    λ same.
+    let p = positions_same other sort (length sorts) (length sorts - suc index) (omega (arith, few)) (omega (arith, few)) (same ∙ moved) in
+    omega (arith, p, below) in
     there name off (record { name = own; sort = other }) locals (other_name name (name_at other (length sorts)) own own_e differ)
     ∙ ap (λ m. local_use name m locals) (counted other off h)
     ∙ entry_found index (suc off) sort name rest at is (omega (arith, few)) moved
@@ -320,16 +326,21 @@ letter_reserved a_hypothesis = refl
 not_reserved : (own name : List ℕ) → is_reserved own ≡ true → is_reserved name ≡ false → own ≡ name → ⊥
 not_reserved own name h k e = let t = ap is_reserved e in cc
 
-pub none_found : {ls : List Local} {sorts : List Sort} {n : ℕ} (off : ℕ) (name : List ℕ) → AreNamed ls sorts n → is_reserved name ≡ false → local_use name off ls ≡ None
+pub none_found : {ls : List Local} {sorts : List Sort} {n : ℕ} (off : ℕ) (name : List ℕ)
+    → AreNamed ls sorts n
+    → is_reserved name ≡ false
+    → local_use name off ls ≡ None
 unfolding local_use
 none_found off name named_none free = refl
 none_found off name (named_entry {locals} {sorts} {n} {own} {other} h own_e rest) free =
     let taken : is_reserved (name_at other (length sorts)) ≡ true =
     ap is_reserved (spelled other (length sorts)) ∙ reserved (letter other) (length sorts) (letter_reserved other) in
-    there name off (record { name = own; sort = other }) locals (other_name name (name_at other (length sorts)) own own_e (not_reserved (name_at other (length sorts)) name taken free))
+    there name off (record { name = own; sort = other }) locals
+    (other_name name (name_at other (length sorts)) own own_e (not_reserved (name_at other (length sorts)) name taken free))
     ∙ none_found (one_more other off) name rest free
 none_found off name (named_init {locals} rest) free = there name off (record { name = None; sort = the_init }) locals refl ∙ none_found (suc off) name rest free
 none_found off name (named_mem {locals} rest) free = there name off (record { name = None; sort = the_mem }) locals refl ∙ none_found (suc off) name rest free
 none_found off name (named_hypothesis {locals} {sorts} {n} {own} own_e rest) free =
-    there name off (record { name = own; sort = a_hypothesis }) locals (other_name name (hypothesis_name n) own own_e (not_reserved (hypothesis_name n) name (reserved 117 n refl) free))
+    there name off (record { name = own; sort = a_hypothesis }) locals
+    (other_name name (hypothesis_name n) own own_e (not_reserved (hypothesis_name n) name (reserved 117 n refl) free))
     ∙ none_found off name rest free

@@ -33,7 +33,8 @@ meets_then (t ∷ ts) us (m ∷ ms) ns [] hs h k = absurd h
 
 pub meets_numbered : (n : ℕ) (ts : List Token) (ms gs : List Mark) → Meets ts ms gs → Meets ts (marks.numbered n ms) (marks.numbered n gs)
 meets_numbered n [] [] [] h = h
-meets_numbered n (t ∷ ts) (m ∷ ms) (g ∷ gs) h = (record { fits = record { kind = h.0.fits.kind; at = h.0.fits.at; span = h.0.fits.span }; level = h.0.level; operand = refl }, h.1)
+meets_numbered n (t ∷ ts) (m ∷ ms) (g ∷ gs) h =
+    (record { fits = record { kind = h.0.fits.kind; at = h.0.fits.at; span = h.0.fits.span }; level = h.0.level; operand = refl }, h.1)
 meets_numbered n [] (m ∷ ms) gs h = absurd h
 meets_numbered n [] [] (g ∷ gs) h = absurd h
 meets_numbered n (t ∷ ts) [] gs h = absurd h
@@ -77,9 +78,9 @@ unfolding marks_of
 goes_then {text} {l} {p} {q} {v} {w} {onto} {further} h k =
     record {
       on = λ us ns hs m.
-        subst (λ ts. Meets ts ((marks_of l p ++ marks_of l q) ++ ns) (onto (further hs))) (sym (append_assoc (tokens_of text p v) (tokens_of text q w) us))
-        (subst (λ ms. Meets (tokens_of text p v ++ (tokens_of text q w ++ us)) ms (onto (further hs))) (sym (append_assoc (marks_of l p) (marks_of l q) ns))
-        (h.on (tokens_of text q w ++ us) (marks_of l q ++ ns) (further hs) (k.on us ns hs m)));
+          subst (λ ts. Meets ts ((marks_of l p ++ marks_of l q) ++ ns) (onto (further hs))) (sym (append_assoc (tokens_of text p v) (tokens_of text q w) us))
+          (subst (λ ms. Meets (tokens_of text p v ++ (tokens_of text q w ++ us)) ms (onto (further hs))) (sym (append_assoc (marks_of l p) (marks_of l q) ns))
+          (h.on (tokens_of text q w ++ us) (marks_of l q ++ ns) (further hs) (k.on us ns hs m)));
     }
 
 -- a phrase with what follows it
@@ -90,7 +91,9 @@ pub deep : {text : List ℕ} {l : ℕ} {p : Printed} {v : Spoken text p} {gs : L
 unfolding marks_of
 deep h = record { meets = h.meets }
 
-pub numbered : {text : List ℕ} {l : ℕ} {p : Printed} {v : Spoken text p} {gs : List Mark} (n : ℕ) → MeetsPrinted text l p v gs → MeetsPrinted text l (operand n p) v (marks.numbered n gs)
+pub numbered : {text : List ℕ} {l : ℕ} {p : Printed} {v : Spoken text p} {gs : List Mark} (n : ℕ)
+    → MeetsPrinted text l p v gs
+    → MeetsPrinted text l (operand n p) v (marks.numbered n gs)
 unfolding marks_of
 numbered {text} {l} {p} {v} {gs} n h = record { meets = meets_numbered n (tokens_of text p v) (marks_of l p) gs h.meets }
 
@@ -112,11 +115,13 @@ pub ends_sign : (text : List ℕ) (l : ℕ) (s : Sign) (v : Spoken text (one (a_
 unfolding marks_of
 ends_sign text l s v = record { meets = (record { fits = record { kind = v.is; at = tt; span = tt }; level = refl; operand = refl }, tt) }
 
-pub goes_sign_at : (text : List ℕ) (l : ℕ) (s : Sign) (v : Spoken text (one (a_sign s))) → Goes text l (one (a_sign s)) v (λ hs. marks.sign_at l s v.token.from ⨟ hs)
+pub goes_sign_at : (text : List ℕ) (l : ℕ) (s : Sign) (v : Spoken text (one (a_sign s)))
+    → Goes text l (one (a_sign s)) v (λ hs. marks.sign_at l s v.token.from ⨟ hs)
 unfolding marks_of ◌⨟◌
 goes_sign_at text l s v = record { on = λ us ns hs m. (record { fits = record { kind = v.is; at = refl; span = tt }; level = refl; operand = refl }, m) }
 
-pub ends_sign_at : (text : List ℕ) (l : ℕ) (s : Sign) (v : Spoken text (one (a_sign s))) → MeetsPrinted text l (one (a_sign s)) v (marks.sign_at l s v.token.from)
+pub ends_sign_at : (text : List ℕ) (l : ℕ) (s : Sign) (v : Spoken text (one (a_sign s)))
+    → MeetsPrinted text l (one (a_sign s)) v (marks.sign_at l s v.token.from)
 unfolding marks_of
 ends_sign_at text l s v = record { meets = (record { fits = record { kind = v.is; at = refl; span = tt }; level = refl; operand = refl }, tt) }
 
@@ -128,11 +133,13 @@ pub ends_word : (text : List ℕ) (l : ℕ) (w : Keyword) (v : Spoken text (one 
 unfolding marks_of
 ends_word text l w v = record { meets = (record { fits = record { kind = v.is; at = tt; span = tt }; level = refl; operand = refl }, tt) }
 
-pub goes_word_at : (text : List ℕ) (l : ℕ) (w : Keyword) (v : Spoken text (one (a_word w))) → Goes text l (one (a_word w)) v (λ hs. marks.word_at l w v.token.from ⨟ hs)
+pub goes_word_at : (text : List ℕ) (l : ℕ) (w : Keyword) (v : Spoken text (one (a_word w)))
+    → Goes text l (one (a_word w)) v (λ hs. marks.word_at l w v.token.from ⨟ hs)
 unfolding marks_of ◌⨟◌
 goes_word_at text l w v = record { on = λ us ns hs m. (record { fits = record { kind = v.is; at = refl; span = tt }; level = refl; operand = refl }, m) }
 
-pub ends_word_at : (text : List ℕ) (l : ℕ) (w : Keyword) (v : Spoken text (one (a_word w))) → MeetsPrinted text l (one (a_word w)) v (marks.word_at l w v.token.from)
+pub ends_word_at : (text : List ℕ) (l : ℕ) (w : Keyword) (v : Spoken text (one (a_word w)))
+    → MeetsPrinted text l (one (a_word w)) v (marks.word_at l w v.token.from)
 unfolding marks_of
 ends_word_at text l w v = record { meets = (record { fits = record { kind = v.is; at = refl; span = tt }; level = refl; operand = refl }, tt) }
 
@@ -144,19 +151,23 @@ pub ends_number : (text : List ℕ) (l : ℕ) (n : ℕ) (v : Spoken text (one (a
 unfolding marks_of
 ends_number text l n v = record { meets = (record { fits = record { kind = v.is; at = tt; span = tt }; level = refl; operand = refl }, tt) }
 
-pub goes_number_at : (text : List ℕ) (l : ℕ) (n : ℕ) (v : Spoken text (one (a_number n))) → Goes text l (one (a_number n)) v (λ hs. marks.number_at l n v.token.from ⨟ hs)
+pub goes_number_at : (text : List ℕ) (l : ℕ) (n : ℕ) (v : Spoken text (one (a_number n)))
+    → Goes text l (one (a_number n)) v (λ hs. marks.number_at l n v.token.from ⨟ hs)
 unfolding marks_of ◌⨟◌
 goes_number_at text l n v = record { on = λ us ns hs m. (record { fits = record { kind = v.is; at = refl; span = tt }; level = refl; operand = refl }, m) }
 
-pub ends_number_at : (text : List ℕ) (l : ℕ) (n : ℕ) (v : Spoken text (one (a_number n))) → MeetsPrinted text l (one (a_number n)) v (marks.number_at l n v.token.from)
+pub ends_number_at : (text : List ℕ) (l : ℕ) (n : ℕ) (v : Spoken text (one (a_number n)))
+    → MeetsPrinted text l (one (a_number n)) v (marks.number_at l n v.token.from)
 unfolding marks_of
 ends_number_at text l n v = record { meets = (record { fits = record { kind = v.is; at = refl; span = tt }; level = refl; operand = refl }, tt) }
 
-pub goes_name : (text : List ℕ) (l : ℕ) (name : List ℕ) (v : Spoken text (one (a_name name))) → Goes text l (one (a_name name)) v (λ hs. marks.name l (span_of v.token) ⨟ hs)
+pub goes_name : (text : List ℕ) (l : ℕ) (name : List ℕ) (v : Spoken text (one (a_name name)))
+    → Goes text l (one (a_name name)) v (λ hs. marks.name l (span_of v.token) ⨟ hs)
 unfolding marks_of ◌⨟◌
 goes_name text l name v = record { on = λ us ns hs m. (record { fits = record { kind = v.is; at = tt; span = refl }; level = refl; operand = refl }, m) }
 
-pub ends_name : (text : List ℕ) (l : ℕ) (name : List ℕ) (v : Spoken text (one (a_name name))) → MeetsPrinted text l (one (a_name name)) v (marks.name l (span_of v.token))
+pub ends_name : (text : List ℕ) (l : ℕ) (name : List ℕ) (v : Spoken text (one (a_name name)))
+    → MeetsPrinted text l (one (a_name name)) v (marks.name l (span_of v.token))
 unfolding marks_of
 ends_name text l name v = record { meets = (record { fits = record { kind = v.is; at = tt; span = refl }; level = refl; operand = refl }, tt) }
 

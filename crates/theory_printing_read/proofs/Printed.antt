@@ -39,30 +39,46 @@ printed_is_read = record {
       let tokens = tokens_of r.text (ty s A) t.spoken in
       let fits = fits_of tokens (marks_of 1 (ty s A)) (grammar.ty 1 read.tree) read.meets.meets in
       let is_text = record { tree = read.tree; derives = record { tokens = tokens; are_tokens = t.are_tokens; is_tree = fits }; comes = read.comes } in
-      record { read = read.given; is_text = is_text; same = read.same; each = λ other k. ap said_ty (one.texts.types r other read.given k is_text) ∙ read.same };
+      record {
+        read = read.given;
+        is_text = is_text;
+        same = read.same;
+        each = λ other k. ap said_ty (one.texts.types r other read.given k is_text) ∙ read.same;
+      };
   formulas = λ counts s r F has names e.
       let t = tokens_in r.text (formula s F) e (printed_tokens.formulas counts s F has) in
       let read = any_formula (formula_form F) (read_formula names F has 1 t.spoken) in
       let tokens = tokens_of r.text (formula s F) t.spoken in
       let fits = fits_of tokens (marks_of 1 (formula s F)) (grammar.formula 1 read.tree) read.meets.meets in
       let is_text = record { tree = read.tree; derives = record { tokens = tokens; are_tokens = t.are_tokens; is_tree = fits }; comes = read.comes } in
-      record { read = read.given; is_text = is_text; same = read.same; each = λ other k. ap said_formula (one.texts.formulas r other read.given k is_text) ∙ read.same };
+      record {
+        read = read.given;
+        is_text = is_text;
+        same = read.same;
+        each = λ other k. ap said_formula (one.texts.formulas r other read.given k is_text) ∙ read.same;
+      };
   proofs = λ counts s r p has names e.
       let t = tokens_in r.text (proof s p) e (printed_tokens.proofs counts s p has) in
       let read = any_proof (is_block p) (read_proof names p has 1 t.spoken) in
       let tokens = tokens_of r.text (proof s p) t.spoken in
       let fits = fits_of tokens (marks_of 1 (proof s p)) (grammar.proof 1 read.tree) read.meets.meets in
       let is_text = record { tree = read.tree; derives = record { tokens = tokens; are_tokens = t.are_tokens; is_tree = fits }; comes = read.comes } in
-      record { read = read.given; is_text = is_text; same = read.same; each = λ other k. ap said_proof (one.texts.proofs r other read.given k is_text) ∙ read.same };
+      record {
+        read = read.given;
+        is_text = is_text;
+        same = read.same;
+        each = λ other k. ap said_proof (one.texts.proofs r other read.given k is_text) ∙ read.same;
+      };
 }
 
 -- ---- limits
 
 within_of : (limits : Limits) (ts : List Token) (ms gs : List Mark) → Meets ts ms gs → AllWithin limits ms → AllWithin limits gs
 within_of limits [] [] [] h k = tt
-within_of limits (t ∷ ts) (m ∷ ms) (g ∷ gs) h k =
-    (record { level = subst (λ n. n ≤ limits.nesting) (sym h.0.level) k.0.level; operand = subst (λ n. n ≤ limits.chain) (sym h.0.operand) k.0.operand },
-    within_of limits ts ms gs h.1 k.1)
+within_of limits (t ∷ ts) (m ∷ ms) (g ∷ gs) h k = (
+  record { level = subst (λ n. n ≤ limits.nesting) (sym h.0.level) k.0.level; operand = subst (λ n. n ≤ limits.chain) (sym h.0.operand) k.0.operand },
+  within_of limits ts ms gs h.1 k.1,
+)
 within_of limits [] (m ∷ ms) gs h k = absurd h
 within_of limits [] [] (g ∷ gs) h k = absurd h
 within_of limits (t ∷ ts) [] gs h k = absurd h
@@ -70,9 +86,10 @@ within_of limits (t ∷ ts) (m ∷ ms) [] h k = absurd h
 
 of_within : (limits : Limits) (ts : List Token) (ms gs : List Mark) → Meets ts ms gs → AllWithin limits gs → AllWithin limits ms
 of_within limits [] [] [] h k = tt
-of_within limits (t ∷ ts) (m ∷ ms) (g ∷ gs) h k =
-    (record { level = subst (λ n. n ≤ limits.nesting) h.0.level k.0.level; operand = subst (λ n. n ≤ limits.chain) h.0.operand k.0.operand },
-    of_within limits ts ms gs h.1 k.1)
+of_within limits (t ∷ ts) (m ∷ ms) (g ∷ gs) h k = (
+  record { level = subst (λ n. n ≤ limits.nesting) h.0.level k.0.level; operand = subst (λ n. n ≤ limits.chain) h.0.operand k.0.operand },
+  of_within limits ts ms gs h.1 k.1,
+)
 of_within limits [] (m ∷ ms) gs h k = absurd h
 of_within limits [] [] (g ∷ gs) h k = absurd h
 of_within limits (t ∷ ts) [] gs h k = absurd h

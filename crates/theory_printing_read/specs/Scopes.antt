@@ -1,7 +1,9 @@
 -- When a place of a text has the names that are printed: its binders bear the printed names, and the declared names
 -- stand for the values and the recursive predicates with their numbers.
-use Rattle.std.specs.Prelude.{◌≡◌, ℕ, zero, suc, Bool, true, false, List, [], ◌∷◌, length, Option, Some, None, slice_get}
-use Rattle.theory_text_names.specs.Scopes.{Sort, a_hypothesis, the_init, the_mem, Local, Names, Scope, means_rec, means_val}
+use Rattle.std.specs.Prelude.{◌≡◌, ℕ, zero, suc, Bool, true, false, List, [], ◌∷◌, length, Option, Some, None}
+use Rattle.std.specs.Prelude.{slice_get}
+use Rattle.theory_text_names.specs.Scopes.{Sort, a_hypothesis, the_init, the_mem, Local, Names, Scope, means_rec}
+use Rattle.theory_text_names.specs.Scopes.{means_val}
 use Rattle.theory_text_names.specs.Uses.{a_declared, declared_use}
 use Rattle.theory_printing.specs.Names.{PrintScope, name_at, hypothesis_name}
 

@@ -1,18 +1,21 @@
 -- What is printed of the smallest parts is read as it was printed.
-use Rattle.std.proofs.Common.{◌≡◌, ℕ, zero, suc, ◌+◌, ◌<◌, ◌≤◌, ◌^◌, List, [], ◌∷◌, ◌++◌, length, take, Bool, true, false, cond, refl, sym, ◌∙◌, ap, subst, arith}
+use Rattle.std.proofs.Common.{◌≡◌, ℕ, zero, suc, ◌+◌, ◌<◌, ◌≤◌, ◌^◌, List, [], ◌∷◌, ◌++◌, length, take, Bool, true, false, cond, refl, sym, ◌∙◌, ap, subst}
+use Rattle.std.proofs.Common.{arith}
 use Rattle.std.specs.Prelude.{IsUtf8, codes, decimal, Option, Some, None, slice_get, if◌then◌else◌}
 use Rattle.std.proofs.lemmas.List.{length-take-le}
 use Rattle.htt_lexer_tokens.specs.declared.tokens.Keyword.{Keyword}
 use Rattle.htt_lexer_tokens.specs.declared.tokens.Keyword.TheVariants.{InitWord, MemWord, NullWord, PlaceWord}
 use Rattle.htt_lexer_tokens.specs.declared.tokens.Sign.{Sign}
-use Rattle.htt_lexer_tokens.specs.declared.tokens.Sign.TheVariants.{CaretSign, CommaSign, SemicolonSign, OpenParenSign, CloseParenSign, OpenBracketSign, CloseBracketSign}
+use Rattle.htt_lexer_tokens.specs.declared.tokens.Sign.TheVariants.{CaretSign, CommaSign, SemicolonSign, OpenParenSign, CloseParenSign, OpenBracketSign}
+use Rattle.htt_lexer_tokens.specs.declared.tokens.Sign.TheVariants.{CloseBracketSign}
 use Rattle.htt_lexer_tokens.specs.declared.tokens.Kind.TheVariants as kinds
 use Rattle.htt_syntax.specs.declared.mono.Op.{Op}
 use Rattle.htt_syntax.specs.declared.mono.Op.TheVariants.{Add, Sub, Mul, And, Or, Xor, Shl, Shr, Lt}
 use Rattle.theory_text_names.specs.Scopes.{Sort, a_mono, a_term, a_heap, a_term_or_heap, the_init, the_mem, a_hypothesis}
 use Rattle.theory_text_names.specs.Uses.{is_init, is_mem}
 use Rattle.theory_printing.specs.Spellings.{word_spelling, sign_spelling}
-use Rattle.theory_printing.specs.Pieces.{Printed, nothing, one, ◌▹◌, deeper, operand, a_space, a_word, a_sign, a_number, a_name, bytes_of, between, comma, semicolon}
+use Rattle.theory_printing.specs.Pieces.{Printed, nothing, one, ◌▹◌, deeper, operand, a_space, a_word, a_sign, a_number, a_name, bytes_of, between, comma}
+use Rattle.theory_printing.specs.Pieces.{semicolon}
 use Rattle.theory_printing.specs.Pieces.{in_parens, in_brackets}
 use Rattle.theory_printing.specs.Names.{PrintScope, name_at, new_name, hypothesis_name, count_of, past, entry_of_sort, entry, name_or_blank}
 use Rattle.theory_printing.specs.Phrases.{op_sign, right_of, literal_place}
@@ -68,7 +71,11 @@ pub lex_name : (name : List ℕ) → IsName name → LexesPhrase (one (a_name na
 unfolding bytes_of
 lex_name name h rest e text pre t =
     record {
-      spoken = record { token = record { kind = kinds.Name; from = length pre; to = length pre + length name }; is = refl; bytes = its_bytes text pre name rest t };
+      spoken = record {
+        token = record { kind = kinds.Name; from = length pre; to = length pre + length name };
+        is = refl;
+        bytes = its_bytes text pre name rest t;
+      };
       utf8 = h.utf8;
       reads = one_token pre name rest kinds.Name (name_token name rest h e);
     }
@@ -175,6 +182,7 @@ count_fits is_kind index sorts few = le-lt (count_small is_kind (take index sort
     taken zero xs = omega arith
     taken (suc n) [] = omega arith
     taken (suc n) (x ∷ xs) = let shorter = taken n xs in omega (arith, shorter)
+
     le-lt : {a b c d : ℕ} → a ≤ b → b ≤ c → c < d → a < d
     le-lt h k l = omega (arith, h, k, l)
 

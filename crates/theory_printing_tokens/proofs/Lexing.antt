@@ -1,5 +1,6 @@
 -- Pieces that are read as they were printed: each token before what may follow it, and one after the other.
-use Rattle.std.proofs.Common.{◌≡◌, ℕ, zero, suc, ◌+◌, ◌-◌, ◌<◌, ◌^◌, List, [], ◌∷◌, ◌++◌, length, take, drop, Bool, true, false, ◌||◌, ◌&&◌, cond, refl, sym, ◌∙◌, ap, subst, arith, append_assoc}
+use Rattle.std.proofs.Common.{◌≡◌, ℕ, zero, suc, ◌+◌, ◌-◌, ◌<◌, ◌^◌, List, [], ◌∷◌, ◌++◌, length, take, drop, Bool, true, false, ◌||◌, ◌&&◌, cond, refl, sym}
+use Rattle.std.proofs.Common.{◌∙◌, ap, subst, arith, append_assoc}
 use Rattle.std.specs.Prelude.{◌==◌, IsUtf8, not, codes, decimal}
 use Rattle.std.specs.List.{list_all}
 use Rattle.std.specs.Char.{encode_utf8, is_ascii_digit, is_ascii_alphanumeric}
@@ -44,11 +45,17 @@ in_turn {p} {q} {rest} hp hq text pre e =
     let a = hp text pre e1 in
     let b = hq text (pre ++ bytes_of p) (e1 ∙ sym (append_assoc pre (bytes_of p) (bytes_of q ++ rest))) in
     let both = join a.reads b.reads in
-    let ended = subst (λ bs. Reads (length pre) (bytes_of p ++ (bytes_of q ++ rest)) (tokens_of text p a.spoken ++ tokens_of text q b.spoken) (length bs) rest) (append_assoc pre (bytes_of p) (bytes_of q)) both in
+    let ended =
+    subst (λ bs.
+    Reads (length pre) (bytes_of p ++ (bytes_of q ++ rest)) (tokens_of text p a.spoken ++ tokens_of text q b.spoken) (length bs) rest)
+    (append_assoc pre (bytes_of p) (bytes_of q)) both in
     record {
       spoken = (a.spoken, b.spoken);
       utf8 = IsUtf8-append (bytes_of p) (bytes_of q) a.utf8 b.utf8;
-      reads = subst (λ bs. Reads (length pre) bs (tokens_of text p a.spoken ++ tokens_of text q b.spoken) (length (pre ++ (bytes_of p ++ bytes_of q))) rest) (sym seam) ended;
+      reads =
+          subst (λ bs.
+          Reads (length pre) bs (tokens_of text p a.spoken ++ tokens_of text q b.spoken) (length (pre ++ (bytes_of p ++ bytes_of q))) rest)
+          (sym seam) ended;
     }
 
 pub deep : {p : Printed} {rest : List ℕ} → Lexes p rest → Lexes (deeper p) rest
@@ -90,4 +97,3 @@ its_bytes text pre piece rest e =
     let cut : drop (length pre) text ≡ piece ++ rest = ap (λ t. drop (length pre) t) e ∙ drop-append_seam pre (piece ++ rest) in
     let size : length pre + length piece - length pre ≡ length piece = omega arith in
     ap (λ t. take (length pre + length piece - length pre) t) cut ∙ ap (λ n. take n (piece ++ rest)) size ∙ take-append_seam piece rest
-

@@ -46,8 +46,16 @@ sign_token signs.DotSign rest h = sign (record { is = refl; longest = λ b more 
 sign_token signs.EqualSign [] h = absurd (cc h)
 sign_token signs.EqualSign (c ∷ rest) h =
     by_byte (λ b. IsToken (61 ∷ []) (b ∷ rest) (kinds.Sign signs.EqualSign)) c h
-    (sign (record { is = refl; longest = λ b more after e. let same : 32 ≡ b = cc in subst (λ y. lookup sign_table (61 ∷ y ∷ more) ≡ None) same refl; no_comment = λ after e. cc }))
-    (sign (record { is = refl; longest = λ b more after e. let same : 91 ≡ b = cc in subst (λ y. lookup sign_table (61 ∷ y ∷ more) ≡ None) same refl; no_comment = λ after e. cc }))
+    (sign (record {
+      is = refl;
+      longest = λ b more after e. let same : 32 ≡ b = cc in subst (λ y. lookup sign_table (61 ∷ y ∷ more) ≡ None) same refl;
+      no_comment = λ after e. cc;
+    }))
+    (sign (record {
+      is = refl;
+      longest = λ b more after e. let same : 91 ≡ b = cc in subst (λ y. lookup sign_table (61 ∷ y ∷ more) ≡ None) same refl;
+      no_comment = λ after e. cc;
+    }))
 sign_token signs.ImpliesSign rest h = sign (record { is = refl; longest = λ b more after e. refl; no_comment = λ after e. cc })
 sign_token signs.ArrowSign rest h = sign (record { is = refl; longest = λ b more after e. refl; no_comment = λ after e. cc })
 sign_token signs.LeftArrowSign rest h = sign (record { is = refl; longest = λ b more after e. refl; no_comment = λ after e. cc })
@@ -56,27 +64,59 @@ sign_token signs.PlusSign rest h = sign (record { is = refl; longest = λ b more
 sign_token signs.MinusSign [] h = absurd (cc h)
 sign_token signs.MinusSign (c ∷ rest) h =
     by_byte (λ b. IsToken (45 ∷ []) (b ∷ rest) (kinds.Sign signs.MinusSign)) c h
-    (sign (record { is = refl; longest = λ b more after e. let same : 32 ≡ b = cc in subst (λ y. lookup sign_table (45 ∷ y ∷ more) ≡ None) same refl; no_comment = λ after e. cc }))
-    (sign (record { is = refl; longest = λ b more after e. let same : 91 ≡ b = cc in subst (λ y. lookup sign_table (45 ∷ y ∷ more) ≡ None) same refl; no_comment = λ after e. cc }))
+    (sign (record {
+      is = refl;
+      longest = λ b more after e. let same : 32 ≡ b = cc in subst (λ y. lookup sign_table (45 ∷ y ∷ more) ≡ None) same refl;
+      no_comment = λ after e. cc;
+    }))
+    (sign (record {
+      is = refl;
+      longest = λ b more after e. let same : 91 ≡ b = cc in subst (λ y. lookup sign_table (45 ∷ y ∷ more) ≡ None) same refl;
+      no_comment = λ after e. cc;
+    }))
 sign_token signs.StarSign [] h = absurd (cc h)
 sign_token signs.StarSign (c ∷ rest) h =
     by_byte (λ b. IsToken (42 ∷ []) (b ∷ rest) (kinds.Sign signs.StarSign)) c h
-    (sign (record { is = refl; longest = λ b more after e. let same : 32 ≡ b = cc in subst (λ y. lookup sign_table (42 ∷ y ∷ more) ≡ None) same refl; no_comment = λ after e. cc }))
-    (sign (record { is = refl; longest = λ b more after e. let same : 91 ≡ b = cc in subst (λ y. lookup sign_table (42 ∷ y ∷ more) ≡ None) same refl; no_comment = λ after e. cc }))
+    (sign (record {
+      is = refl;
+      longest = λ b more after e. let same : 32 ≡ b = cc in subst (λ y. lookup sign_table (42 ∷ y ∷ more) ≡ None) same refl;
+      no_comment = λ after e. cc;
+    }))
+    (sign (record {
+      is = refl;
+      longest = λ b more after e. let same : 91 ≡ b = cc in subst (λ y. lookup sign_table (42 ∷ y ∷ more) ≡ None) same refl;
+      no_comment = λ after e. cc;
+    }))
 sign_token signs.AmpersandSign rest h = sign (record { is = refl; longest = λ b more after e. refl; no_comment = λ after e. cc })
 sign_token signs.BarSign [] h = absurd (cc h)
 sign_token signs.BarSign (c ∷ rest) h =
     by_byte (λ b. IsToken (124 ∷ []) (b ∷ rest) (kinds.Sign signs.BarSign)) c h
-    (sign (record { is = refl; longest = λ b more after e. let same : 32 ≡ b = cc in subst (λ y. lookup sign_table (124 ∷ y ∷ more) ≡ None) same refl; no_comment = λ after e. cc }))
-    (sign (record { is = refl; longest = λ b more after e. let same : 91 ≡ b = cc in subst (λ y. lookup sign_table (124 ∷ y ∷ more) ≡ None) same refl; no_comment = λ after e. cc }))
+    (sign (record {
+      is = refl;
+      longest = λ b more after e. let same : 32 ≡ b = cc in subst (λ y. lookup sign_table (124 ∷ y ∷ more) ≡ None) same refl;
+      no_comment = λ after e. cc;
+    }))
+    (sign (record {
+      is = refl;
+      longest = λ b more after e. let same : 91 ≡ b = cc in subst (λ y. lookup sign_table (124 ∷ y ∷ more) ≡ None) same refl;
+      no_comment = λ after e. cc;
+    }))
 sign_token signs.CaretSign rest h = sign (record { is = refl; longest = λ b more after e. refl; no_comment = λ after e. cc })
 sign_token signs.ShiftLeftSign rest h = sign (record { is = refl; longest = λ b more after e. refl; no_comment = λ after e. cc })
 sign_token signs.ShiftRightSign rest h = sign (record { is = refl; longest = λ b more after e. refl; no_comment = λ after e. cc })
 sign_token signs.LessSign [] h = absurd (cc h)
 sign_token signs.LessSign (c ∷ rest) h =
     by_byte (λ b. IsToken (60 ∷ []) (b ∷ rest) (kinds.Sign signs.LessSign)) c h
-    (sign (record { is = refl; longest = λ b more after e. let same : 32 ≡ b = cc in subst (λ y. lookup sign_table (60 ∷ y ∷ more) ≡ None) same refl; no_comment = λ after e. cc }))
-    (sign (record { is = refl; longest = λ b more after e. let same : 91 ≡ b = cc in subst (λ y. lookup sign_table (60 ∷ y ∷ more) ≡ None) same refl; no_comment = λ after e. cc }))
+    (sign (record {
+      is = refl;
+      longest = λ b more after e. let same : 32 ≡ b = cc in subst (λ y. lookup sign_table (60 ∷ y ∷ more) ≡ None) same refl;
+      no_comment = λ after e. cc;
+    }))
+    (sign (record {
+      is = refl;
+      longest = λ b more after e. let same : 91 ≡ b = cc in subst (λ y. lookup sign_table (60 ∷ y ∷ more) ≡ None) same refl;
+      no_comment = λ after e. cc;
+    }))
 sign_token signs.DoubleStarSign rest h = sign (record { is = refl; longest = λ b more after e. refl; no_comment = λ after e. cc })
 sign_token signs.AndSign rest h = sign (record { is = refl; longest = λ b more after e. refl; no_comment = λ after e. cc })
 sign_token signs.OrSign rest h = sign (record { is = refl; longest = λ b more after e. refl; no_comment = λ after e. cc })

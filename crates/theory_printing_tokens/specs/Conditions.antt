@@ -1,7 +1,8 @@
 -- Which trees have a text: what is printed of them in a scope is read back there. Each index names an entry or a
 -- hypothesis that may stand at its place, each number a value or a recursive predicate; there is no definition and no
 -- made function; a block has statements, and doesn't end in a block.
-use Rattle.std.specs.Prelude.{◌≡◌, Bool, ℕ, zero, suc, ◌^◌, ◌<◌, false, List, [], ◌∷◌, length, Option, Some, None, IsUtf8, slice_get, true}
+use Rattle.std.specs.Prelude.{◌≡◌, Bool, ℕ, zero, suc, ◌^◌, ◌<◌, false, List, [], ◌∷◌, length, Option, Some, None}
+use Rattle.std.specs.Prelude.{IsUtf8, slice_get, true}
 use Rattle.std.specs.List.{list_all}
 use Rattle.std.specs.Str.{encode_utf8_all}
 use Rattle.unicode_ident.specs.Ident.{is_xid_continue}
@@ -13,9 +14,11 @@ use Rattle.htt_syntax.specs.Trees.{m_pair, m_var, y_mono, y_fun, y_all, y_hoare,
 use Rattle.htt_syntax.specs.Trees.{t_app, t_inst, t_lam, t_lam_t, t_do, t_fix, t_word, t_bool, t_loc, t_unit, t_pair}
 use Rattle.htt_syntax.specs.Trees.{t_fst, t_snd, t_not, t_bin, t_eq, t_sel, t_ann, t_made, t_at, x_param, x_body, c_ret}
 use Rattle.htt_syntax.specs.Trees.{c_step, s_run, s_alloc, s_get, s_set, s_free, s_if, s_claim, f_tt, f_ff, f_and, f_or}
-use Rattle.htt_syntax.specs.Trees.{f_imp, f_all_t, f_ex_t, f_all_h, f_ex_h, f_emp, f_cell, f_block, f_join, f_same, f_eq}
+use Rattle.htt_syntax.specs.Trees.{f_imp, f_all_t, f_ex_t, f_all_h, f_ex_h, f_emp, f_cell, f_block, f_join, f_same}
+use Rattle.htt_syntax.specs.Trees.{f_eq}
 use Rattle.htt_syntax.specs.Trees.{f_at, f_rec, no_terms, more_terms, a_heap, a_term, p_hyp, p_trivial, p_refl, p_first}
-use Rattle.htt_syntax.specs.Trees.{p_second, p_left, p_right, p_absurd, p_both, p_give, p_app, p_inst, p_case, p_rewrite}
+use Rattle.htt_syntax.specs.Trees.{p_second, p_left, p_right, p_absurd, p_both, p_give, p_app, p_inst, p_case}
+use Rattle.htt_syntax.specs.Trees.{p_rewrite}
 use Rattle.htt_syntax.specs.Trees.{p_induct, p_split, p_axiom, p_lem, p_the, p_block, p_at, p_unfold, d_intro, d_gen}
 use Rattle.htt_syntax.specs.Trees.{d_have, d_open, d_at, b_then, b_end}
 use Rattle.theory_text_names.specs.Scopes as sorts
@@ -94,7 +97,9 @@ unfoldable mutual
 
   pub HasTextSpec : List ℕ → PrintScope → TripleTree → Type 0
   HasTextSpec counts s (triple P t Q) =
-      HasTextFormula counts (under_mem s) P × HasTextMono counts s t × HasTextFormula counts (under_heaps (with_entry sorts.a_term s)) Q
+      HasTextFormula counts (under_mem s) P
+      × HasTextMono counts s t
+      × HasTextFormula counts (under_heaps (with_entry sorts.a_term s)) Q
 
   pub HasTextTerm : List ℕ → PrintScope → TermTree → Type 0
   HasTextTerm counts s (t_var index) = IsTermEntry s index
@@ -115,7 +120,8 @@ unfoldable mutual
   HasTextTerm counts s (t_not M) = HasTextTerm counts s M
   HasTextTerm counts s (t_bin op M N) = HasTextTerm counts s M × HasTextTerm counts s N
   HasTextTerm counts s (t_eq t M N) = HasTextMono counts s t × HasTextTerm counts s M × HasTextTerm counts s N
-  HasTextTerm counts s (t_sel t B M N) = HasTextMono counts s t × HasTextTerm counts s B × HasTextTerm counts s M × HasTextTerm counts s N
+  HasTextTerm counts s (t_sel t B M N) =
+      HasTextMono counts s t × HasTextTerm counts s B × HasTextTerm counts s M × HasTextTerm counts s N
   HasTextTerm counts s (t_ann M A) = HasTextTerm counts s M × HasTextTy counts s A
   HasTextTerm counts s (t_at at M) = HasTextTerm counts s M
   HasTextTerm counts s (t_def number) = ⊥
@@ -135,7 +141,8 @@ unfoldable mutual
   HasTextStep counts s (s_get t M) = HasTextMono counts s t × HasTextTerm counts s M
   HasTextStep counts s (s_set t M N) = HasTextMono counts s t × HasTextTerm counts s M × HasTextTerm counts s N
   HasTextStep counts s (s_free t M) = HasTextMono counts s t × HasTextTerm counts s M
-  HasTextStep counts s (s_if t B E E') = HasTextMono counts s t × HasTextTerm counts s B × HasTextComp counts s E × HasTextComp counts s E'
+  HasTextStep counts s (s_if t B E E') =
+      HasTextMono counts s t × HasTextTerm counts s B × HasTextComp counts s E × HasTextComp counts s E'
   HasTextStep counts s (s_claim F) = HasTextFormula counts (under_heaps s) F
 
   pub HasTextFormula : List ℕ → PrintScope → FormulaTree → Type 0
@@ -149,7 +156,8 @@ unfoldable mutual
   HasTextFormula counts s (f_all_h F) = HasTextFormula counts (with_entry sorts.a_heap s) F
   HasTextFormula counts s (f_ex_h F) = HasTextFormula counts (with_entry sorts.a_heap s) F
   HasTextFormula counts s (f_emp h) = IsHeapEntry s h
-  HasTextFormula counts s (f_cell t h M N) = HasTextMono counts s t × IsHeapEntry s h × HasTextTerm counts s M × HasTextTerm counts s N
+  HasTextFormula counts s (f_cell t h M N) =
+      HasTextMono counts s t × IsHeapEntry s h × HasTextTerm counts s M × HasTextTerm counts s N
   HasTextFormula counts s (f_block t h M) = HasTextMono counts s t × IsHeapEntry s h × HasTextTerm counts s M
   HasTextFormula counts s (f_join h a b) = IsHeapEntry s h × IsHeapEntry s a × IsHeapEntry s b
   HasTextFormula counts s (f_same h k) = IsHeapEntry s h × IsHeapEntry s k
@@ -209,9 +217,15 @@ unfoldable mutual
   HasTextProof counts s (p_rewrite p C q) =
       HasTextProof counts s p × HasTextFormula counts (with_entry a_term_or_heap s) C × HasTextProof counts s q
   HasTextProof counts s (p_induct C M p q) =
-      HasTextFormula counts (with_entry a_term_or_heap s) C × HasTextTerm counts s M × HasTextProof counts s p × HasTextProof counts (under_next s) q
+      HasTextFormula counts (with_entry a_term_or_heap s) C
+      × HasTextTerm counts s M
+      × HasTextProof counts s p
+      × HasTextProof counts (under_next s) q
   HasTextProof counts s (p_split C M p q) =
-      HasTextFormula counts (with_entry a_term_or_heap s) C × HasTextTerm counts s M × HasTextProof counts s p × HasTextProof counts s q
+      HasTextFormula counts (with_entry a_term_or_heap s) C
+      × HasTextTerm counts s M
+      × HasTextProof counts s p
+      × HasTextProof counts s q
   HasTextProof counts s (p_axiom c ts more) = IsName c × HasTextMonos counts s ts × HasTextArgs counts s more
   HasTextProof counts s (p_unfold number at_next more) =
       HasName (slice_get s.recs number) × (at_next < 2 ^ 64) × AreSome more × HasTextArgs counts s more

@@ -16,5 +16,9 @@ pub record HasPrintedTokens (p : Printed) : Type 0 where
 
 pub record PrintedTokens : Type 0 where
   pub types : (counts : List ℕ) (s : PrintScope) (A : TyTree) → HasTextTy counts s A → HasPrintedTokens (ty s A)
-  pub formulas : (counts : List ℕ) (s : PrintScope) (F : FormulaTree) → HasTextFormula counts s F → HasPrintedTokens (formula s F)
-  pub proofs : (counts : List ℕ) (s : PrintScope) (p : ProofTree) → HasTextProof counts s p → HasPrintedTokens (proof s p)
+  pub formulas : (counts : List ℕ) (s : PrintScope) (F : FormulaTree)
+      → HasTextFormula counts s F
+      → HasPrintedTokens (formula s F)
+  pub proofs : (counts : List ℕ) (s : PrintScope) (p : ProofTree)
+      → HasTextProof counts s p
+      → HasPrintedTokens (proof s p)

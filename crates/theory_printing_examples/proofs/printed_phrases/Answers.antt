@@ -1,4 +1,5 @@
-use Rattle.theory_printing_examples.proofs.Printed.{printed_monotypes, printed_types, printed_terms, printed_operands, printed_steps, printed_formulas, printed_connectives, printed_heaps}
+use Rattle.theory_printing_examples.proofs.Printed.{printed_monotypes, printed_types, printed_terms, printed_operands, printed_steps, printed_formulas}
+use Rattle.theory_printing_examples.proofs.Printed.{printed_connectives, printed_heaps}
 use Rattle.theory_printing_examples.proofs.printed_phrases.Goals as goal
 
 pub returns-clause-monotypes : goal.returns-clause-monotypes
