@@ -1,0 +1,4 @@
+pub mod Saturation
+pub mod Sizes
+pub mod Depths
+pub mod Lists
