@@ -73,18 +73,24 @@ fn compare(one: &Skeleton, other: &Skeleton) -> bool
     ensures compared { result ≡ same_skeletons (skeleton_tree one.now) (skeleton_tree other.now) }
 {
     match one {
-        Skeleton::O => matches!(other, Skeleton::O),
-        Skeleton::C => matches!(other, Skeleton::C),
+        Skeleton::O => match other {
+            Skeleton::O => true,
+            Skeleton::C | Skeleton::Arrow(_, _) | Skeleton::All(_) => false,
+        },
+        Skeleton::C => match other {
+            Skeleton::C => true,
+            Skeleton::O | Skeleton::Arrow(_, _) | Skeleton::All(_) => false,
+        },
         Skeleton::Arrow(argument, answer) => match other {
             Skeleton::Arrow(other_argument, other_answer) => {
                 compare(argument.get(), other_argument.get())
                     && compare(answer.get(), other_answer.get())
             }
-            _ => false,
+            Skeleton::O | Skeleton::C | Skeleton::All(_) => false,
         },
         Skeleton::All(body) => match other {
             Skeleton::All(other_body) => compare(body.get(), other_body.get()),
-            _ => false,
+            Skeleton::O | Skeleton::C | Skeleton::Arrow(_, _) => false,
         },
     }
 }

@@ -19,3 +19,6 @@ pub use counts::{
     term_size, ty_depth, ty_size,
 };
 pub use proof_counts::{proof_depth, proof_size};
+
+#[cfg(test)]
+mod tests;

@@ -9,6 +9,7 @@ use htt_syntax_walk::Action;
 use std::alloc::{AllocError, Global};
 
 /// The action that lets the variables from `from` on go past `by` more entries.
+#[derive(Drop)]
 pub struct Past {
     pub from: u32,
     pub by: u32,
