@@ -15,7 +15,7 @@ pub use form::{
 };
 pub use operation::Operation;
 pub use row::Row;
-pub use slots::{Slot, Slots, kind, slots};
+pub use slots::{Slot, Slots, kind_of, slots_of};
 
 /// The tree of a form is of the form's kind.
 pub fn rows_are_of_their_kind()

@@ -92,7 +92,7 @@ fn four(first: Slot, second: Slot, third: Slot, fourth: Slot) -> Slots
 
 /// The slots of the form.
 #[tactic(auto, unfolding(crate::specs::Forms::slots))]
-pub fn slots(form: Form) -> Slots
+pub fn slots_of(form: Form) -> Slots
     ensures slots { result ≡ forms.slots form }
 {
     match form {
@@ -247,7 +247,7 @@ fn formula_slots(form: FormulaForm) -> Slots
 
 /// What a row of the form is of.
 #[tactic(auto, unfolding(crate::specs::Forms::kind))]
-pub fn kind(form: Form) -> Kind
+pub fn kind_of(form: Form) -> Kind
     ensures kind { result ≡ forms.kind form }
 {
     match form {
