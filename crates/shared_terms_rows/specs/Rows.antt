@@ -5,6 +5,7 @@ use Rattle.htt_syntax.specs.Trees.{t_unit}
 use Rattle.shared_terms_rows.specs.declared.form.Kind.{Kind}
 use Rattle.shared_terms_rows.specs.declared.form.Kind.TheVariants as kinds
 use Rattle.shared_terms_rows.specs.declared.slots.Slot.{Slot}
+use Rattle.shared_terms_rows.specs.declared.slots.Slots.{Slots}
 use Rattle.shared_terms_rows.specs.declared.row.Row.{Row}
 use Rattle.shared_terms_rows.specs.Parts.{Part, of_term, kind_of, build}
 use Rattle.shared_terms_rows.specs.Forms.{slots}
@@ -19,21 +20,26 @@ in_slot parts None place = of_term t_unit
 in_slot parts (Some slot) place = at parts place
 
 -- what a row stands for, over the parts before it
+abbrev pub node_in : List Part → Slots → Row → Part
+node_in parts s row =
+    build row.form (in_slot parts s.first row.first) (in_slot parts s.second row.second)
+    (in_slot parts s.third row.third) (in_slot parts s.fourth row.fourth)
+
 abbrev pub node : List Part → Row → Part
-node parts row =
-    build row.form (in_slot parts ((slots row.form).first) row.first)
-    (in_slot parts ((slots row.form).second) row.second)
-    (in_slot parts ((slots row.form).third) row.third) (in_slot parts ((slots row.form).fourth) row.fourth)
+node parts row = node_in parts (slots row.form) row
 
 -- the first place at which a row may stand
 abbrev pub behind : Option Slot → ℕ → ℕ
 behind None place = 0
 behind (Some slot) place = place + 1
 
+abbrev pub bound_in : Slots → Row → ℕ
+bound_in s row =
+    max (max (behind s.first row.first) (behind s.second row.second))
+    (max (behind s.third row.third) (behind s.fourth row.fourth))
+
 abbrev pub bound : Row → ℕ
-bound row =
-    max (max (behind ((slots row.form).first) row.first) (behind ((slots row.form).second) row.second))
-    (max (behind ((slots row.form).third) row.third) (behind ((slots row.form).fourth) row.fourth))
+bound row = bound_in (slots row.form) row
 
 abbrev pub number : Kind → ℕ
 number kinds.Skeleton = 0
@@ -52,10 +58,13 @@ abbrev pub slot_fits : List Part → Option Slot → ℕ → Bool
 slot_fits parts None place = nat_eq place 0
 slot_fits parts (Some slot) place = nat_eq (number (kind_of (at parts place))) (number slot.kind)
 
+abbrev pub fits_in : List Part → Slots → Row → Bool
+fits_in parts s row =
+    (slot_fits parts s.first row.first && slot_fits parts s.second row.second)
+    && (slot_fits parts s.third row.third && slot_fits parts s.fourth row.fourth)
+
 unfoldable pub fits : List Part → Row → Bool
-fits parts row =
-    (slot_fits parts ((slots row.form).first) row.first && slot_fits parts ((slots row.form).second) row.second)
-    && (slot_fits parts ((slots row.form).third) row.third && slot_fits parts ((slots row.form).fourth) row.fourth)
+fits parts row = fits_in parts (slots row.form) row
 
 -- what rows stand for, behind the parts that stand already
 unfoldable pub stood_for : List Part → List Row → List Part

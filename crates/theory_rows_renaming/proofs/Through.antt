@@ -18,7 +18,7 @@ use Rattle.shared_terms_rows.specs.declared.form.CompForm.TheVariants as comp
 use Rattle.shared_terms_rows.specs.declared.form.StepForm.TheVariants as step
 use Rattle.shared_terms_rows.specs.declared.form.FormulaForm.TheVariants as formula
 use Rattle.shared_terms_rows.specs.Parts.{Part, of_skeleton, of_mono, of_ty, of_triple, of_term, of_terms, of_fix, of_comp, of_step, of_formula, as_skeleton}
-use Rattle.shared_terms_rows.specs.Parts.{as_mono, as_ty, as_triple, as_term, as_terms, as_fix, as_comp, as_step, as_formula, op_of, build}
+use Rattle.shared_terms_rows.specs.Parts.{as_mono, as_ty, as_triple, as_term, as_terms, as_fix, as_comp, as_step, as_formula, op_of, build, kind_of}
 use Rattle.shared_terms_rows.specs.Forms.{slots}
 use Rattle.theory_rows_renaming.specs.Renaming.{rename_part, rename_form, rename_slot}
 use Rattle.theory_rows_renaming.specs.Laws.{RenamedSlotBySlot}
@@ -227,3 +227,74 @@ renamed_slot_by_slot m (form.Formula (formula.Same left right)) a b c d = refl
 renamed_slot_by_slot m (form.Formula formula.Eq) a b c d = λ j. of_formula (f_eq (mono_through m a j) (term_through m b j) (term_through m c j))
 renamed_slot_by_slot m (form.Formula (formula.At at)) a b c d = λ j. of_formula (f_at at (formula_through m a j))
 renamed_slot_by_slot m (form.Formula (formula.Rec number heap)) a b c d = λ j. of_formula (f_rec number (m heap) (term_through m a j) (terms_through m b j))
+
+-- A renamed form has the same slots, and a renamed part is of the same kind.
+pub slots_renamed : (m : Map) (f : Form) → slots (rename_form m f) ≡ slots f
+unfolding rename_form slots
+slots_renamed m (form.Mono mono.Word) = refl
+slots_renamed m (form.Mono mono.Bool) = refl
+slots_renamed m (form.Mono mono.Loc) = refl
+slots_renamed m (form.Mono mono.Unit) = refl
+slots_renamed m (form.Mono mono.Pair) = refl
+slots_renamed m (form.Mono (mono.Var index)) = refl
+slots_renamed m form.Triple = refl
+slots_renamed m (form.Term (term.Var index)) = refl
+slots_renamed m (form.Term (term.Val number)) = refl
+slots_renamed m (form.Term (term.Def number)) = refl
+slots_renamed m (form.Term term.App) = refl
+slots_renamed m (form.Term term.Inst) = refl
+slots_renamed m (form.Term term.Lam) = refl
+slots_renamed m (form.Term term.LamT) = refl
+slots_renamed m (form.Term term.Do) = refl
+slots_renamed m (form.Term (term.Fix at)) = refl
+slots_renamed m (form.Term (term.Word word)) = refl
+slots_renamed m (form.Term (term.Bool truth)) = refl
+slots_renamed m (form.Term (term.Loc place)) = refl
+slots_renamed m (form.Term term.Unit) = refl
+slots_renamed m (form.Term term.Pair) = refl
+slots_renamed m (form.Term term.Fst) = refl
+slots_renamed m (form.Term term.Snd) = refl
+slots_renamed m (form.Term term.Un) = refl
+slots_renamed m (form.Term (term.Bin op)) = refl
+slots_renamed m (form.Term term.Eq) = refl
+slots_renamed m (form.Term term.Sel) = refl
+slots_renamed m (form.Term term.Ann) = refl
+slots_renamed m (form.Term (term.Made number)) = refl
+slots_renamed m (form.Term (term.At at)) = refl
+slots_renamed m form.NoTerms = refl
+slots_renamed m form.MoreTerms = refl
+slots_renamed m (form.Formula formula.Tt) = refl
+slots_renamed m (form.Formula formula.Ff) = refl
+slots_renamed m (form.Formula formula.And) = refl
+slots_renamed m (form.Formula formula.Or) = refl
+slots_renamed m (form.Formula formula.Imp) = refl
+slots_renamed m (form.Formula formula.AllT) = refl
+slots_renamed m (form.Formula formula.ExT) = refl
+slots_renamed m (form.Formula formula.AllH) = refl
+slots_renamed m (form.Formula formula.ExH) = refl
+slots_renamed m (form.Formula (formula.Emp heap)) = refl
+slots_renamed m (form.Formula (formula.Cell heap)) = refl
+slots_renamed m (form.Formula (formula.Block heap)) = refl
+slots_renamed m (form.Formula (formula.Join whole left right)) = refl
+slots_renamed m (form.Formula (formula.Same left right)) = refl
+slots_renamed m (form.Formula formula.Eq) = refl
+slots_renamed m (form.Formula (formula.At at)) = refl
+slots_renamed m (form.Formula (formula.Rec number heap)) = refl
+slots_renamed m (form.Skeleton f) = refl
+slots_renamed m (form.Ty f) = refl
+slots_renamed m (form.Fix f) = refl
+slots_renamed m (form.Comp f) = refl
+slots_renamed m (form.Step f) = refl
+
+pub kind_renamed : (m : Map) (a : Part) → kind_of (rename_part m a) ≡ kind_of a
+unfolding rename_part
+kind_renamed m (of_skeleton x) = refl
+kind_renamed m (of_mono x) = refl
+kind_renamed m (of_ty x) = refl
+kind_renamed m (of_triple x) = refl
+kind_renamed m (of_term x) = refl
+kind_renamed m (of_terms x) = refl
+kind_renamed m (of_fix x) = refl
+kind_renamed m (of_comp x) = refl
+kind_renamed m (of_step x) = refl
+kind_renamed m (of_formula x) = refl
