@@ -95,7 +95,7 @@ as_comp _ = c_ret t_unit
 
 abbrev pub as_step : Part → StepTree
 as_step (of_step x) = x
-as_step _ = s_claim f_tt
+as_step _ = s_get m_unit t_unit
 
 abbrev pub as_formula : Part → FormulaTree
 as_formula (of_formula x) = x
