@@ -11,13 +11,15 @@ use Rattle.htt_syntax.specs.Trees.{f_join, f_same, f_eq, f_at, f_rec, no_terms, 
 use Rattle.htt_syntax.specs.Trees.{p_trivial, p_refl, p_first, p_second, p_left, p_right, p_absurd, p_both, p_give}
 use Rattle.htt_syntax.specs.Trees.{p_app, p_inst, p_case, p_rewrite, p_induct, p_split, p_axiom, p_lem, p_the}
 use Rattle.htt_syntax.specs.Trees.{p_block, p_at, p_unfold, d_intro, d_gen, d_have, d_open, d_at, b_then, b_end}
-use Rattle.htt_syntax_counts.specs.Tally.{saturated, over, tally_mono, tally_option, tally_ty, tally_triple, tally_term, within_fix, within_comp, tally_step}
+use Rattle.theory_saturation.specs.Saturation.{saturated}
+use Rattle.theory_saturation.proofs.Sums.{fit, greater_of}
+use Rattle.htt_syntax_counts.specs.Tally.{over, tally_mono, tally_option, tally_ty, tally_triple, tally_term, within_fix, within_comp, tally_step}
 use Rattle.htt_syntax_counts.specs.Tally.{tally_formula, tally_terms, tally_arg, tally_proof, tally_stmt, within_block}
 use Rattle.htt_syntax_counts.specs.Joins.{greater}
 use Rattle.theory_counts.specs.Depth.{depth_mono, depth_option, depth_monos, depth_ty, depth_triple, depth_term, depth_step, depth_formula, depth_terms}
 use Rattle.theory_counts.specs.Depth.{depth_arg, depth_args, depth_proof, depth_stmt}
 use Rattle.theory_counts.specs.Depth as depth
-use Rattle.htt_syntax_counts.proofs.Saturation.{fit, up, deeper_of}
+use Rattle.htt_syntax_counts.proofs.Saturation.{up}
 
 pub mono_deep : (t : MonoTree) → tally_mono greater t ≡ saturated (depth_mono t)
 unfolding tally_mono depth_mono
@@ -25,7 +27,7 @@ mono_deep m_word = refl
 mono_deep m_bool = refl
 mono_deep m_loc = refl
 mono_deep m_unit = refl
-mono_deep (m_pair left right) = up (deeper_of (mono_deep left) (mono_deep right))
+mono_deep (m_pair left right) = up (greater_of (mono_deep left) (mono_deep right))
 mono_deep (m_var index) = refl
 
 pub option_deep : (t : Option MonoTree) → tally_option greater t ≡ saturated (depth_option t)
@@ -38,20 +40,20 @@ mutual
 
   pub ty_deep : (t : TyTree) → tally_ty greater t ≡ saturated (depth_ty t)
   ty_deep (y_mono mono) = up (mono_deep mono)
-  ty_deep (y_fun argument answer) = up (deeper_of (ty_deep argument) (ty_deep answer))
+  ty_deep (y_fun argument answer) = up (greater_of (ty_deep argument) (ty_deep answer))
   ty_deep (y_all body) = up (ty_deep body)
   ty_deep (y_hoare spec) = up (triple_deep spec)
   ty_deep (y_at at ty) = ty_deep ty
 
   pub triple_deep : (t : TripleTree) → tally_triple greater t ≡ saturated (depth_triple t)
-  triple_deep (triple pre mono post) = up (deeper_of (formula_deep pre) (deeper_of (mono_deep mono) (formula_deep post)))
+  triple_deep (triple pre mono post) = up (greater_of (formula_deep pre) (greater_of (mono_deep mono) (formula_deep post)))
 
   pub term_deep : (t : TermTree) → tally_term greater t ≡ saturated (depth_term t)
   term_deep (t_var index) = refl
   term_deep (t_val number) = refl
   term_deep (t_def number) = refl
-  term_deep (t_app function argument) = up (deeper_of (term_deep function) (term_deep argument))
-  term_deep (t_inst function mono) = up (deeper_of (term_deep function) (mono_deep mono))
+  term_deep (t_app function argument) = up (greater_of (term_deep function) (term_deep argument))
+  term_deep (t_inst function mono) = up (greater_of (term_deep function) (mono_deep mono))
   term_deep (t_lam body) = up (term_deep body)
   term_deep (t_lam_t body) = up (term_deep body)
   term_deep (t_do comp) = up (comp_whole comp)
@@ -60,67 +62,67 @@ mutual
   term_deep (t_bool truth) = refl
   term_deep (t_loc place) = refl
   term_deep t_unit = refl
-  term_deep (t_pair left right) = up (deeper_of (term_deep left) (term_deep right))
+  term_deep (t_pair left right) = up (greater_of (term_deep left) (term_deep right))
   term_deep (t_fst pair) = up (term_deep pair)
   term_deep (t_snd pair) = up (term_deep pair)
   term_deep (t_not term) = up (term_deep term)
-  term_deep (t_bin op left right) = up (deeper_of (term_deep left) (term_deep right))
-  term_deep (t_eq mono left right) = up (deeper_of (mono_deep mono) (deeper_of (term_deep left) (term_deep right)))
+  term_deep (t_bin op left right) = up (greater_of (term_deep left) (term_deep right))
+  term_deep (t_eq mono left right) = up (greater_of (mono_deep mono) (greater_of (term_deep left) (term_deep right)))
   term_deep (t_sel mono test on_true on_false) =
-      up (deeper_of (mono_deep mono) (deeper_of (term_deep test) (deeper_of (term_deep on_true) (term_deep on_false))))
-  term_deep (t_ann term ty) = up (deeper_of (term_deep term) (ty_deep ty))
+      up (greater_of (mono_deep mono) (greater_of (term_deep test) (greater_of (term_deep on_true) (term_deep on_false))))
+  term_deep (t_ann term ty) = up (greater_of (term_deep term) (ty_deep ty))
   term_deep (t_made number values) = up (terms_whole values)
   term_deep (t_at at term) = term_deep term
 
   fix_after : (t : FixTree) (n a : ℕ) → a ≡ saturated n → within_fix greater a t ≡ saturated (max n (depth.within_fix t))
   fix_after (x_param ty others) n a p =
-      fit (omega arith) (fix_after others (max n (depth_ty ty)) (greater a (tally_ty greater ty)) (deeper_of p (ty_deep ty)))
-  fix_after (x_body spec comp) n a p = deeper_of p (deeper_of (triple_deep spec) (comp_whole comp))
+      fit (omega arith) (fix_after others (max n (depth_ty ty)) (greater a (tally_ty greater ty)) (greater_of p (ty_deep ty)))
+  fix_after (x_body spec comp) n a p = greater_of p (greater_of (triple_deep spec) (comp_whole comp))
 
   pub fix_whole : (t : FixTree) → over (within_fix greater 0 t) ≡ saturated (suc (depth.within_fix t))
   fix_whole t = fit (omega arith) (up (fix_after t 0 0 refl))
 
   comp_after : (t : CompTree) (n a : ℕ) → a ≡ saturated n → within_comp greater a t ≡ saturated (max n (depth.within_comp t))
-  comp_after (c_ret term) n a p = deeper_of p (term_deep term)
+  comp_after (c_ret term) n a p = greater_of p (term_deep term)
   comp_after (c_step step others) n a p =
-      fit (omega arith) (comp_after others (max n (depth_step step)) (greater a (tally_step greater step)) (deeper_of p (step_deep step)))
+      fit (omega arith) (comp_after others (max n (depth_step step)) (greater a (tally_step greater step)) (greater_of p (step_deep step)))
 
   pub comp_whole : (t : CompTree) → over (within_comp greater 0 t) ≡ saturated (suc (depth.within_comp t))
   comp_whole t = fit (omega arith) (up (comp_after t 0 0 refl))
 
   pub step_deep : (t : StepTree) → tally_step greater t ≡ saturated (depth_step t)
-  step_deep (s_run term mono) = up (deeper_of (term_deep term) (option_deep mono))
-  step_deep (s_alloc mono value) = up (deeper_of (mono_deep mono) (term_deep value))
-  step_deep (s_get mono place) = up (deeper_of (mono_deep mono) (term_deep place))
-  step_deep (s_set mono place value) = up (deeper_of (mono_deep mono) (deeper_of (term_deep place) (term_deep value)))
-  step_deep (s_free mono place) = up (deeper_of (mono_deep mono) (term_deep place))
+  step_deep (s_run term mono) = up (greater_of (term_deep term) (option_deep mono))
+  step_deep (s_alloc mono value) = up (greater_of (mono_deep mono) (term_deep value))
+  step_deep (s_get mono place) = up (greater_of (mono_deep mono) (term_deep place))
+  step_deep (s_set mono place value) = up (greater_of (mono_deep mono) (greater_of (term_deep place) (term_deep value)))
+  step_deep (s_free mono place) = up (greater_of (mono_deep mono) (term_deep place))
   step_deep (s_if mono test on_true on_false) =
-      up (deeper_of (mono_deep mono) (deeper_of (term_deep test) (deeper_of (comp_whole on_true) (comp_whole on_false))))
+      up (greater_of (mono_deep mono) (greater_of (term_deep test) (greater_of (comp_whole on_true) (comp_whole on_false))))
   step_deep (s_claim formula) = up (formula_deep formula)
 
   pub formula_deep : (t : FormulaTree) → tally_formula greater t ≡ saturated (depth_formula t)
   formula_deep f_tt = refl
   formula_deep f_ff = refl
-  formula_deep (f_and left right) = up (deeper_of (formula_deep left) (formula_deep right))
-  formula_deep (f_or left right) = up (deeper_of (formula_deep left) (formula_deep right))
-  formula_deep (f_imp left right) = up (deeper_of (formula_deep left) (formula_deep right))
-  formula_deep (f_all_t mono body) = up (deeper_of (mono_deep mono) (formula_deep body))
-  formula_deep (f_ex_t mono body) = up (deeper_of (mono_deep mono) (formula_deep body))
+  formula_deep (f_and left right) = up (greater_of (formula_deep left) (formula_deep right))
+  formula_deep (f_or left right) = up (greater_of (formula_deep left) (formula_deep right))
+  formula_deep (f_imp left right) = up (greater_of (formula_deep left) (formula_deep right))
+  formula_deep (f_all_t mono body) = up (greater_of (mono_deep mono) (formula_deep body))
+  formula_deep (f_ex_t mono body) = up (greater_of (mono_deep mono) (formula_deep body))
   formula_deep (f_all_h body) = up (formula_deep body)
   formula_deep (f_ex_h body) = up (formula_deep body)
   formula_deep (f_emp heap) = refl
-  formula_deep (f_cell mono heap place value) = up (deeper_of (mono_deep mono) (deeper_of (term_deep place) (term_deep value)))
-  formula_deep (f_block mono heap place) = up (deeper_of (mono_deep mono) (term_deep place))
+  formula_deep (f_cell mono heap place value) = up (greater_of (mono_deep mono) (greater_of (term_deep place) (term_deep value)))
+  formula_deep (f_block mono heap place) = up (greater_of (mono_deep mono) (term_deep place))
   formula_deep (f_join whole left right) = refl
   formula_deep (f_same left right) = refl
-  formula_deep (f_eq mono left right) = up (deeper_of (mono_deep mono) (deeper_of (term_deep left) (term_deep right)))
+  formula_deep (f_eq mono left right) = up (greater_of (mono_deep mono) (greater_of (term_deep left) (term_deep right)))
   formula_deep (f_at at formula) = formula_deep formula
   formula_deep (f_rec number heap place arguments) = up (terms_after arguments (depth_term place) (tally_term greater place) (term_deep place))
 
   terms_after : (t : TermTrees) (n a : ℕ) → a ≡ saturated n → tally_terms greater a t ≡ saturated (max n (depth_terms t))
   terms_after no_terms n a p = fit (omega arith) p
   terms_after (more_terms first others) n a p =
-      fit (omega arith) (terms_after others (max n (depth_term first)) (greater a (tally_term greater first)) (deeper_of p (term_deep first)))
+      fit (omega arith) (terms_after others (max n (depth_term first)) (greater a (tally_term greater first)) (greater_of p (term_deep first)))
 
   terms_whole : (t : TermTrees) → tally_terms greater 0 t ≡ saturated (depth_terms t)
   terms_whole t = fit (omega arith) (terms_after t 0 0 refl)
@@ -136,7 +138,8 @@ monos_after : (t : List MonoTree) (n a : ℕ)
 unfolding depth_monos
 monos_after [] n a p = fit (omega arith) p
 monos_after (first ∷ others) n a p =
-    fit (omega arith) (monos_after others (max n (depth_mono first)) (greater a (tally_mono greater first)) (deeper_of p (mono_deep first)))
+    fit (omega arith)
+    (monos_after others (max n (depth_mono first)) (greater a (tally_mono greater first)) (greater_of p (mono_deep first)))
 
 monos_whole : (t : List MonoTree) → fold (λ m x. greater m (tally_mono greater x)) 0 t ≡ saturated (depth_monos t)
 monos_whole t = fit (omega arith) (monos_after t 0 0 refl)
@@ -147,7 +150,7 @@ args_after : (t : List ArgTree) (n a : ℕ)
 unfolding depth_args
 args_after [] n a p = fit (omega arith) p
 args_after (first ∷ others) n a p =
-    fit (omega arith) (args_after others (max n (depth_arg first)) (greater a (tally_arg greater first)) (deeper_of p (arg_deep first)))
+    fit (omega arith) (args_after others (max n (depth_arg first)) (greater a (tally_arg greater first)) (greater_of p (arg_deep first)))
 
 args_whole : (t : List ArgTree) → fold (λ m x. greater m (tally_arg greater x)) 0 t ≡ saturated (depth_args t)
 args_whole t = fit (omega arith) (args_after t 0 0 refl)
@@ -164,19 +167,19 @@ mutual
   proof_deep (p_left proof) = up (proof_deep proof)
   proof_deep (p_right proof) = up (proof_deep proof)
   proof_deep (p_absurd proof) = up (proof_deep proof)
-  proof_deep (p_both left right) = up (deeper_of (proof_deep left) (proof_deep right))
-  proof_deep (p_give arg proof) = up (deeper_of (arg_deep arg) (proof_deep proof))
-  proof_deep (p_app function argument) = up (deeper_of (proof_deep function) (proof_deep argument))
-  proof_deep (p_inst proof arg) = up (deeper_of (proof_deep proof) (arg_deep arg))
-  proof_deep (p_case either left right) = up (deeper_of (proof_deep either) (deeper_of (proof_deep left) (proof_deep right)))
-  proof_deep (p_rewrite equation motive proof) = up (deeper_of (proof_deep equation) (deeper_of (formula_deep motive) (proof_deep proof)))
+  proof_deep (p_both left right) = up (greater_of (proof_deep left) (proof_deep right))
+  proof_deep (p_give arg proof) = up (greater_of (arg_deep arg) (proof_deep proof))
+  proof_deep (p_app function argument) = up (greater_of (proof_deep function) (proof_deep argument))
+  proof_deep (p_inst proof arg) = up (greater_of (proof_deep proof) (arg_deep arg))
+  proof_deep (p_case either left right) = up (greater_of (proof_deep either) (greater_of (proof_deep left) (proof_deep right)))
+  proof_deep (p_rewrite equation motive proof) = up (greater_of (proof_deep equation) (greater_of (formula_deep motive) (proof_deep proof)))
   proof_deep (p_induct motive word at_zero at_next) =
-      up (deeper_of (formula_deep motive) (deeper_of (term_deep word) (deeper_of (proof_deep at_zero) (proof_deep at_next))))
+      up (greater_of (formula_deep motive) (greater_of (term_deep word) (greater_of (proof_deep at_zero) (proof_deep at_next))))
   proof_deep (p_split motive test on_true on_false) =
-      up (deeper_of (formula_deep motive) (deeper_of (term_deep test) (deeper_of (proof_deep on_true) (proof_deep on_false))))
-  proof_deep (p_axiom name monos arguments) = up (deeper_of (monos_whole monos) (args_whole arguments))
+      up (greater_of (formula_deep motive) (greater_of (term_deep test) (greater_of (proof_deep on_true) (proof_deep on_false))))
+  proof_deep (p_axiom name monos arguments) = up (greater_of (monos_whole monos) (args_whole arguments))
   proof_deep (p_lem formula) = up (formula_deep formula)
-  proof_deep (p_the formula proof) = up (deeper_of (formula_deep formula) (proof_deep proof))
+  proof_deep (p_the formula proof) = up (greater_of (formula_deep formula) (proof_deep proof))
   proof_deep (p_block block) = up (block_whole block)
   proof_deep (p_at at proof) = proof_deep proof
   proof_deep (p_unfold number case arguments) = up (args_whole arguments)
@@ -184,14 +187,14 @@ mutual
   pub stmt_deep : (t : StmtTree) → tally_stmt greater t ≡ saturated (depth_stmt t)
   stmt_deep d_intro = refl
   stmt_deep d_gen = refl
-  stmt_deep (d_have formula proof) = up (deeper_of (formula_deep formula) (proof_deep proof))
+  stmt_deep (d_have formula proof) = up (greater_of (formula_deep formula) (proof_deep proof))
   stmt_deep (d_open proof) = up (proof_deep proof)
   stmt_deep (d_at at stmt) = stmt_deep stmt
 
   block_after : (t : BlockTree) (n a : ℕ) → a ≡ saturated n → within_block greater a t ≡ saturated (max n (depth.within_block t))
   block_after (b_then stmt others) n a p =
-      fit (omega arith) (block_after others (max n (depth_stmt stmt)) (greater a (tally_stmt greater stmt)) (deeper_of p (stmt_deep stmt)))
-  block_after (b_end proof) n a p = deeper_of p (proof_deep proof)
+      fit (omega arith) (block_after others (max n (depth_stmt stmt)) (greater a (tally_stmt greater stmt)) (greater_of p (stmt_deep stmt)))
+  block_after (b_end proof) n a p = greater_of p (proof_deep proof)
 
   block_whole : (t : BlockTree) → within_block greater 0 t ≡ saturated (depth.within_block t)
   block_whole t = fit (omega arith) (block_after t 0 0 refl)

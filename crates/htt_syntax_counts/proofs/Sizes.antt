@@ -11,12 +11,14 @@ use Rattle.htt_syntax.specs.Trees.{f_join, f_same, f_eq, f_at, f_rec, no_terms, 
 use Rattle.htt_syntax.specs.Trees.{p_trivial, p_refl, p_first, p_second, p_left, p_right, p_absurd, p_both, p_give}
 use Rattle.htt_syntax.specs.Trees.{p_app, p_inst, p_case, p_rewrite, p_induct, p_split, p_axiom, p_lem, p_the}
 use Rattle.htt_syntax.specs.Trees.{p_block, p_at, p_unfold, d_intro, d_gen, d_have, d_open, d_at, b_then, b_end}
-use Rattle.htt_syntax_counts.specs.Tally.{saturated, over, tally_mono, tally_option, tally_ty, tally_triple, tally_term, within_fix, within_comp, tally_step}
+use Rattle.theory_saturation.specs.Saturation.{saturated}
+use Rattle.theory_saturation.proofs.Sums.{fit, two}
+use Rattle.htt_syntax_counts.specs.Tally.{over, tally_mono, tally_option, tally_ty, tally_triple, tally_term, within_fix, within_comp, tally_step}
 use Rattle.htt_syntax_counts.specs.Tally.{tally_formula, tally_terms, tally_arg, tally_proof, tally_stmt, within_block}
 use Rattle.htt_syntax_counts.specs.Joins.{added}
 use Rattle.theory_counts.specs.Nodes.{nodes_mono, nodes_option, nodes_monos, nodes_ty, nodes_triple, nodes_term, nodes_fix, nodes_comp, nodes_step}
 use Rattle.theory_counts.specs.Nodes.{nodes_formula, nodes_terms, nodes_arg, nodes_args, nodes_proof, nodes_stmt, nodes_block}
-use Rattle.htt_syntax_counts.proofs.Saturation.{fit, up, two, over2, over3, over4}
+use Rattle.htt_syntax_counts.proofs.Saturation.{up, over2, over3, over4}
 
 pub mono_sized : (t : MonoTree) → tally_mono added t ≡ saturated (nodes_mono t)
 unfolding tally_mono nodes_mono

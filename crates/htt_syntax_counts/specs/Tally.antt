@@ -1,7 +1,8 @@
 -- A tally: a number for a tree, from the numbers of the parts of each node. Parts that stand side by side
 -- are joined, from the left to the right where they are a list, and a node counts one more. A position
 -- counts nothing, nor does a list. No number passes 2^64 - 1.
-use Rattle.std.specs.Prelude.{ℕ, ◌+◌, ◌-◌, ◌^◌, min, List, fold, Option, Some, None}
+use Rattle.std.specs.Prelude.{ℕ, ◌+◌, List, fold, Option, Some, None}
+use Rattle.theory_saturation.specs.Saturation.{saturated}
 use Rattle.htt_syntax.specs.Trees.{MonoTree, TyTree, TripleTree, TermTree, FixTree, CompTree, StepTree, FormulaTree}
 use Rattle.htt_syntax.specs.Trees.{TermTrees, ArgTree, ProofTree, StmtTree, BlockTree, m_word, m_bool, m_loc, m_unit}
 use Rattle.htt_syntax.specs.Trees.{m_pair, m_var, y_mono, y_fun, y_all, y_hoare, y_at, triple, t_var, t_val, t_def}
@@ -17,9 +18,6 @@ use Rattle.htt_syntax.specs.Trees.{p_block, p_at, p_unfold, d_intro, d_gen, d_ha
 -- How the numbers of two parts that stand side by side come together.
 abbrev pub Join : Type 0
 Join = ℕ → ℕ → ℕ
-
-abbrev pub saturated : ℕ → ℕ
-saturated n = min n (2 ^ 64 - 1)
 
 unfoldable pub over : ℕ → ℕ
 over n = saturated (n + 1)

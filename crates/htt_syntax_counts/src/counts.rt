@@ -5,7 +5,7 @@ ghost use Rattle.htt_syntax.specs.Views.{mono_tree, ty_tree, term_tree, formula_
 ghost use Rattle.htt_syntax.specs.Levels.{comp_tree};
 ghost use Rattle.theory_counts.specs.Nodes.{nodes_mono, nodes_ty, nodes_term, nodes_comp, nodes_formula};
 ghost use Rattle.theory_counts.specs.Depth.{depth_mono, depth_ty, depth_term, depth_comp, depth_formula};
-ghost use Rattle.htt_syntax_counts.specs.Tally.{saturated};
+ghost use Rattle.theory_saturation.specs.Saturation.{saturated};
 
 use crate::computations::tally_comp;
 use crate::formulas::tally_formula;

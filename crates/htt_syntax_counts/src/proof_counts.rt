@@ -4,7 +4,7 @@ ghost use Rattle.std.specs.Prelude.{◌≡◌};
 ghost use Rattle.htt_syntax.specs.ProofViews.{proof_tree};
 ghost use Rattle.theory_counts.specs.Nodes.{nodes_proof};
 ghost use Rattle.theory_counts.specs.Depth.{depth_proof};
-ghost use Rattle.htt_syntax_counts.specs.Tally.{saturated};
+ghost use Rattle.theory_saturation.specs.Saturation.{saturated};
 
 use crate::proofs::tally_proof;
 use crate::tally::{Depth, Nodes};
