@@ -14,8 +14,9 @@ use Rattle.shared_terms_rows.specs.declared.form.StepForm.TheVariants as step
 use Rattle.shared_terms_rows.specs.declared.form.FormulaForm.TheVariants as formula
 use Rattle.shared_terms_rows.specs.declared.form.Kind.TheVariants as kinds
 use Rattle.shared_terms_rows.specs.Parts.{Part, kind_of, of_skeleton, of_mono, of_ty, of_triple, of_term, of_terms, of_fix, of_comp, of_step, of_formula}
-use Rattle.shared_terms_rows.specs.Parts.{as_mono, as_ty, as_triple, as_term, as_terms, as_fix, as_comp, as_step, as_formula, build}
-use Rattle.shared_terms_rows.specs.Forms.{slots}
+use Rattle.shared_terms_rows.specs.Parts.{as_mono, as_ty, as_triple, as_term, as_terms, as_fix, as_comp, as_step, as_formula, build, build_skeleton, build_mono}
+use Rattle.shared_terms_rows.specs.Parts.{build_ty, build_term, build_fix, build_comp, build_step, build_formula}
+use Rattle.shared_terms_rows.specs.Forms.{slots, skeleton_slots, mono_slots, ty_slots, term_slots, fix_slots, comp_slots, step_slots, formula_slots}
 use Rattle.theory_rows_counts.specs.Counts.{nodes_part, own_nodes}
 use Rattle.theory_rows_counts.specs.Laws.{NodesAddUp}
 
@@ -137,7 +138,8 @@ formula_nodes (of_step x) e = absurd (grind arith)
 formula_nodes (of_formula x) e = refl
 
 pub nodes_add_up : NodesAddUp
-unfolding build slots own_nodes nodes_part nodes_mono nodes_option nodes_term
+unfolding build build_skeleton build_mono build_ty build_term build_fix build_comp build_step build_formula slots skeleton_slots mono_slots
+    ty_slots term_slots fix_slots comp_slots step_slots formula_slots own_nodes nodes_part nodes_mono nodes_option nodes_term
 nodes_add_up (form.Skeleton skeleton.O) a b c d h i j k = refl
 nodes_add_up (form.Skeleton skeleton.C) a b c d h i j k = refl
 nodes_add_up (form.Skeleton skeleton.Arrow) a b c d h i j k = refl

@@ -20,8 +20,9 @@ use Rattle.shared_terms_rows.specs.declared.form.CompForm.TheVariants as comp
 use Rattle.shared_terms_rows.specs.declared.form.StepForm.TheVariants as step
 use Rattle.shared_terms_rows.specs.declared.form.FormulaForm.TheVariants as formula
 use Rattle.shared_terms_rows.specs.Parts.{Part, of_skeleton, of_mono, of_ty, of_triple, of_term, of_terms, of_fix, of_comp, of_step, of_formula, as_skeleton}
-use Rattle.shared_terms_rows.specs.Parts.{as_mono, as_ty, as_triple, as_term, as_terms, as_fix, as_comp, as_step, as_formula, op_of, build}
-use Rattle.shared_terms_rows.specs.Forms.{slots}
+use Rattle.shared_terms_rows.specs.Parts.{as_mono, as_ty, as_triple, as_term, as_terms, as_fix, as_comp, as_step, as_formula, op_of, build, build_skeleton}
+use Rattle.shared_terms_rows.specs.Parts.{build_mono, build_ty, build_term, build_fix, build_comp, build_step, build_formula}
+use Rattle.shared_terms_rows.specs.Forms.{slots, skeleton_slots, mono_slots, ty_slots, term_slots, fix_slots, comp_slots, step_slots, formula_slots}
 use Rattle.theory_rows_renaming.specs.Renaming.{rename_form}
 use Rattle.theory_rows_filling.specs.Filling.{fill_part, next_fillings, is_mono_variable}
 use Rattle.theory_rows_filling.specs.Laws.{FilledSlotBySlot}
@@ -157,7 +158,9 @@ formula_through f m (of_step x) = refl
 formula_through f m (of_formula x) = refl
 
 pub filled_slot_by_slot : FilledSlotBySlot
-unfolding build fill_part fill_mono fill_term rename_form slots lifts next_fillings is_mono_variable
+unfolding build build_skeleton build_mono build_ty build_term build_fix build_comp build_step build_formula fill_part fill_mono fill_term
+    rename_form slots skeleton_slots mono_slots ty_slots term_slots fix_slots comp_slots step_slots formula_slots lifts next_fillings
+    is_mono_variable
 filled_slot_by_slot f m (form.Skeleton skeleton.O) e a b c d = refl
 filled_slot_by_slot f m (form.Skeleton skeleton.C) e a b c d = refl
 filled_slot_by_slot f m (form.Skeleton skeleton.Arrow) e a b c d = λ j. of_skeleton (sk_arrow (skeleton_through f m a j) (skeleton_through f m b j))

@@ -19,8 +19,9 @@ use Rattle.shared_terms_rows.specs.declared.form.StepForm.TheVariants as step
 use Rattle.shared_terms_rows.specs.declared.form.FormulaForm.TheVariants as formula
 use Rattle.shared_terms_rows.specs.declared.form.Kind.TheVariants as kinds
 use Rattle.shared_terms_rows.specs.Parts.{Part, of_skeleton, of_mono, of_ty, of_triple, of_term, of_terms, of_fix, of_comp, of_step, of_formula, as_mono, as_ty}
-use Rattle.shared_terms_rows.specs.Parts.{as_triple, as_term, as_terms, as_fix, as_comp, as_step, as_formula, op_of, build, kind_of}
-use Rattle.shared_terms_rows.specs.Forms.{slots}
+use Rattle.shared_terms_rows.specs.Parts.{as_triple, as_term, as_terms, as_fix, as_comp, as_step, as_formula, op_of, build, build_skeleton, build_mono}
+use Rattle.shared_terms_rows.specs.Parts.{build_ty, build_term, build_fix, build_comp, build_step, build_formula, kind_of}
+use Rattle.shared_terms_rows.specs.Forms.{slots, skeleton_slots, mono_slots, ty_slots, term_slots, fix_slots, comp_slots, step_slots, formula_slots}
 use Rattle.theory_rows_substitution.specs.Substitution.{SubPart, in_mono, in_ty, in_triple, in_term, in_terms, in_fix, in_comp, in_step, in_formula, ups}
 use Rattle.theory_rows_substitution.specs.Substitution.{beyond, is_plain}
 use Rattle.theory_rows_substitution.specs.Laws.{SlotsHaveResults}
@@ -158,7 +159,8 @@ formula_has (of_step y) {r} e h = absurd (grind arith)
 formula_has (of_formula y) {r} e h = (of_formula r, in_formula h)
 
 pub slots_have_results : SlotsHaveResults
-unfolding build slots ups beyond is_plain
+unfolding build build_skeleton build_mono build_ty build_term build_fix build_comp build_step build_formula slots skeleton_slots mono_slots
+    ty_slots term_slots fix_slots comp_slots step_slots formula_slots ups beyond is_plain
 slots_have_results new s x (form.Ty ty.Mono) e a b c d r h i j k (in_ty u_y_mono) = (mono_has a h, tt, tt, tt)
 slots_have_results new s x (form.Ty ty.Fun) e a b c d r h i j k (in_ty (u_y_fun u v)) = (ty_has a h u, ty_has b i v, tt, tt)
 slots_have_results new s x (form.Ty ty.All) e a b c d r h i j k (in_ty (u_y_all u)) = (ty_has a h u, tt, tt, tt)
