@@ -5,7 +5,7 @@ use Rattle.htt_syntax.specs.Trees.{t_inst, t_lam, t_lam_t, t_do, t_fix, t_word, 
 use Rattle.htt_syntax.specs.Trees.{t_made, t_at, no_terms, more_terms, x_param, x_body, c_ret, c_step, s_run, s_alloc, s_get, s_set, s_free, s_if, s_claim}
 use Rattle.htt_syntax.specs.Trees.{f_tt, f_ff, f_and, f_or, f_imp, f_all_t, f_ex_t, f_all_h, f_ex_h, f_emp, f_cell, f_block, f_join, f_same, f_eq, f_at, f_rec}
 use Rattle.theory_canonical.specs.Skeletons.{sk_arrow, sk_all}
-use Rattle.theory_canonical.specs.Folding.{folding}
+use Rattle.theory_canonical.specs.Folding.{folding, contractum}
 use Rattle.theory_renaming.specs.Renaming.{Map, lift, lifts}
 use Rattle.theory_substitution.specs.Monotypes.{Filling, next_filling, fill_mono, fill_ty, fill_triple, fill_term, fill_terms, fill_fix, fill_comp, fill_step}
 use Rattle.theory_substitution.specs.Monotypes.{fill_formula}
@@ -160,7 +160,7 @@ formula_through f m (of_formula x) = refl
 pub filled_slot_by_slot : FilledSlotBySlot
 unfolding build build_skeleton build_mono build_ty build_term build_fix build_comp build_step build_formula fill_part fill_mono fill_term
     rename_form slots skeleton_slots mono_slots ty_slots term_slots fix_slots comp_slots step_slots formula_slots lifts next_fillings
-    is_mono_variable
+    is_mono_variable contractum
 filled_slot_by_slot f m (form.Skeleton skeleton.O) e a b c d = refl
 filled_slot_by_slot f m (form.Skeleton skeleton.C) e a b c d = refl
 filled_slot_by_slot f m (form.Skeleton skeleton.Arrow) e a b c d = λ j. of_skeleton (sk_arrow (skeleton_through f m a j) (skeleton_through f m b j))

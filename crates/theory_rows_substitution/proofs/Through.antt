@@ -4,7 +4,7 @@ use Rattle.htt_syntax.specs.Trees.{MonoTree, TermTree, y_mono, triple, t_val, t_
 use Rattle.htt_syntax.specs.Trees.{f_cell, f_block, f_eq}
 use Rattle.theory_renaming.specs.Renaming.{rename_mono}
 use Rattle.theory_canonical.specs.Skeletons.{Skeleton}
-use Rattle.theory_canonical.specs.Folding.{folding}
+use Rattle.theory_canonical.specs.Folding.{folding, contractum}
 use Rattle.theory_substitution.specs.Closing.{closing, up}
 use Rattle.theory_substitution.specs.Substitution.{SubTy, SubTriple, SubTerm, SubTerms, SubFix, SubComp, SubStep, SubFormula, k_fix, k_made, k_val, u_bin}
 use Rattle.theory_substitution.specs.Substitution.{u_bool, u_do, u_eq, u_f_all_h, u_f_all_t, u_f_and, u_f_block, u_f_cell, u_f_emp, u_f_eq, u_f_ex_h, u_f_ex_t}
@@ -140,7 +140,7 @@ formula_put (in_formula p) = p
 
 pub put_slot_by_slot : PutSlotBySlot
 unfolding build build_skeleton build_mono build_ty build_term build_fix build_comp build_step build_formula rename_form slots skeleton_slots
-    mono_slots ty_slots term_slots fix_slots comp_slots step_slots formula_slots ups beyond is_plain rename_mono
+    mono_slots ty_slots term_slots fix_slots comp_slots step_slots formula_slots ups beyond is_plain rename_mono contractum
 put_slot_by_slot new s x (form.Ty ty.Mono) e a b c d p q r t h i j k =
     subst (λ (m : MonoTree). SubPart new s x (of_ty (y_mono (as_mono a))) (of_ty (y_mono m))) (mono_put h) (in_ty u_y_mono)
 put_slot_by_slot new s x (form.Ty ty.Fun) e a b c d p q r t h i j k = in_ty (u_y_fun (ty_put h) (ty_put i))
