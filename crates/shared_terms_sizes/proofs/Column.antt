@@ -8,7 +8,7 @@ use Rattle.shared_terms_rows.specs.declared.slots.Slot.{Slot}
 use Rattle.shared_terms_rows.specs.Parts.{Part, kind_of}
 use Rattle.shared_terms_rows.specs.Forms.{slots}
 use Rattle.shared_terms_rows.specs.Rows.{at, in_slot, behind, bound, number, slot_fits, fits, RowIs, IsOfSlot}
-use Rattle.shared_terms_rows.proofs.Kinds.{kind_told}
+use Rattle.shared_terms_rows.proofs.Built.{kind_told}
 use Rattle.theory_rows_counts.specs.Counts.{nodes_part, own_nodes, slot_nodes}
 use Rattle.theory_rows_counts.proofs.Sums.{nodes_add_up}
 use Rattle.theory_saturation.specs.Saturation.{saturated}
