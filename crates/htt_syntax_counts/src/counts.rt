@@ -16,7 +16,7 @@ use crate::types::tally_ty;
 use htt_syntax::{Comp, Formula, Mono, Term, Ty};
 
 /// The count of nodes of the monotype, or 2^64 - 1 where it has more.
-#[tactic(auto, using(crate::proofs::Sizes::mono_sized))]
+#[tactic(auto, using(crate::proofs::Sizes::mono_sized_is))]
 pub fn mono_size(mono: &Mono) -> u64
     ensures nodes { result ≡ saturated (nodes_mono (mono_tree mono.now)) }
 {
@@ -24,7 +24,7 @@ pub fn mono_size(mono: &Mono) -> u64
 }
 
 /// The count of nodes of the type, or 2^64 - 1 where it has more.
-#[tactic(auto, using(crate::proofs::Sizes::ty_sized))]
+#[tactic(auto, using(crate::proofs::Sizes::ty_sized_is))]
 pub fn ty_size(ty: &Ty) -> u64
     ensures nodes { result ≡ saturated (nodes_ty (ty_tree ty.now)) }
 {
@@ -32,7 +32,7 @@ pub fn ty_size(ty: &Ty) -> u64
 }
 
 /// The count of nodes of the term, or 2^64 - 1 where it has more.
-#[tactic(auto, using(crate::proofs::Sizes::term_sized))]
+#[tactic(auto, using(crate::proofs::Sizes::term_sized_is))]
 pub fn term_size(term: &Term) -> u64
     ensures nodes { result ≡ saturated (nodes_term (term_tree term.now)) }
 {
@@ -40,7 +40,7 @@ pub fn term_size(term: &Term) -> u64
 }
 
 /// The count of nodes of the computation, or 2^64 - 1 where it has more.
-#[tactic(auto, using(crate::proofs::Sizes::comp_whole))]
+#[tactic(auto, using(crate::proofs::Sizes::comp_sized_is))]
 pub fn comp_size(comp: &Comp) -> u64
     ensures nodes { result ≡ saturated (nodes_comp (comp_tree comp.now)) }
 {
@@ -48,7 +48,7 @@ pub fn comp_size(comp: &Comp) -> u64
 }
 
 /// The count of nodes of the formula, or 2^64 - 1 where it has more.
-#[tactic(auto, using(crate::proofs::Sizes::formula_sized))]
+#[tactic(auto, using(crate::proofs::Sizes::formula_sized_is))]
 pub fn formula_size(formula: &Formula) -> u64
     ensures nodes { result ≡ saturated (nodes_formula (formula_tree formula.now)) }
 {
@@ -56,7 +56,7 @@ pub fn formula_size(formula: &Formula) -> u64
 }
 
 /// The most nodes on one path down the monotype, or 2^64 - 1 where there are more.
-#[tactic(auto, using(crate::proofs::Depths::mono_deep))]
+#[tactic(auto, using(crate::proofs::Depths::mono_deep_is))]
 pub fn mono_depth(mono: &Mono) -> u64
     ensures depth { result ≡ saturated (depth_mono (mono_tree mono.now)) }
 {
@@ -64,7 +64,7 @@ pub fn mono_depth(mono: &Mono) -> u64
 }
 
 /// The most nodes on one path down the type, or 2^64 - 1 where there are more.
-#[tactic(auto, using(crate::proofs::Depths::ty_deep))]
+#[tactic(auto, using(crate::proofs::Depths::ty_deep_is))]
 pub fn ty_depth(ty: &Ty) -> u64
     ensures depth { result ≡ saturated (depth_ty (ty_tree ty.now)) }
 {
@@ -72,7 +72,7 @@ pub fn ty_depth(ty: &Ty) -> u64
 }
 
 /// The most nodes on one path down the term, or 2^64 - 1 where there are more.
-#[tactic(auto, using(crate::proofs::Depths::term_deep))]
+#[tactic(auto, using(crate::proofs::Depths::term_deep_is))]
 pub fn term_depth(term: &Term) -> u64
     ensures depth { result ≡ saturated (depth_term (term_tree term.now)) }
 {
@@ -80,7 +80,7 @@ pub fn term_depth(term: &Term) -> u64
 }
 
 /// The most nodes on one path down the computation, or 2^64 - 1 where there are more.
-#[tactic(auto, using(crate::proofs::Depths::comp_whole))]
+#[tactic(auto, using(crate::proofs::Depths::comp_deep_is))]
 pub fn comp_depth(comp: &Comp) -> u64
     ensures depth { result ≡ saturated (depth_comp (comp_tree comp.now)) }
 {
@@ -88,7 +88,7 @@ pub fn comp_depth(comp: &Comp) -> u64
 }
 
 /// The most nodes on one path down the formula, or 2^64 - 1 where there are more.
-#[tactic(auto, using(crate::proofs::Depths::formula_deep))]
+#[tactic(auto, using(crate::proofs::Depths::formula_deep_is))]
 pub fn formula_depth(formula: &Formula) -> u64
     ensures depth { result ≡ saturated (depth_formula (formula_tree formula.now)) }
 {

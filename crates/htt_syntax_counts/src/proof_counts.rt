@@ -11,7 +11,7 @@ use crate::tally::{Depth, Nodes};
 use htt_syntax::Proof;
 
 /// The count of nodes of the proof, or 2^64 - 1 where it has more.
-#[tactic(auto, using(crate::proofs::Sizes::proof_sized))]
+#[tactic(auto, using(crate::proofs::Sizes::proof_sized_is))]
 pub fn proof_size(proof: &Proof) -> u64
     ensures nodes { result ≡ saturated (nodes_proof (proof_tree proof.now)) }
 {
@@ -19,7 +19,7 @@ pub fn proof_size(proof: &Proof) -> u64
 }
 
 /// The most nodes on one path down the proof, or 2^64 - 1 where there are more.
-#[tactic(auto, using(crate::proofs::Depths::proof_deep))]
+#[tactic(auto, using(crate::proofs::Depths::proof_deep_is))]
 pub fn proof_depth(proof: &Proof) -> u64
     ensures depth { result ≡ saturated (depth_proof (proof_tree proof.now)) }
 {

@@ -1,6 +1,6 @@
 -- The list of parts that rows stand for, one behind the other: each row stands behind its parts.
 use Rattle.std.specs.Prelude.{ℕ, ◌+◌, ◌<◌, ◌≤◌, ◌≡◌, max, Bool, true, ◌&&◌, nat_eq, List, [], ◌∷◌, ◌++◌, length}
-use Rattle.std.specs.Prelude.{slice_get, slice_index_or, Option, Some, None}
+use Rattle.std.specs.Prelude.{slice_get, slice_index_or, Option, Some, None, ⊤}
 use Rattle.htt_syntax.specs.Trees.{t_unit}
 use Rattle.shared_terms_rows.specs.declared.form.Kind.{Kind}
 use Rattle.shared_terms_rows.specs.declared.form.Kind.TheVariants as kinds
@@ -18,6 +18,11 @@ at parts place = slice_index_or parts place (of_term t_unit)
 abbrev pub in_slot : List Part → Option Slot → ℕ → Part
 in_slot parts None place = of_term t_unit
 in_slot parts (Some slot) place = at parts place
+
+-- what stands in a slot is of its kind
+abbrev pub IsOfSlot : Option Slot → Part → Type 0
+IsOfSlot None part = ⊤
+IsOfSlot (Some slot) part = kind_of part ≡ slot.kind
 
 -- what a row stands for, over the parts before it
 abbrev pub node_in : List Part → Slots → Row → Part

@@ -7,20 +7,23 @@ use Rattle.shared_terms_rows.specs.declared.row.Row.{Row}
 use Rattle.shared_terms_rows.specs.declared.slots.Slot.{Slot}
 use Rattle.shared_terms_rows.specs.Parts.{Part, kind_of}
 use Rattle.shared_terms_rows.specs.Forms.{slots}
-use Rattle.shared_terms_rows.specs.Rows.{at, in_slot, behind, bound, number, slot_fits, fits, RowIs}
-use Rattle.shared_terms_rows.proofs.Kinds.{kind_told}
-use Rattle.theory_rows_counts.specs.Counts.{nodes_part, own_nodes, slot_nodes, IsOfSlot}
+use Rattle.shared_terms_rows.specs.Rows.{at, in_slot, behind, bound, number, slot_fits, fits, RowIs, IsOfSlot}
+use Rattle.shared_terms_rows.proofs.Built.{kind_told}
+use Rattle.theory_rows_counts.specs.Counts.{nodes_part, own_nodes, slot_nodes}
 use Rattle.theory_rows_counts.proofs.Sums.{nodes_add_up}
 use Rattle.theory_saturation.specs.Saturation.{saturated}
-use Rattle.theory_saturation.proofs.Sums.{fit, two}
+use Rattle.theory_saturation.proofs.Sums.{Saturates, nil, fit, two}
 use Rattle.shared_terms_sizes.specs.Sized.{size_in_slot, size_in_row, Sized}
+
+own_added : {m k : ℕ} (n : ℕ) → Saturates m k → Saturates (saturated (n + m)) (n + k)
+own_added {m} {k} n p = record { is = let e = p.is in omega (arith, e) }
 
 module _ (parts : List Part) (sizes : List ℕ) (s : Sized parts sizes) where
   slot_sized : (slot : Option Slot) (place : ℕ)
       → behind slot place ≤ length sizes
-      → size_in_slot sizes slot place ≡ saturated (slot_nodes slot (in_slot parts slot place))
-  slot_sized None place l = refl
-  slot_sized (Some slot) place l = s.each place (omega (arith, l))
+      → Saturates (size_in_slot sizes slot place) (slot_nodes slot (in_slot parts slot place))
+  slot_sized None place l = nil
+  slot_sized (Some slot) place l = record { is = s.each place (omega (arith, l)) }
 
   slot_kind : (slot : Option Slot) (place : ℕ) → slot_fits parts slot place ≡ true → IsOfSlot slot (in_slot parts slot place)
   slot_kind None place f = tt
@@ -42,17 +45,12 @@ module _ (parts : List Part) (sizes : List ℕ) (s : Sized parts sizes) where
       let e =
       nodes_add_up row.form a b c d (slot_kind z.first row.first y.0) (slot_kind z.second row.second y.1) (slot_kind z.third row.third u.0)
       (slot_kind z.fourth row.fourth u.1) in
-      let own : saturated (own_nodes row.form + size_in_slot sizes z.first row.first) ≡ saturated (own_nodes row.form + slot_nodes z.first a) =
-      part_added (slot_sized z.first row.first (omega (arith, l)))
-      in
+      let own = own_added (own_nodes row.form) (slot_sized z.first row.first (omega (arith, l))) in
       let sum =
       two (two (two own (slot_sized z.second row.second (omega (arith, l)))) (slot_sized z.third row.third (omega (arith, l))))
       (slot_sized z.fourth row.fourth (omega (arith, l)))
       in
-      fit (sym e ∙ ap nodes_part (sym w.tree)) sum
-    where
-      part_added : {n m k : ℕ} → m ≡ saturated k → saturated (n + m) ≡ saturated (n + k)
-      part_added {n} {m} {k} p = omega (arith, p)
+      (fit sum (sym e ∙ ap nodes_part (sym w.tree))).is
 
 length_more : (sizes : List ℕ) (size : ℕ) → length (sizes ++ size ∷ []) ≡ length sizes + 1
 length_more sizes size = grind (arith, common_steps)

@@ -39,10 +39,6 @@ get_within [] i r g = cc
 get_within (x ∷ xs) zero r g = omega arith
 get_within (x ∷ xs) (suc i) r g = omega (arith, get_within xs i r g)
 
--- equal rows are the same
-pub row_same : (a b : Row) → RowEq.TheImpl.eq-value.it a b ≡ true → a ≡ b
-row_same a b e = search rules
-
 -- what a row is put behind
 pub data Put (old new : List Row) (row : Row) : Type 0 where
   there : new ≡ old → Put old new row

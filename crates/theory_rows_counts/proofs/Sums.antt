@@ -14,10 +14,24 @@ use Rattle.shared_terms_rows.specs.declared.form.StepForm.TheVariants as step
 use Rattle.shared_terms_rows.specs.declared.form.FormulaForm.TheVariants as formula
 use Rattle.shared_terms_rows.specs.declared.form.Kind.TheVariants as kinds
 use Rattle.shared_terms_rows.specs.Parts.{Part, kind_of, of_skeleton, of_mono, of_ty, of_triple, of_term, of_terms, of_fix, of_comp, of_step, of_formula}
-use Rattle.shared_terms_rows.specs.Parts.{as_mono, as_ty, as_triple, as_term, as_terms, as_fix, as_comp, as_step, as_formula, build}
-use Rattle.shared_terms_rows.specs.Forms.{slots}
+use Rattle.shared_terms_rows.specs.Parts.{as_mono, as_ty, as_triple, as_term, as_terms, as_fix, as_comp, as_step, as_formula, build, build_skeleton, build_mono}
+use Rattle.shared_terms_rows.specs.Parts.{build_ty, build_term, build_fix, build_comp, build_step, build_formula}
+use Rattle.shared_terms_rows.specs.Forms.{slots, skeleton_slots, mono_slots, ty_slots, term_slots, fix_slots, comp_slots, step_slots, formula_slots}
 use Rattle.theory_rows_counts.specs.Counts.{nodes_part, own_nodes}
 use Rattle.theory_rows_counts.specs.Laws.{NodesAddUp}
+
+skeleton_nodes : (a : Part) → kind_of a ≡ kinds.Skeleton → 0 ≡ nodes_part a
+unfolding nodes_part
+skeleton_nodes (of_skeleton x) e = refl
+skeleton_nodes (of_mono x) e = absurd (grind arith)
+skeleton_nodes (of_ty x) e = absurd (grind arith)
+skeleton_nodes (of_triple x) e = absurd (grind arith)
+skeleton_nodes (of_term x) e = absurd (grind arith)
+skeleton_nodes (of_terms x) e = absurd (grind arith)
+skeleton_nodes (of_fix x) e = absurd (grind arith)
+skeleton_nodes (of_comp x) e = absurd (grind arith)
+skeleton_nodes (of_step x) e = absurd (grind arith)
+skeleton_nodes (of_formula x) e = absurd (grind arith)
 
 mono_nodes : (a : Part) → kind_of a ≡ kinds.Mono → nodes_mono (as_mono a) ≡ nodes_part a
 unfolding nodes_part
@@ -137,11 +151,12 @@ formula_nodes (of_step x) e = absurd (grind arith)
 formula_nodes (of_formula x) e = refl
 
 pub nodes_add_up : NodesAddUp
-unfolding build slots own_nodes nodes_part nodes_mono nodes_option nodes_term
+unfolding build build_skeleton build_mono build_ty build_term build_fix build_comp build_step build_formula slots skeleton_slots mono_slots
+    ty_slots term_slots fix_slots comp_slots step_slots formula_slots own_nodes nodes_part nodes_mono nodes_option nodes_term
 nodes_add_up (form.Skeleton skeleton.O) a b c d h i j k = refl
 nodes_add_up (form.Skeleton skeleton.C) a b c d h i j k = refl
-nodes_add_up (form.Skeleton skeleton.Arrow) a b c d h i j k = refl
-nodes_add_up (form.Skeleton skeleton.All) a b c d h i j k = refl
+nodes_add_up (form.Skeleton skeleton.Arrow) a b c d h i j k = omega (arith, skeleton_nodes a h, skeleton_nodes b i)
+nodes_add_up (form.Skeleton skeleton.All) a b c d h i j k = omega (arith, skeleton_nodes a h)
 nodes_add_up (form.Mono mono.Word) a b c d h i j k = omega arith
 nodes_add_up (form.Mono mono.Bool) a b c d h i j k = omega arith
 nodes_add_up (form.Mono mono.Loc) a b c d h i j k = omega arith

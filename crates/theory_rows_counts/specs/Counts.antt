@@ -1,6 +1,6 @@
 -- The nodes of what a row stands for: those of its form itself, and those of what stands in its slots. A skeleton
 -- has none; a position, a list, a parameter of a recursive function and a step before others count nothing themselves.
-use Rattle.std.specs.Prelude.{◌≡◌, ℕ, ◌+◌, Option, Some, None, ⊤}
+use Rattle.std.specs.Prelude.{ℕ, Option, Some, None}
 use Rattle.theory_counts.specs.Nodes.{nodes_mono, nodes_ty, nodes_triple, nodes_term, nodes_terms, nodes_fix}
 use Rattle.theory_counts.specs.Nodes.{nodes_comp, nodes_step, nodes_formula}
 use Rattle.shared_terms_rows.specs.declared.form.Form.{Form}
@@ -16,8 +16,8 @@ use Rattle.shared_terms_rows.specs.declared.form.CompForm.TheVariants as comp
 use Rattle.shared_terms_rows.specs.declared.form.FormulaForm.{FormulaForm}
 use Rattle.shared_terms_rows.specs.declared.form.FormulaForm.TheVariants as formula
 use Rattle.shared_terms_rows.specs.declared.slots.Slot.{Slot}
-use Rattle.shared_terms_rows.specs.Parts.{Part, kind_of, of_skeleton, of_mono, of_ty, of_triple, of_term, of_terms}
-use Rattle.shared_terms_rows.specs.Parts.{of_fix, of_comp, of_step, of_formula}
+use Rattle.shared_terms_rows.specs.Parts.{Part, of_skeleton, of_mono, of_ty, of_triple, of_term, of_terms, of_fix}
+use Rattle.shared_terms_rows.specs.Parts.{of_comp, of_step, of_formula}
 
 unfoldable pub nodes_part : Part → ℕ
 nodes_part (of_skeleton x) = 0
@@ -52,8 +52,3 @@ own_nodes form.MoreTerms = 0
 abbrev pub slot_nodes : Option Slot → Part → ℕ
 slot_nodes None part = 0
 slot_nodes (Some slot) part = nodes_part part
-
--- What stands in a slot is of its kind.
-abbrev pub IsOfSlot : Option Slot → Part → Type 0
-IsOfSlot None part = ⊤
-IsOfSlot (Some slot) part = kind_of part ≡ slot.kind

@@ -3,7 +3,8 @@ use Rattle.std.specs.Prelude.{◌≡◌, ◌+◌}
 use Rattle.shared_terms_rows.specs.declared.form.Form.{Form}
 use Rattle.shared_terms_rows.specs.Parts.{Part, build}
 use Rattle.shared_terms_rows.specs.Forms.{slots}
-use Rattle.theory_rows_counts.specs.Counts.{nodes_part, own_nodes, slot_nodes, IsOfSlot}
+use Rattle.shared_terms_rows.specs.Rows.{IsOfSlot}
+use Rattle.theory_rows_counts.specs.Counts.{nodes_part, own_nodes, slot_nodes}
 
 abbrev pub NodesAddUp : Type 0
 NodesAddUp =

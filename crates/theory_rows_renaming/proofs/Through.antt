@@ -1,9 +1,9 @@
 -- Renaming goes through forms.
 use Rattle.std.proofs.Common.{◌≡◌, refl, Some, None}
-use Rattle.htt_syntax.specs.Trees.{m_word, m_bool, m_loc, m_unit, m_pair, m_var, y_mono, y_fun, y_all, y_hoare, y_at, triple, t_var, t_val, t_def, t_app}
-use Rattle.htt_syntax.specs.Trees.{t_inst, t_lam, t_lam_t, t_do, t_fix, t_word, t_bool, t_loc, t_unit, t_pair, t_fst, t_snd, t_not, t_bin, t_eq, t_sel, t_ann}
-use Rattle.htt_syntax.specs.Trees.{t_made, t_at, no_terms, more_terms, x_param, x_body, c_ret, c_step, s_run, s_alloc, s_get, s_set, s_free, s_if, s_claim}
-use Rattle.htt_syntax.specs.Trees.{f_tt, f_ff, f_and, f_or, f_imp, f_all_t, f_ex_t, f_all_h, f_ex_h, f_emp, f_cell, f_block, f_join, f_same, f_eq, f_at, f_rec}
+use Rattle.htt_syntax.specs.Trees.{m_pair, y_mono, y_fun, y_all, y_hoare, y_at, triple, t_app}
+use Rattle.htt_syntax.specs.Trees.{t_inst, t_lam, t_lam_t, t_do, t_fix, t_pair, t_fst, t_snd, t_not, t_bin, t_eq, t_sel, t_ann}
+use Rattle.htt_syntax.specs.Trees.{t_made, t_at, more_terms, x_param, x_body, c_ret, c_step, s_run, s_alloc, s_get, s_set, s_free, s_if, s_claim}
+use Rattle.htt_syntax.specs.Trees.{f_and, f_or, f_imp, f_all_t, f_ex_t, f_all_h, f_ex_h, f_cell, f_block, f_eq, f_at, f_rec}
 use Rattle.theory_canonical.specs.Skeletons.{sk_arrow, sk_all}
 use Rattle.theory_renaming.specs.Renaming.{Map, lift, lifts, rename_mono, rename_ty, rename_triple, rename_term, rename_terms, rename_fix, rename_comp}
 use Rattle.theory_renaming.specs.Renaming.{rename_step, rename_formula}
@@ -18,9 +18,10 @@ use Rattle.shared_terms_rows.specs.declared.form.CompForm.TheVariants as comp
 use Rattle.shared_terms_rows.specs.declared.form.StepForm.TheVariants as step
 use Rattle.shared_terms_rows.specs.declared.form.FormulaForm.TheVariants as formula
 use Rattle.shared_terms_rows.specs.Parts.{Part, of_skeleton, of_mono, of_ty, of_triple, of_term, of_terms, of_fix, of_comp, of_step, of_formula, as_skeleton}
-use Rattle.shared_terms_rows.specs.Parts.{as_mono, as_ty, as_triple, as_term, as_terms, as_fix, as_comp, as_step, as_formula, op_of, build, kind_of}
-use Rattle.shared_terms_rows.specs.Forms.{slots}
-use Rattle.theory_rows_renaming.specs.Renaming.{rename_part, rename_form, rename_slot}
+use Rattle.shared_terms_rows.specs.Parts.{as_mono, as_ty, as_triple, as_term, as_terms, as_fix, as_comp, as_step, as_formula, op_of, build, build_skeleton}
+use Rattle.shared_terms_rows.specs.Parts.{build_mono, build_ty, build_term, build_fix, build_comp, build_step, build_formula, kind_of}
+use Rattle.shared_terms_rows.specs.Forms.{slots, skeleton_slots, mono_slots, ty_slots, term_slots, fix_slots, comp_slots, step_slots, formula_slots}
+use Rattle.theory_rows_renaming.specs.Renaming.{rename_part, rename_form}
 use Rattle.theory_rows_renaming.specs.Laws.{RenamedSlotBySlot}
 
 skeleton_through : (m : Map) (a : Part) → as_skeleton a ≡ as_skeleton (rename_part m a)
@@ -50,7 +51,7 @@ mono_through m (of_step x) = refl
 mono_through m (of_formula x) = refl
 
 ty_through : (m : Map) (a : Part) → rename_ty m (as_ty a) ≡ as_ty (rename_part m a)
-unfolding rename_part rename_term
+unfolding rename_part rename_mono rename_term
 ty_through m (of_skeleton x) = refl
 ty_through m (of_mono x) = refl
 ty_through m (of_ty x) = refl
@@ -63,7 +64,7 @@ ty_through m (of_step x) = refl
 ty_through m (of_formula x) = refl
 
 triple_through : (m : Map) (a : Part) → rename_triple m (as_triple a) ≡ as_triple (rename_part m a)
-unfolding rename_part rename_term
+unfolding rename_part rename_mono rename_term
 triple_through m (of_skeleton x) = refl
 triple_through m (of_mono x) = refl
 triple_through m (of_ty x) = refl
@@ -76,7 +77,7 @@ triple_through m (of_step x) = refl
 triple_through m (of_formula x) = refl
 
 term_through : (m : Map) (a : Part) → rename_term m (as_term a) ≡ as_term (rename_part m a)
-unfolding rename_part rename_term
+unfolding rename_part rename_mono rename_term
 term_through m (of_skeleton x) = refl
 term_through m (of_mono x) = refl
 term_through m (of_ty x) = refl
@@ -89,7 +90,7 @@ term_through m (of_step x) = refl
 term_through m (of_formula x) = refl
 
 terms_through : (m : Map) (a : Part) → rename_terms m (as_terms a) ≡ as_terms (rename_part m a)
-unfolding rename_part rename_term
+unfolding rename_part rename_mono rename_term
 terms_through m (of_skeleton x) = refl
 terms_through m (of_mono x) = refl
 terms_through m (of_ty x) = refl
@@ -102,7 +103,7 @@ terms_through m (of_step x) = refl
 terms_through m (of_formula x) = refl
 
 fix_through : (m : Map) (a : Part) → rename_fix m (as_fix a) ≡ as_fix (rename_part m a)
-unfolding rename_part rename_term
+unfolding rename_part rename_mono rename_term
 fix_through m (of_skeleton x) = refl
 fix_through m (of_mono x) = refl
 fix_through m (of_ty x) = refl
@@ -115,7 +116,7 @@ fix_through m (of_step x) = refl
 fix_through m (of_formula x) = refl
 
 comp_through : (m : Map) (a : Part) → rename_comp m (as_comp a) ≡ as_comp (rename_part m a)
-unfolding rename_part rename_term
+unfolding rename_part rename_mono rename_term
 comp_through m (of_skeleton x) = refl
 comp_through m (of_mono x) = refl
 comp_through m (of_ty x) = refl
@@ -128,7 +129,7 @@ comp_through m (of_step x) = refl
 comp_through m (of_formula x) = refl
 
 step_through : (m : Map) (a : Part) → rename_step m (as_step a) ≡ as_step (rename_part m a)
-unfolding rename_part rename_term
+unfolding rename_part rename_mono rename_term
 step_through m (of_skeleton x) = refl
 step_through m (of_mono x) = refl
 step_through m (of_ty x) = refl
@@ -141,7 +142,7 @@ step_through m (of_step x) = refl
 step_through m (of_formula x) = refl
 
 formula_through : (m : Map) (a : Part) → rename_formula m (as_formula a) ≡ as_formula (rename_part m a)
-unfolding rename_part rename_term
+unfolding rename_part rename_mono rename_term
 formula_through m (of_skeleton x) = refl
 formula_through m (of_mono x) = refl
 formula_through m (of_ty x) = refl
@@ -154,7 +155,8 @@ formula_through m (of_step x) = refl
 formula_through m (of_formula x) = refl
 
 pub renamed_slot_by_slot : RenamedSlotBySlot
-unfolding build rename_part rename_mono rename_term rename_form slots lifts
+unfolding build build_skeleton build_mono build_ty build_term build_fix build_comp build_step build_formula rename_part rename_mono
+    rename_term rename_form slots skeleton_slots mono_slots ty_slots term_slots fix_slots comp_slots step_slots formula_slots lifts
 renamed_slot_by_slot m (form.Skeleton skeleton.O) a b c d = refl
 renamed_slot_by_slot m (form.Skeleton skeleton.C) a b c d = refl
 renamed_slot_by_slot m (form.Skeleton skeleton.Arrow) a b c d = λ j. of_skeleton (sk_arrow (skeleton_through m a j) (skeleton_through m b j))
@@ -230,7 +232,7 @@ renamed_slot_by_slot m (form.Formula (formula.Rec number heap)) a b c d = λ j. 
 
 -- A renamed form has the same slots, and a renamed part is of the same kind.
 pub slots_renamed : (m : Map) (f : Form) → slots (rename_form m f) ≡ slots f
-unfolding rename_form slots
+unfolding rename_form slots skeleton_slots mono_slots ty_slots term_slots fix_slots comp_slots step_slots formula_slots
 slots_renamed m (form.Mono mono.Word) = refl
 slots_renamed m (form.Mono mono.Bool) = refl
 slots_renamed m (form.Mono mono.Loc) = refl

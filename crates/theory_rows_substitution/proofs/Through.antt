@@ -4,7 +4,7 @@ use Rattle.htt_syntax.specs.Trees.{MonoTree, TermTree, y_mono, triple, t_val, t_
 use Rattle.htt_syntax.specs.Trees.{f_cell, f_block, f_eq}
 use Rattle.theory_renaming.specs.Renaming.{rename_mono}
 use Rattle.theory_canonical.specs.Skeletons.{Skeleton}
-use Rattle.theory_canonical.specs.Folding.{folding}
+use Rattle.theory_canonical.specs.Folding.{folding, contractum}
 use Rattle.theory_substitution.specs.Closing.{closing, up}
 use Rattle.theory_substitution.specs.Substitution.{SubTy, SubTriple, SubTerm, SubTerms, SubFix, SubComp, SubStep, SubFormula, k_fix, k_made, k_val, u_bin}
 use Rattle.theory_substitution.specs.Substitution.{u_bool, u_do, u_eq, u_f_all_h, u_f_all_t, u_f_and, u_f_block, u_f_cell, u_f_emp, u_f_eq, u_f_ex_h, u_f_ex_t}
@@ -21,8 +21,9 @@ use Rattle.shared_terms_rows.specs.declared.form.StepForm.TheVariants as step
 use Rattle.shared_terms_rows.specs.declared.form.FormulaForm.TheVariants as formula
 use Rattle.shared_terms_rows.specs.declared.form.SkeletonForm.TheVariants as skeleton
 use Rattle.shared_terms_rows.specs.Parts.{Part, of_skeleton, of_mono, of_ty, of_triple, of_term, of_terms, of_fix, of_comp, of_step, of_formula, as_mono, as_ty}
-use Rattle.shared_terms_rows.specs.Parts.{as_triple, as_term, as_terms, as_fix, as_comp, as_step, as_formula, op_of, build}
-use Rattle.shared_terms_rows.specs.Forms.{slots}
+use Rattle.shared_terms_rows.specs.Parts.{as_triple, as_term, as_terms, as_fix, as_comp, as_step, as_formula, op_of, build, build_skeleton, build_mono}
+use Rattle.shared_terms_rows.specs.Parts.{build_ty, build_term, build_fix, build_comp, build_step, build_formula}
+use Rattle.shared_terms_rows.specs.Forms.{slots, skeleton_slots, mono_slots, ty_slots, term_slots, fix_slots, comp_slots, step_slots, formula_slots}
 use Rattle.theory_rows_renaming.specs.Renaming.{rename_form}
 use Rattle.theory_rows_substitution.specs.Substitution.{SubPart, in_mono, in_ty, in_triple, in_term, in_terms, in_fix, in_comp, in_step, in_formula, SubSlot}
 use Rattle.theory_rows_substitution.specs.Substitution.{ups, beyond, fold_part, is_plain}
@@ -138,7 +139,8 @@ formula_put (in_step p) = u_f_tt
 formula_put (in_formula p) = p
 
 pub put_slot_by_slot : PutSlotBySlot
-unfolding build rename_form slots ups beyond is_plain rename_mono
+unfolding build build_skeleton build_mono build_ty build_term build_fix build_comp build_step build_formula rename_form slots skeleton_slots
+    mono_slots ty_slots term_slots fix_slots comp_slots step_slots formula_slots ups beyond is_plain rename_mono contractum
 put_slot_by_slot new s x (form.Ty ty.Mono) e a b c d p q r t h i j k =
     subst (λ (m : MonoTree). SubPart new s x (of_ty (y_mono (as_mono a))) (of_ty (y_mono m))) (mono_put h) (in_ty u_y_mono)
 put_slot_by_slot new s x (form.Ty ty.Fun) e a b c d p q r t h i j k = in_ty (u_y_fun (ty_put h) (ty_put i))

@@ -5,4 +5,4 @@ use Rattle.shared_terms_table.proofs.table.Table.new.Goals as goal
 
 pub returns : goal.returns
 unfolding parts_of stood_for
-returns c = ap (stood_for []) c.new.ensures.empty
+returns c = record { empty = ap (stood_for []) c.new.ensures.empty }

@@ -7,14 +7,14 @@ pub offset_bounds-as_slice-place : goal.offset_bounds-as_slice-place
 offset_bounds-as_slice-place c =
     let e = counted c.args.self.now in
     let k = ap length c.as_slice.ensures.keys in
-    omega (arith, e, k, c.requires, c.as_slice.type_inv)
+    omega (arith, e, k, c.requires.within, c.as_slice.type_inv)
 
 pub bounds-as_slice-place : goal.bounds-as_slice-place
 bounds-as_slice-place c =
     let e = counted c.args.self.now in
     let k = ap length c.as_slice.ensures.keys in
-    omega (arith, e, k, c.requires)
+    omega (arith, e, k, c.requires.within)
 
 pub returns : goal.returns
 unfolding parts_of
-returns c = row_is _ _ _ c.args.self.now.backward c.args.self.now.fitting (seen _ _ _ _ c.as_slice.ensures.keys c.requires)
+returns c = record { row = row_is _ _ _ c.args.self.now.backward c.args.self.now.fitting (seen _ _ _ _ c.as_slice.ensures.keys c.requires.within) }
