@@ -1,4 +1,0 @@
-pub mod Saturation
-pub mod Sizes
-pub mod Depths
-pub mod Lists
