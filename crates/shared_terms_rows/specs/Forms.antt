@@ -1,5 +1,5 @@
 -- The slots of each form, and what a row of it is of.
-use Rattle.std.specs.Prelude.{ℕ, Option, Some, None}
+use Rattle.std.specs.Prelude.{ℕ, Some, None}
 use Rattle.shared_terms_rows.specs.declared.form.Form.{Form}
 use Rattle.shared_terms_rows.specs.declared.form.Form.TheVariants as form
 use Rattle.shared_terms_rows.specs.declared.form.SkeletonForm.{SkeletonForm}

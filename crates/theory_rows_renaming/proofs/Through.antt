@@ -1,9 +1,9 @@
 -- Renaming goes through forms.
 use Rattle.std.proofs.Common.{◌≡◌, refl, Some, None}
-use Rattle.htt_syntax.specs.Trees.{m_word, m_bool, m_loc, m_unit, m_pair, m_var, y_mono, y_fun, y_all, y_hoare, y_at, triple, t_var, t_val, t_def, t_app}
-use Rattle.htt_syntax.specs.Trees.{t_inst, t_lam, t_lam_t, t_do, t_fix, t_word, t_bool, t_loc, t_unit, t_pair, t_fst, t_snd, t_not, t_bin, t_eq, t_sel, t_ann}
-use Rattle.htt_syntax.specs.Trees.{t_made, t_at, no_terms, more_terms, x_param, x_body, c_ret, c_step, s_run, s_alloc, s_get, s_set, s_free, s_if, s_claim}
-use Rattle.htt_syntax.specs.Trees.{f_tt, f_ff, f_and, f_or, f_imp, f_all_t, f_ex_t, f_all_h, f_ex_h, f_emp, f_cell, f_block, f_join, f_same, f_eq, f_at, f_rec}
+use Rattle.htt_syntax.specs.Trees.{m_pair, y_mono, y_fun, y_all, y_hoare, y_at, triple, t_app}
+use Rattle.htt_syntax.specs.Trees.{t_inst, t_lam, t_lam_t, t_do, t_fix, t_pair, t_fst, t_snd, t_not, t_bin, t_eq, t_sel, t_ann}
+use Rattle.htt_syntax.specs.Trees.{t_made, t_at, more_terms, x_param, x_body, c_ret, c_step, s_run, s_alloc, s_get, s_set, s_free, s_if, s_claim}
+use Rattle.htt_syntax.specs.Trees.{f_and, f_or, f_imp, f_all_t, f_ex_t, f_all_h, f_ex_h, f_cell, f_block, f_eq, f_at, f_rec}
 use Rattle.theory_canonical.specs.Skeletons.{sk_arrow, sk_all}
 use Rattle.theory_renaming.specs.Renaming.{Map, lift, lifts, rename_mono, rename_ty, rename_triple, rename_term, rename_terms, rename_fix, rename_comp}
 use Rattle.theory_renaming.specs.Renaming.{rename_step, rename_formula}
@@ -21,7 +21,7 @@ use Rattle.shared_terms_rows.specs.Parts.{Part, of_skeleton, of_mono, of_ty, of_
 use Rattle.shared_terms_rows.specs.Parts.{as_mono, as_ty, as_triple, as_term, as_terms, as_fix, as_comp, as_step, as_formula, op_of, build, build_skeleton}
 use Rattle.shared_terms_rows.specs.Parts.{build_mono, build_ty, build_term, build_fix, build_comp, build_step, build_formula, kind_of}
 use Rattle.shared_terms_rows.specs.Forms.{slots, skeleton_slots, mono_slots, ty_slots, term_slots, fix_slots, comp_slots, step_slots, formula_slots}
-use Rattle.theory_rows_renaming.specs.Renaming.{rename_part, rename_form, rename_slot}
+use Rattle.theory_rows_renaming.specs.Renaming.{rename_part, rename_form}
 use Rattle.theory_rows_renaming.specs.Laws.{RenamedSlotBySlot}
 
 skeleton_through : (m : Map) (a : Part) → as_skeleton a ≡ as_skeleton (rename_part m a)
