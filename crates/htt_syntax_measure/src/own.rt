@@ -1,0 +1,46 @@
+//! The sizes of trees as they are.
+
+ghost use Rattle.std.specs.Prelude.{◌≡◌, IfOk};
+ghost use Rattle.htt_syntax.specs.Views.{mono_tree, formula_tree};
+ghost use Rattle.htt_syntax_walk.specs.Kept.{kept};
+ghost use Rattle.htt_syntax_measure.specs.Measures.{mono_measure, formula_measure};
+
+use crate::formulas::measure_formula;
+use crate::mono::measure_mono;
+use crate::size::Size;
+use crate::sizes::Sizes;
+use htt_syntax::{Formula, Mono};
+use std::alloc::AllocError;
+
+/// Each variable stands for itself.
+struct Own {}
+
+impl Sizes for Own {
+    ghost measures = { λ own p. p ≡ kept };
+
+    #[tactic(auto, using(crate::proofs::Own::term_own))]
+    fn at_term(&self, index: u32, depth: u32) -> Size {
+        Size::leaf()
+    }
+
+    #[tactic(auto, using(crate::proofs::Own::mono_own))]
+    fn at_mono(&self, index: u32, depth: u32) -> Size {
+        Size::leaf()
+    }
+}
+
+/// The size of the monotype.
+#[tactic(auto, using(crate::proofs::Own::own_mono))]
+pub fn size_of_mono(mono: &Mono) -> Size
+    ensures measured { result ≡ mono_measure (mono_tree mono.now) }
+{
+    measure_mono(mono, &Own {}, 0)
+}
+
+/// The size of the formula. It takes no memory, and fails where more than 32 bits of binders stand around a place.
+#[tactic(auto, using(crate::proofs::Own::own_formula))]
+pub fn size_of_formula(formula: &Formula) -> Result<Size, AllocError>
+    ensures measured { IfOk result (λ z. z ≡ formula_measure (formula_tree formula.now)) }
+{
+    measure_formula(formula, &Own {}, 0)
+}
