@@ -47,7 +47,7 @@ impl Action for Putting<'_> {
     #[tactic(auto, using(htt_syntax::specs::Levels::term_levels))]
     fn at_term(&self, alloc: Global, index: u32, depth: u32) -> Result<Term, AllocError> {
         match self.put_for(index, depth) {
-            Some(Put::Term(term)) => shift_term(alloc, term, depth),
+            Some(Put::Term(term)) => shift_term(alloc, term, 0, depth),
             Some(Put::Mono(_) | Put::Heap(_)) | None => Ok(Term::Var(index)),
         }
     }
@@ -55,7 +55,7 @@ impl Action for Putting<'_> {
     #[tactic(auto, using(htt_syntax::specs::Levels::mono_levels))]
     fn at_mono(&self, alloc: Global, index: u32, depth: u32) -> Result<Mono, AllocError> {
         match self.put_for(index, depth) {
-            Some(Put::Mono(mono)) => shift_mono(alloc, mono, depth),
+            Some(Put::Mono(mono)) => shift_mono(alloc, mono, 0, depth),
             Some(Put::Term(_) | Put::Heap(_)) | None => Ok(Mono::Var(index)),
         }
     }

@@ -1,1 +1,4 @@
-pub mod Shifted
+pub mod Depths
+pub mod Renaming
+pub mod RenamingProofs
+pub mod Places

@@ -1,8 +1,10 @@
-//! Trees as they stand under more binders: each variable goes past them. It is the walk whose action shifts.
+//! Shifts of trees: each free variable from a place on goes past further entries. A shift is the walk that
+//! puts each variable where the shift says; the walk counts the binders around, and the variables of these
+//! stay.
 #![tactic(auto)]
 
-mod shift;
-#[cfg(test)]
-mod tests;
+mod past;
+mod shifts;
 
-pub use shift::{shift_formula, shift_mono, shift_term, shift_ty};
+pub use past::Past;
+pub use shifts::{shift_comp, shift_formula, shift_mono, shift_proof, shift_term, shift_ty};

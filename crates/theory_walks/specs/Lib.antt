@@ -1,2 +1,0 @@
-pub mod Renamings
-pub mod Laws
