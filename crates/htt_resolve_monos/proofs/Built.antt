@@ -82,8 +82,8 @@ module _ (s : Scope) where
   pub times_bracket : {E : Type 0} (at : ℕ) (right : RawMono) (m : raw.RawMonoTree) (t : Mono) (r : Result Mono E)
       → mono_comes s m ≡ Ok (mono_tree t)
       → ((f : raw.RawFactorTree)
-         → factor_comes s f ≡ Ok (mono_tree t)
-         → Builds mono_tree r (mono_comes s (raw.m_pair f (raw_mono_tree right))))
+      → factor_comes s f ≡ Ok (mono_tree t)
+      → Builds mono_tree r (mono_comes s (raw.m_pair f (raw_mono_tree right))))
       → Builds mono_tree r (mono_comes s (raw_bracket_tree (vbracket.Times at right) m))
   unfolding factor_comes
   times_bracket at right m t r h k =

@@ -17,7 +17,8 @@ use Rattle.htt_parser_trees.specs.MonoViews.{raw_right_tree, raw_bracket_tree}
 use Rattle.htt_parser_trees.specs.MonoLevels.{raw_mono_tree, raw_brackets_tree, raw_right_nothing, raw_right_times, raw_bracket_alone, raw_bracket_times}
 use Rattle.htt_syntax_measure.specs.declared.size.Size.{Size}
 use Rattle.htt_syntax_measure.specs.Measures.{leaf, nothing, beside, node, node_of_two, mono_measure}
-use Rattle.htt_syntax_measure.specs.MeasureLevels.{mono_word_measure, mono_bool_measure, mono_loc_measure, mono_unit_measure, mono_var_measure, mono_pair_measure}
+use Rattle.htt_syntax_measure.specs.MeasureLevels.{mono_word_measure, mono_bool_measure, mono_loc_measure, mono_unit_measure, mono_var_measure}
+use Rattle.htt_syntax_measure.specs.MeasureLevels.{mono_pair_measure}
 use Rattle.theory_text_names.specs.Stops.{Stop, ◌>>=◌}
 use Rattle.theory_text_names.specs.Scopes.{Scope}
 use Rattle.theory_text_names.specs.Uses.{mono_named}
@@ -149,8 +150,8 @@ module _ (s : Scope) where
   pub times_bracket : (at : ℕ) (right : RawMono) (m : raw.RawMonoTree) (z : Size) (r : Result Size NameStop)
       → sized mono_measure (mono_comes s m) ≡ Ok z
       → ((f : raw.RawFactorTree)
-         → sized mono_measure (factor_comes s f) ≡ Ok z
-         → AnswersSize mono_measure r (mono_comes s (raw.m_pair f (raw_mono_tree right))))
+      → sized mono_measure (factor_comes s f) ≡ Ok z
+      → AnswersSize mono_measure r (mono_comes s (raw.m_pair f (raw_mono_tree right))))
       → AnswersSize mono_measure r (mono_comes s (raw_bracket_tree (vbracket.Times at right) m))
   unfolding factor_comes
   times_bracket at right m z r h k =

@@ -1,4 +1,5 @@
--- What a phrase measures where it comes to a tree, and right answers of code that measures phrases and that builds them.
+-- What a phrase measures where it comes to a tree, and right answers of code that measures phrases and that builds
+-- them.
 use Rattle.std.specs.Prelude.{◌≡◌, Result, Ok, Err, IfOk}
 use Rattle.htt_syntax_measure.specs.declared.size.Size.{Size}
 use Rattle.theory_text_names.specs.Stops.{Stop}

@@ -70,11 +70,7 @@ fn measure_right(scope: &Scope<'_>, left: Size, right: &RawRight) -> Result<Size
 /// The size of a monotype that measures so much, in brackets with what stands at their right.
 #[cycle(measure)]
 #[tactic(auto, using(crate::proofs::Measured::bracketed))]
-fn measure_bracket(
-    scope: &Scope<'_>,
-    inner: Size,
-    bracket: &RawBracket,
-) -> Result<Size, NameStop>
+fn measure_bracket(scope: &Scope<'_>, inner: Size, bracket: &RawBracket) -> Result<Size, NameStop>
     ensures measured { (m : RawMonoTree) → sized mono_measure (mono_comes (scope_tree scope.now) m) ≡ Ok inner → AnswersSize mono_measure result (mono_comes (scope_tree scope.now) (raw_bracket_tree bracket.now m)) }
 {
     match bracket {

@@ -62,7 +62,10 @@ fn a_monotype_has_its_nodes_and_levels(rt: HostRuntime) -> Result<(), Fail> {
     let top = Scope::at_top(rt.alloc(), "ab".as_bytes(), &[]);
     let scope = top.under_name(rt.alloc(), Span { from: 0, to: 1 }, Sort::Mono)?;
     let mono = nested(rt.alloc(), letter(0), MonoName::Bool { at: 9 })?;
-    assert_eq!(rt; measure_mono(&scope, &mono), Ok(Size { nodes: 5, depth: 3 }));
+    assert_eq!(rt;
+        measure_mono(&scope, &mono),
+        Ok(Size { nodes: 5, depth: 3 })
+    );
     let built = build_mono(rt.alloc(), &scope, &mono)?;
     assert!(rt; is_word_and_variable_and_bool(&built));
     Ok(())
@@ -73,10 +76,19 @@ fn the_first_name_that_stops_counts(rt: HostRuntime) -> Result<(), Fail> {
     let top = Scope::at_top(rt.alloc(), "abc".as_bytes(), &[]);
     let scope = top.under_name(rt.alloc(), Span { from: 0, to: 1 }, Sort::Term)?;
     let mono = nested(rt.alloc(), letter(1), letter(2))?;
-    assert_eq!(rt; measure_mono(&scope, &mono), Err(NameStop::Unbound { at: 1 }));
+    assert_eq!(rt;
+        measure_mono(&scope, &mono),
+        Err(NameStop::Unbound { at: 1 })
+    );
     let mono = nested(rt.alloc(), letter(0), letter(2))?;
-    assert_eq!(rt; measure_mono(&scope, &mono), Err(NameStop::WrongSort { at: 0 }));
+    assert_eq!(rt;
+        measure_mono(&scope, &mono),
+        Err(NameStop::WrongSort { at: 0 })
+    );
     let mono = nested(rt.alloc(), MonoName::Word { at: 1 }, letter(2))?;
-    assert_eq!(rt; measure_mono(&scope, &mono), Err(NameStop::Unbound { at: 2 }));
+    assert_eq!(rt;
+        measure_mono(&scope, &mono),
+        Err(NameStop::Unbound { at: 2 })
+    );
     Ok(())
 }

@@ -47,7 +47,7 @@ pub local_more : (name : List ℕ) (n k i : ℕ) (locals : List Local) (l : Loca
     → l ≡ get_or locals i l
     → local_use name n (innermost_first (take k locals)) ≡
     (if is_named name (name_of l) then Some (use_of (sort_of l.sort) n (innermost_first (take i locals)))
-     else local_use name (one_more (sort_of l.sort) n) (innermost_first (take i locals)))
+    else local_use name (one_more (sort_of l.sort) n) (innermost_first (take i locals)))
 local_more name n k i locals l is below read =
     ap (local_use name n) (innermost_next locals k i l is below read)
     ∙ use_step name n (local_tree l) (innermost_first (take i locals))

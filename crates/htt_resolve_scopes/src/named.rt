@@ -104,11 +104,15 @@ impl<'a> Scope<'a> {
         ensures named { Answers pred_use_tree result (pred_named (scope_tree self.now) span) }
     {
         match self.use_at(span) {
-            Some(Use::Declared(Meaning::Pred {
-                monos,
-                params,
-                body,
-            })) => Ok(PredUse {
+            Some(
+                Use::Declared(
+                    Meaning::Pred {
+                        monos,
+                        params,
+                        body,
+                    },
+                ),
+            ) => Ok(PredUse {
                 monos: *monos,
                 params: params.as_slice(),
                 body,

@@ -45,7 +45,10 @@ fn the_innermost_binder_of_a_name_hides_the_others(rt: HostRuntime) -> Result<()
     let third = second.under_name(rt.alloc(), letter(4), Sort::Heap)?;
     assert_eq!(rt; third.heap_named(letter(0)), Ok(0));
     assert_eq!(rt; second.heap_named(letter(0)), Ok(1));
-    assert_eq!(rt; third.heap_named(letter(6)), Err(NameStop::Unbound { at: 6 }));
+    assert_eq!(rt;
+        third.heap_named(letter(6)),
+        Err(NameStop::Unbound { at: 6 })
+    );
     Ok(())
 }
 
@@ -58,8 +61,14 @@ fn a_hypothesis_is_no_entry(rt: HostRuntime) -> Result<(), Fail> {
     assert_eq!(rt; scope.heap_named(letter(0)), Ok(0));
     assert_eq!(rt; scope.hypothesis_named(letter(2)), Ok(0));
     assert_eq!(rt; scope.hypothesis_named(letter(4)), Ok(1));
-    assert_eq!(rt; scope.heap_named(letter(2)), Err(NameStop::WrongSort { at: 2 }));
-    assert_eq!(rt; scope.hypothesis_named(letter(0)), Err(NameStop::WrongSort { at: 0 }));
+    assert_eq!(rt;
+        scope.heap_named(letter(2)),
+        Err(NameStop::WrongSort { at: 2 })
+    );
+    assert_eq!(rt;
+        scope.hypothesis_named(letter(0)),
+        Err(NameStop::WrongSort { at: 0 })
+    );
     Ok(())
 }
 

@@ -28,7 +28,7 @@ struct PutSizes<'a> {
 
 impl PutSizes<'_> {
     /// The size of what stands for the variable of this index under `depth` binders.
-    #[tactic(auto, using(crate::proofs::Places::sizes))]
+    #[tactic(auto, using(crate::proofs::Found::sizes))]
     fn size_for(&self, index: u32, depth: u32) -> Option<PutSize>
         ensures found { (puts : List Put) → Measures self.now.sizes.now puts → IsMeasured result (put_for puts depth index) }
     {
@@ -76,9 +76,7 @@ pub fn put_argument_size(
         },
         0,
     );
-    puts.push(PutSize::Term(
-        argument.beside(mono.under_node()).under_node(),
-    ))?;
+    puts.push(PutSize::Term(argument.beside(mono.under_node()).under_node()))?;
     Ok(())
 }
 

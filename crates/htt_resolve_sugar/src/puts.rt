@@ -30,7 +30,7 @@ struct Putting<'a> {
 
 impl Putting<'_> {
     /// What stands for the variable of this index under `depth` binders.
-    #[tactic(auto, using(crate::proofs::Places::puts))]
+    #[tactic(auto, using(crate::proofs::Found::puts))]
     fn put_for(&self, index: u32, depth: u32) -> Option<&Put>
         ensures found { option_map (λ p. put_tree p.now) result ≡ put_for (puts_tree self.now.puts.now) depth index }
     {
@@ -60,7 +60,7 @@ impl Action for Putting<'_> {
         }
     }
 
-    #[tactic(auto, using(crate::proofs::Places::heap_past))]
+    #[tactic(auto, using(crate::proofs::Found::heap_past))]
     fn at_heap(&self, index: u32, depth: u32) -> Result<u32, AllocError> {
         match self.put_for(index, depth) {
             Some(Put::Heap(heap)) => match heap.checked_add(depth) {
@@ -74,12 +74,7 @@ impl Action for Putting<'_> {
 
 /// The argument with the monotype of its parameter.
 #[tactic(auto, using(htt_syntax::specs::Levels::term_levels, htt_syntax::specs::Levels::ty_levels))]
-fn annotated(
-    alloc: Global,
-    puts: &[Put],
-    param: &Mono,
-    argument: Term,
-) -> Result<Term, AllocError>
+fn annotated(alloc: Global, puts: &[Put], param: &Mono, argument: Term) -> Result<Term, AllocError>
     ensures annotated { IfOk result (λ t. term_tree t ≡ t_ann (term_tree argument) (y_mono (put_into_mono (puts_tree puts.now) (mono_tree param.now)))) }
 {
     term_ann(
@@ -93,7 +88,7 @@ fn annotated(
 
 /// Puts the argument, with the monotype of its parameter, behind what was put before. It fails for want of memory, or
 /// where an index would pass 32 bits.
-#[tactic(auto, using(crate::proofs::Places::put_more))]
+#[tactic(auto, using(crate::proofs::Found::put_more))]
 pub fn put_argument(
     alloc: Global,
     puts: &mut Vec<Put>,

@@ -52,14 +52,17 @@ fn a_heap_goes_past_the_binders(rt: HostRuntime) -> Result<(), Fail> {
 #[test]
 fn the_size_is_that_of_the_body_made(rt: HostRuntime) -> Result<(), Fail> {
     let mut sizes = Vec::new(rt.alloc());
-    let argument = Size {
-        nodes: 5,
-        depth: 3,
-    };
+    let argument = Size { nodes: 5, depth: 3 };
     put_argument_size(&mut sizes, &Mono::Word, argument)?;
     sizes.push(PutSize::Heap)?;
     let size = body_size(&body(rt.alloc())?, sizes.as_slice())?;
-    assert_eq!(rt; size, Size { nodes: 13, depth: 6 });
+    assert_eq!(rt;
+        size,
+        Size {
+            nodes: 13,
+            depth: 6
+        }
+    );
     Ok(())
 }
 

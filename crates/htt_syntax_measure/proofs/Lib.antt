@@ -1,2 +1,3 @@
 pub mod Loops
-pub mod Own
+pub mod Itself
+pub mod Rows

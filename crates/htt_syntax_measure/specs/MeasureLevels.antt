@@ -16,7 +16,8 @@ use Rattle.theory_counts.specs.Sizes as counts
 use Rattle.theory_counts.specs.Sizes.{mono_size, option_size, ty_size, triple_size, term_size, fix_size, comp_size}
 use Rattle.theory_counts.specs.Sizes.{step_size, formula_size, terms_size, deeper_size}
 use Rattle.htt_syntax_measure.specs.declared.size.Size.{Size}
-use Rattle.htt_syntax_measure.specs.Measures.{capped, nothing, leaf, beside, node, node_of_two, node_of_three, node_of_four}
+use Rattle.htt_syntax_measure.specs.Measures.{capped, nothing, leaf, beside, node, node_of_two, node_of_three}
+use Rattle.htt_syntax_measure.specs.Measures.{node_of_four}
 use Rattle.htt_syntax_measure.specs.Measures.{counted, deeper, mono_measure, option_measure, ty_measure, triple_measure}
 use Rattle.htt_syntax_measure.specs.Measures.{term_measure, fix_measure, comp_measure, step_measure, formula_measure}
 use Rattle.htt_syntax_measure.specs.Measures.{terms_measure}
@@ -32,10 +33,12 @@ node_sized a = record { nodes = suc a.nodes; depth = suc a.depth }
 counted_sized : counts.Size → counts.Size
 counted_sized a = record { nodes = suc a.nodes; depth = a.depth }
 
-pub cap_beside : (a b : counts.Size) → capped (record { nodes = a.nodes + b.nodes; depth = max a.depth b.depth }) ≡ beside (capped a) (capped b)
+pub cap_beside : (a b : counts.Size)
+    → capped (record { nodes = a.nodes + b.nodes; depth = max a.depth b.depth }) ≡ beside (capped a) (capped b)
 unfolding capped beside
 cap_beside a b =
-    let nodes : min (a.nodes + b.nodes) 1_000_001 ≡ min (min a.nodes 1_000_001 + min b.nodes 1_000_001) 1_000_001 = omega arith in
+    let nodes : min (a.nodes + b.nodes) 1_000_001 ≡ min (min a.nodes 1_000_001 + min b.nodes 1_000_001) 1_000_001 =
+    omega arith in
     let depth : min (max a.depth b.depth) 1_001 ≡ max (min a.depth 1_001) (min b.depth 1_001) = omega arith in
     λ j. record { nodes = nodes j; depth = depth j }
 
@@ -58,13 +61,14 @@ cap_deeper a =
     let depth : min (suc a.depth) 1_001 ≡ min (suc (min a.depth 1_001)) 1_001 = omega arith in
     λ j. record { nodes = min a.nodes 1_000_001; depth = depth j }
 
-pub of_two : (a b : counts.Size) →
-    capped (record { nodes = suc (a.nodes + b.nodes); depth = suc (max a.depth b.depth) }) ≡ node_of_two (capped a) (capped b)
+pub of_two : (a b : counts.Size)
+    → capped (record { nodes = suc (a.nodes + b.nodes); depth = suc (max a.depth b.depth) })
+    ≡ node_of_two (capped a) (capped b)
 unfolding node_of_two
 of_two a b = of_one (record { nodes = a.nodes + b.nodes; depth = max a.depth b.depth }) ∙ ap node (cap_beside a b)
 
-pub of_three : (a b c : counts.Size) →
-    capped (record { nodes = suc (a.nodes + b.nodes + c.nodes); depth = suc (max a.depth (max b.depth c.depth)) })
+pub of_three : (a b c : counts.Size)
+    → capped (record { nodes = suc (a.nodes + b.nodes + c.nodes); depth = suc (max a.depth (max b.depth c.depth)) })
     ≡ node_of_three (capped a) (capped b) (capped c)
 unfolding node_of_three
 of_three a b c =
@@ -77,20 +81,24 @@ of_three a b c =
     unfolding node_of_two
     two_of {z = z} h = ap (λ x. node (beside x z)) h
 
-pub of_four : (a b c d : counts.Size) →
-    capped (record { nodes = suc (a.nodes + b.nodes + c.nodes + d.nodes); depth = suc (max a.depth (max b.depth (max c.depth d.depth))) })
+pub of_four : (a b c d : counts.Size)
+    → capped (record {
+      nodes = suc (a.nodes + b.nodes + c.nodes + d.nodes);
+      depth = suc (max a.depth (max b.depth (max c.depth d.depth)));
+    })
     ≡ node_of_four (capped a) (capped b) (capped c) (capped d)
 unfolding node_of_four node_of_three
 of_four a b c d =
-    let row : max a.depth (max b.depth (max c.depth d.depth)) ≡ max (max a.depth b.depth) (max c.depth d.depth) = omega arith in
+    let row : max a.depth (max b.depth (max c.depth d.depth)) ≡ max (max a.depth b.depth) (max c.depth d.depth) =
+    omega arith in
     ap (λ m. capped (record { nodes = suc (a.nodes + b.nodes + c.nodes + d.nodes); depth = suc m })) row
     ∙ of_three (record { nodes = a.nodes + b.nodes; depth = max a.depth b.depth }) c d
     ∙ ap (λ x. node (beside (beside x (capped c)) (capped d))) (cap_beside a b)
 
 -- all that the equations below compute with
 opened : Type 0
-unfolding leaf mono_measure option_measure ty_measure triple_measure term_measure fix_measure comp_measure step_measure formula_measure
-    terms_measure capped nodes_mono nodes_option nodes_term depth_mono depth_option depth_term
+unfolding leaf mono_measure option_measure ty_measure triple_measure term_measure fix_measure comp_measure step_measure
+    formula_measure terms_measure capped nodes_mono nodes_option nodes_term depth_mono depth_option depth_term
 opened = ⊤
 
 -- ---- the forms of nodes
@@ -111,7 +119,8 @@ pub mono_unit_measure : mono_measure m_unit ≡ leaf
 unfolding opened
 mono_unit_measure = refl
 
-pub mono_pair_measure : (left : MonoTree) (right : MonoTree) → mono_measure (m_pair left right) ≡ node_of_two (mono_measure left) (mono_measure right)
+pub mono_pair_measure : (left : MonoTree) (right : MonoTree)
+    → mono_measure (m_pair left right) ≡ node_of_two (mono_measure left) (mono_measure right)
 unfolding opened
 mono_pair_measure left right = of_two (mono_size left) (mono_size right)
 
@@ -119,7 +128,8 @@ pub ty_mono_measure : (mono : MonoTree) → ty_measure (y_mono mono) ≡ node (m
 unfolding opened
 ty_mono_measure mono = of_one (mono_size mono)
 
-pub ty_fun_measure : (argument : TyTree) (answer : TyTree) → ty_measure (y_fun argument answer) ≡ node_of_two (ty_measure argument) (ty_measure answer)
+pub ty_fun_measure : (argument : TyTree) (answer : TyTree)
+    → ty_measure (y_fun argument answer) ≡ node_of_two (ty_measure argument) (ty_measure answer)
 unfolding opened
 ty_fun_measure argument answer = of_two (ty_size argument) (ty_size answer)
 
@@ -135,7 +145,9 @@ pub ty_at_measure : (at : ℕ) (ty : TyTree) → ty_measure (y_at at ty) ≡ ty_
 unfolding opened
 ty_at_measure at ty = refl
 
-pub triple_of_measure : (pre : FormulaTree) (mono : MonoTree) (post : FormulaTree) → triple_measure (triple pre mono post) ≡ node_of_three (formula_measure pre) (mono_measure mono) (formula_measure post)
+pub triple_of_measure : (pre : FormulaTree) (mono : MonoTree) (post : FormulaTree)
+    → triple_measure (triple pre mono post)
+    ≡ node_of_three (formula_measure pre) (mono_measure mono) (formula_measure post)
 unfolding opened
 triple_of_measure pre mono post = of_three (formula_size pre) (mono_size mono) (formula_size post)
 
@@ -147,11 +159,13 @@ pub term_def_measure : (number : ℕ) → term_measure (t_def number) ≡ leaf
 unfolding opened
 term_def_measure number = refl
 
-pub term_app_measure : (function : TermTree) (argument : TermTree) → term_measure (t_app function argument) ≡ node_of_two (term_measure function) (term_measure argument)
+pub term_app_measure : (function : TermTree) (argument : TermTree)
+    → term_measure (t_app function argument) ≡ node_of_two (term_measure function) (term_measure argument)
 unfolding opened
 term_app_measure function argument = of_two (term_size function) (term_size argument)
 
-pub term_inst_measure : (function : TermTree) (mono : MonoTree) → term_measure (t_inst function mono) ≡ node_of_two (term_measure function) (mono_measure mono)
+pub term_inst_measure : (function : TermTree) (mono : MonoTree)
+    → term_measure (t_inst function mono) ≡ node_of_two (term_measure function) (mono_measure mono)
 unfolding opened
 term_inst_measure function mono = of_two (term_size function) (mono_size mono)
 
@@ -187,7 +201,8 @@ pub term_unit_measure : term_measure t_unit ≡ leaf
 unfolding opened
 term_unit_measure = refl
 
-pub term_pair_measure : (left : TermTree) (right : TermTree) → term_measure (t_pair left right) ≡ node_of_two (term_measure left) (term_measure right)
+pub term_pair_measure : (left : TermTree) (right : TermTree)
+    → term_measure (t_pair left right) ≡ node_of_two (term_measure left) (term_measure right)
 unfolding opened
 term_pair_measure left right = of_two (term_size left) (term_size right)
 
@@ -203,23 +218,30 @@ pub term_not_measure : (term : TermTree) → term_measure (t_not term) ≡ node 
 unfolding opened
 term_not_measure term = of_one (term_size term)
 
-pub term_bin_measure : (op : Op) (left : TermTree) (right : TermTree) → term_measure (t_bin op left right) ≡ node_of_two (term_measure left) (term_measure right)
+pub term_bin_measure : (op : Op) (left : TermTree) (right : TermTree)
+    → term_measure (t_bin op left right) ≡ node_of_two (term_measure left) (term_measure right)
 unfolding opened
 term_bin_measure op left right = of_two (term_size left) (term_size right)
 
-pub term_eq_measure : (mono : MonoTree) (left : TermTree) (right : TermTree) → term_measure (t_eq mono left right) ≡ node_of_three (mono_measure mono) (term_measure left) (term_measure right)
+pub term_eq_measure : (mono : MonoTree) (left : TermTree) (right : TermTree)
+    → term_measure (t_eq mono left right) ≡ node_of_three (mono_measure mono) (term_measure left) (term_measure right)
 unfolding opened
 term_eq_measure mono left right = of_three (mono_size mono) (term_size left) (term_size right)
 
-pub term_sel_measure : (mono : MonoTree) (test : TermTree) (on_true : TermTree) (on_false : TermTree) → term_measure (t_sel mono test on_true on_false) ≡ node_of_four (mono_measure mono) (term_measure test) (term_measure on_true) (term_measure on_false)
+pub term_sel_measure : (mono : MonoTree) (test : TermTree) (on_true : TermTree) (on_false : TermTree)
+    → term_measure (t_sel mono test on_true on_false)
+    ≡ node_of_four (mono_measure mono) (term_measure test) (term_measure on_true) (term_measure on_false)
 unfolding opened
-term_sel_measure mono test on_true on_false = of_four (mono_size mono) (term_size test) (term_size on_true) (term_size on_false)
+term_sel_measure mono test on_true on_false =
+    of_four (mono_size mono) (term_size test) (term_size on_true) (term_size on_false)
 
-pub term_ann_measure : (term : TermTree) (ty : TyTree) → term_measure (t_ann term ty) ≡ node_of_two (term_measure term) (ty_measure ty)
+pub term_ann_measure : (term : TermTree) (ty : TyTree)
+    → term_measure (t_ann term ty) ≡ node_of_two (term_measure term) (ty_measure ty)
 unfolding opened
 term_ann_measure term ty = of_two (term_size term) (ty_size ty)
 
-pub term_made_measure : (number : ℕ) (values : TermTrees) → term_measure (t_made number values) ≡ node (terms_measure values)
+pub term_made_measure : (number : ℕ) (values : TermTrees)
+    → term_measure (t_made number values) ≡ node (terms_measure values)
 unfolding opened
 term_made_measure number values = of_one (terms_size values)
 
@@ -227,29 +249,43 @@ pub term_at_measure : (at : ℕ) (term : TermTree) → term_measure (t_at at ter
 unfolding opened
 term_at_measure at term = refl
 
-pub step_run_measure : (term : TermTree) (mono : Option MonoTree) → step_measure (s_run term mono) ≡ node_of_two (term_measure term) (option_measure mono)
+pub step_run_measure : (term : TermTree) (mono : Option MonoTree)
+    → step_measure (s_run term mono) ≡ node_of_two (term_measure term) (option_measure mono)
 unfolding opened
 step_run_measure term mono = of_two (term_size term) (option_size mono)
 
-pub step_alloc_measure : (mono : MonoTree) (value : TermTree) → step_measure (s_alloc mono value) ≡ node_of_two (mono_measure mono) (term_measure value)
+pub step_alloc_measure : (mono : MonoTree) (value : TermTree)
+    → step_measure (s_alloc mono value) ≡ node_of_two (mono_measure mono) (term_measure value)
 unfolding opened
 step_alloc_measure mono value = of_two (mono_size mono) (term_size value)
 
-pub step_get_measure : (mono : MonoTree) (place : TermTree) → step_measure (s_get mono place) ≡ node_of_two (mono_measure mono) (term_measure place)
+pub step_get_measure : (mono : MonoTree) (place : TermTree)
+    → step_measure (s_get mono place) ≡ node_of_two (mono_measure mono) (term_measure place)
 unfolding opened
 step_get_measure mono place = of_two (mono_size mono) (term_size place)
 
-pub step_set_measure : (mono : MonoTree) (place : TermTree) (value : TermTree) → step_measure (s_set mono place value) ≡ node_of_three (mono_measure mono) (term_measure place) (term_measure value)
+pub step_set_measure : (mono : MonoTree) (place : TermTree) (value : TermTree)
+    → step_measure (s_set mono place value)
+    ≡ node_of_three (mono_measure mono) (term_measure place) (term_measure value)
 unfolding opened
 step_set_measure mono place value = of_three (mono_size mono) (term_size place) (term_size value)
 
-pub step_free_measure : (mono : MonoTree) (place : TermTree) → step_measure (s_free mono place) ≡ node_of_two (mono_measure mono) (term_measure place)
+pub step_free_measure : (mono : MonoTree) (place : TermTree)
+    → step_measure (s_free mono place) ≡ node_of_two (mono_measure mono) (term_measure place)
 unfolding opened
 step_free_measure mono place = of_two (mono_size mono) (term_size place)
 
-pub step_if_measure : (mono : MonoTree) (test : TermTree) (on_true : CompTree) (on_false : CompTree) → step_measure (s_if mono test on_true on_false) ≡ node_of_four (mono_measure mono) (term_measure test) (deeper (comp_measure on_true)) (deeper (comp_measure on_false))
+pub step_if_measure : (mono : MonoTree) (test : TermTree) (on_true : CompTree) (on_false : CompTree)
+    → step_measure (s_if mono test on_true on_false)
+    ≡ node_of_four (mono_measure mono) (term_measure test) (deeper (comp_measure on_true))
+    (deeper (comp_measure on_false))
 unfolding opened
-step_if_measure mono test on_true on_false = of_four (mono_size mono) (term_size test) (deeper_size (comp_size on_true)) (deeper_size (comp_size on_false)) ∙ ap (λ x. node_of_four (mono_measure mono) (term_measure test) x (capped (deeper_size (comp_size on_false)))) (cap_deeper (comp_size on_true)) ∙ ap (λ x. node_of_four (mono_measure mono) (term_measure test) (deeper (comp_measure on_true)) x) (cap_deeper (comp_size on_false))
+step_if_measure mono test on_true on_false =
+    of_four (mono_size mono) (term_size test) (deeper_size (comp_size on_true)) (deeper_size (comp_size on_false))
+    ∙ ap (λ x. node_of_four (mono_measure mono) (term_measure test) x (capped (deeper_size (comp_size on_false))))
+    (cap_deeper (comp_size on_true))
+    ∙ ap (λ x. node_of_four (mono_measure mono) (term_measure test) (deeper (comp_measure on_true)) x)
+    (cap_deeper (comp_size on_false))
 
 pub step_claim_measure : (formula : FormulaTree) → step_measure (s_claim formula) ≡ node (formula_measure formula)
 unfolding opened
@@ -263,23 +299,28 @@ pub formula_ff_measure : formula_measure f_ff ≡ leaf
 unfolding opened
 formula_ff_measure = refl
 
-pub formula_and_measure : (left : FormulaTree) (right : FormulaTree) → formula_measure (f_and left right) ≡ node_of_two (formula_measure left) (formula_measure right)
+pub formula_and_measure : (left : FormulaTree) (right : FormulaTree)
+    → formula_measure (f_and left right) ≡ node_of_two (formula_measure left) (formula_measure right)
 unfolding opened
 formula_and_measure left right = of_two (formula_size left) (formula_size right)
 
-pub formula_or_measure : (left : FormulaTree) (right : FormulaTree) → formula_measure (f_or left right) ≡ node_of_two (formula_measure left) (formula_measure right)
+pub formula_or_measure : (left : FormulaTree) (right : FormulaTree)
+    → formula_measure (f_or left right) ≡ node_of_two (formula_measure left) (formula_measure right)
 unfolding opened
 formula_or_measure left right = of_two (formula_size left) (formula_size right)
 
-pub formula_imp_measure : (left : FormulaTree) (right : FormulaTree) → formula_measure (f_imp left right) ≡ node_of_two (formula_measure left) (formula_measure right)
+pub formula_imp_measure : (left : FormulaTree) (right : FormulaTree)
+    → formula_measure (f_imp left right) ≡ node_of_two (formula_measure left) (formula_measure right)
 unfolding opened
 formula_imp_measure left right = of_two (formula_size left) (formula_size right)
 
-pub formula_all_t_measure : (mono : MonoTree) (body : FormulaTree) → formula_measure (f_all_t mono body) ≡ node_of_two (mono_measure mono) (formula_measure body)
+pub formula_all_t_measure : (mono : MonoTree) (body : FormulaTree)
+    → formula_measure (f_all_t mono body) ≡ node_of_two (mono_measure mono) (formula_measure body)
 unfolding opened
 formula_all_t_measure mono body = of_two (mono_size mono) (formula_size body)
 
-pub formula_ex_t_measure : (mono : MonoTree) (body : FormulaTree) → formula_measure (f_ex_t mono body) ≡ node_of_two (mono_measure mono) (formula_measure body)
+pub formula_ex_t_measure : (mono : MonoTree) (body : FormulaTree)
+    → formula_measure (f_ex_t mono body) ≡ node_of_two (mono_measure mono) (formula_measure body)
 unfolding opened
 formula_ex_t_measure mono body = of_two (mono_size mono) (formula_size body)
 
@@ -295,11 +336,14 @@ pub formula_emp_measure : (heap : ℕ) → formula_measure (f_emp heap) ≡ leaf
 unfolding opened
 formula_emp_measure heap = refl
 
-pub formula_cell_measure : (mono : MonoTree) (heap : ℕ) (place : TermTree) (value : TermTree) → formula_measure (f_cell mono heap place value) ≡ node_of_three (mono_measure mono) (term_measure place) (term_measure value)
+pub formula_cell_measure : (mono : MonoTree) (heap : ℕ) (place : TermTree) (value : TermTree)
+    → formula_measure (f_cell mono heap place value)
+    ≡ node_of_three (mono_measure mono) (term_measure place) (term_measure value)
 unfolding opened
 formula_cell_measure mono heap place value = of_three (mono_size mono) (term_size place) (term_size value)
 
-pub formula_block_measure : (mono : MonoTree) (heap : ℕ) (place : TermTree) → formula_measure (f_block mono heap place) ≡ node_of_two (mono_measure mono) (term_measure place)
+pub formula_block_measure : (mono : MonoTree) (heap : ℕ) (place : TermTree)
+    → formula_measure (f_block mono heap place) ≡ node_of_two (mono_measure mono) (term_measure place)
 unfolding opened
 formula_block_measure mono heap place = of_two (mono_size mono) (term_size place)
 
@@ -311,7 +355,9 @@ pub formula_same_measure : (left : ℕ) (right : ℕ) → formula_measure (f_sam
 unfolding opened
 formula_same_measure left right = refl
 
-pub formula_eq_measure : (mono : MonoTree) (left : TermTree) (right : TermTree) → formula_measure (f_eq mono left right) ≡ node_of_three (mono_measure mono) (term_measure left) (term_measure right)
+pub formula_eq_measure : (mono : MonoTree) (left : TermTree) (right : TermTree)
+    → formula_measure (f_eq mono left right)
+    ≡ node_of_three (mono_measure mono) (term_measure left) (term_measure right)
 unfolding opened
 formula_eq_measure mono left right = of_three (mono_size mono) (term_size left) (term_size right)
 
@@ -319,7 +365,8 @@ pub formula_at_measure : (at : ℕ) (formula : FormulaTree) → formula_measure 
 unfolding opened
 formula_at_measure at formula = refl
 
-pub formula_rec_measure : (number : ℕ) (heap : ℕ) (place : TermTree) (arguments : TermTrees) → formula_measure (f_rec number heap place arguments) ≡ node_of_two (term_measure place) (terms_measure arguments)
+pub formula_rec_measure : (number : ℕ) (heap : ℕ) (place : TermTree) (arguments : TermTrees)
+    → formula_measure (f_rec number heap place arguments) ≡ node_of_two (term_measure place) (terms_measure arguments)
 unfolding opened
 formula_rec_measure number heap place arguments = of_two (term_size place) (terms_size arguments)
 
@@ -331,7 +378,8 @@ pub term_var_measure : (index : ℕ) → term_measure (t_var index) ≡ leaf
 unfolding opened
 term_var_measure index = refl
 
-pub param_measure : (ty : TyTree) (rest : FixTree) → fix_measure (x_param ty rest) ≡ beside (ty_measure ty) (fix_measure rest)
+pub param_measure : (ty : TyTree) (rest : FixTree)
+    → fix_measure (x_param ty rest) ≡ beside (ty_measure ty) (fix_measure rest)
 unfolding opened
 param_measure ty rest = cap_beside (ty_size ty) (fix_size rest)
 
@@ -339,14 +387,19 @@ pub body_measure : (spec : TripleTree) (comp : CompTree)
     → fix_measure (x_body spec comp) ≡ counted (beside (triple_measure spec) (deeper (comp_measure comp)))
 unfolding opened
 body_measure spec comp =
-    cap_counted (record { nodes = (triple_size spec).nodes + (comp_size comp).nodes; depth = max (triple_size spec).depth (suc (comp_size comp).depth) })
-    ∙ ap counted (cap_beside (triple_size spec) (deeper_size (comp_size comp)) ∙ ap (beside (triple_measure spec)) (cap_deeper (comp_size comp)))
+    cap_counted (record {
+      nodes = (triple_size spec).nodes + (comp_size comp).nodes;
+      depth = max (triple_size spec).depth (suc (comp_size comp).depth);
+    })
+    ∙ ap counted (cap_beside (triple_size spec) (deeper_size (comp_size comp))
+    ∙ ap (beside (triple_measure spec)) (cap_deeper (comp_size comp)))
 
 pub ret_measure : (term : TermTree) → comp_measure (c_ret term) ≡ counted (term_measure term)
 unfolding opened
 ret_measure term = cap_counted (term_size term)
 
-pub bound_measure : (step : StepTree) (rest : CompTree) → comp_measure (c_step step rest) ≡ beside (step_measure step) (comp_measure rest)
+pub bound_measure : (step : StepTree) (rest : CompTree)
+    → comp_measure (c_step step rest) ≡ beside (step_measure step) (comp_measure rest)
 unfolding opened
 bound_measure step rest = cap_beside (step_size step) (comp_size rest)
 
@@ -354,7 +407,8 @@ pub no_terms_measure : terms_measure no_terms ≡ nothing
 unfolding opened nothing
 no_terms_measure = refl
 
-pub more_terms_measure : (first : TermTree) (others : TermTrees) → terms_measure (more_terms first others) ≡ beside (term_measure first) (terms_measure others)
+pub more_terms_measure : (first : TermTree) (others : TermTrees)
+    → terms_measure (more_terms first others) ≡ beside (term_measure first) (terms_measure others)
 unfolding opened
 more_terms_measure first others = cap_beside (term_size first) (terms_size others)
 

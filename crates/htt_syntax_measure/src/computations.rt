@@ -10,7 +10,9 @@ ghost use Rattle.htt_syntax_measure.specs.Measures.{beside, counted, term_measur
 
 use crate::formulas::formula_under;
 use crate::mono::{measure_mono, measure_mono_option};
-use crate::parts::{counted, deeper, node_of_four, node_of_one, node_of_three, node_of_two, side_by_side};
+use crate::parts::{
+    counted, deeper, node_of_four, node_of_one, node_of_three, node_of_two, side_by_side,
+};
 use crate::size::Size;
 use crate::sizes::Sizes;
 use crate::terms::measure_term;
@@ -22,7 +24,7 @@ use std::alloc::AllocError;
 /// The size of what a recursive function is made of, with what is put for its variables; `depth` binders stand around
 /// it. It fails where more than 32 bits of binders stand around a place, and takes no memory.
 #[cycle(measure)]
-#[tactic(auto, using(crate::specs::MeasureLevels::fix_measures, htt_syntax_walk::specs::WalkLevels::fix_walks), unfolding(htt_syntax::specs::Levels::fix_tree))]
+#[tactic(auto, using(crate::proofs::Rows::fix_row))]
 pub fn measure_fix<S: Sizes>(fix: &Fix, sizes: &S, depth: u32) -> Result<Size, AllocError>
     ensures measured { (p : Puts) → S.measures sizes.now p → IfOk result (λ z. z ≡ fix_measure (walk_fix p depth (fix_tree fix.now))) }
 {
@@ -40,7 +42,7 @@ pub fn measure_fix<S: Sizes>(fix: &Fix, sizes: &S, depth: u32) -> Result<Size, A
 
 /// The size of what a computation is made of, likewise.
 #[cycle(measure)]
-#[tactic(auto, using(crate::specs::MeasureLevels::comp_measures, htt_syntax_walk::specs::WalkLevels::comp_walks), unfolding(htt_syntax::specs::Levels::comp_tree))]
+#[tactic(auto, using(crate::proofs::Rows::comp_row))]
 pub fn measure_comp<S: Sizes>(comp: &Comp, sizes: &S, depth: u32) -> Result<Size, AllocError>
     ensures measured { (p : Puts) → S.measures sizes.now p → IfOk result (λ z. z ≡ comp_measure (walk_comp p depth (comp_tree comp.now))) }
 {
@@ -55,7 +57,7 @@ pub fn measure_comp<S: Sizes>(comp: &Comp, sizes: &S, depth: u32) -> Result<Size
 
 /// The size of the step, likewise.
 #[cycle(measure)]
-#[tactic(auto, using(htt_syntax::specs::Levels::step_levels, htt_syntax_walk::specs::WalkLevels::step_walks, crate::specs::MeasureLevels::step_measures))]
+#[tactic(auto, using(crate::proofs::Rows::step_rows))]
 pub fn measure_step<S: Sizes>(step: &Step, sizes: &S, depth: u32) -> Result<Size, AllocError>
     ensures measured { (p : Puts) → S.measures sizes.now p → IfOk result (λ z. z ≡ step_measure (walk_step p depth (step_tree step.now))) }
 {
@@ -93,11 +95,7 @@ pub fn measure_step<S: Sizes>(step: &Step, sizes: &S, depth: u32) -> Result<Size
 
 /// The size of parameters, each of which stands under those before it: what it adds to that of what is under all.
 #[cycle(measure)]
-fn measure_params<S: Sizes>(
-    params: &[Ty],
-    sizes: &S,
-    depth: u32,
-) -> Result<(Size, u32), AllocError>
+fn measure_params<S: Sizes>(params: &[Ty], sizes: &S, depth: u32) -> Result<(Size, u32), AllocError>
     ensures inner { IfOk result (λ r. r.1 ≡ depth + length params.now) }
     ensures measured { (p : Puts) → S.measures sizes.now p → IfOk result (λ r. (rest : FixTree) → fix_measure (walk_fix p depth (params_tree params.now rest)) ≡ beside r.0 (fix_measure (walk_fix p (depth + length params.now) rest))) }
 {
@@ -112,11 +110,7 @@ fn measure_params<S: Sizes>(
 
 /// The size of steps, each of which stands under those before it: what it adds to that of the result.
 #[cycle(measure)]
-fn measure_steps<S: Sizes>(
-    steps: &[Step],
-    sizes: &S,
-    depth: u32,
-) -> Result<(Size, u32), AllocError>
+fn measure_steps<S: Sizes>(steps: &[Step], sizes: &S, depth: u32) -> Result<(Size, u32), AllocError>
     ensures inner { IfOk result (λ r. r.1 ≡ depth + length steps.now) }
     ensures measured { (p : Puts) → S.measures sizes.now p → IfOk result (λ r. (end : TermTree) → comp_measure (walk_comp p depth (steps_tree steps.now end)) ≡ beside r.0 (counted (term_measure (walk_term p (depth + length steps.now) end)))) }
 {
@@ -137,19 +131,18 @@ pub(crate) fn fix_box<S: Sizes>(fix: &Boxed<Fix>, sizes: &S, depth: u32) -> Resu
 }
 
 #[cycle(measure)]
-pub(crate) fn comp_box<S: Sizes>(comp: &Boxed<Comp>, sizes: &S, depth: u32) -> Result<Size, AllocError>
+pub(crate) fn comp_box<S: Sizes>(
+    comp: &Boxed<Comp>,
+    sizes: &S,
+    depth: u32,
+) -> Result<Size, AllocError>
     ensures measured { (p : Puts) → S.measures sizes.now p → IfOk result (λ z. z ≡ comp_measure (walk_comp p depth (comp_tree comp.now))) }
 {
     measure_comp(comp.get(), sizes, depth)
 }
 
 #[cycle(measure)]
-fn comp_under<S: Sizes>(
-    comp: &Comp,
-    sizes: &S,
-    depth: u32,
-    by: u32,
-) -> Result<Size, AllocError>
+fn comp_under<S: Sizes>(comp: &Comp, sizes: &S, depth: u32, by: u32) -> Result<Size, AllocError>
     ensures measured { (p : Puts) → S.measures sizes.now p → IfOk result (λ z. z ≡ comp_measure (walk_comp p (depth + by) (comp_tree comp.now))) }
 {
     match depth.checked_add(by) {

@@ -18,7 +18,7 @@ use std::alloc::AllocError;
 /// than 32 bits of binders stand around a place, and takes no memory. One flat `match`: each form of node is one line,
 /// so that a missing or wrong one is seen.
 #[cycle(measure)]
-#[tactic(auto, using(htt_syntax::specs::Levels::formula_levels, htt_syntax_walk::specs::WalkLevels::formula_walks, crate::specs::MeasureLevels::formula_measures))]
+#[tactic(auto, using(crate::proofs::Rows::formula_rows))]
 pub fn measure_formula<S: Sizes>(
     formula: &Formula,
     sizes: &S,
@@ -27,8 +27,11 @@ pub fn measure_formula<S: Sizes>(
     ensures measured { (p : Puts) → S.measures sizes.now p → IfOk result (λ z. z ≡ formula_measure (walk_formula p depth (formula_tree formula.now))) }
 {
     match formula {
-        Formula::Tt | Formula::Ff | Formula::Emp(_) => Ok(Size::leaf()),
-        Formula::Join(_, _, _) | Formula::Same(_, _) => Ok(Size::leaf()),
+        Formula::Tt => Ok(Size::leaf()),
+        Formula::Ff => Ok(Size::leaf()),
+        Formula::Emp(_) => Ok(Size::leaf()),
+        Formula::Join(_, _, _) => Ok(Size::leaf()),
+        Formula::Same(_, _) => Ok(Size::leaf()),
         Formula::And(left, right) => node_of_two(
             formula_box(left, sizes, depth),
             formula_box(right, sizes, depth),
@@ -74,7 +77,11 @@ pub fn measure_formula<S: Sizes>(
 }
 
 #[cycle(measure)]
-fn formula_box<S: Sizes>(formula: &Boxed<Formula>, sizes: &S, depth: u32) -> Result<Size, AllocError>
+fn formula_box<S: Sizes>(
+    formula: &Boxed<Formula>,
+    sizes: &S,
+    depth: u32,
+) -> Result<Size, AllocError>
     ensures measured { (p : Puts) → S.measures sizes.now p → IfOk result (λ z. z ≡ formula_measure (walk_formula p depth (formula_tree formula.now))) }
 {
     measure_formula(formula.get(), sizes, depth)

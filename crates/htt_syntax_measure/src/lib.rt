@@ -20,7 +20,6 @@ pub use computations::{measure_comp, measure_fix, measure_step};
 pub use formulas::measure_formula;
 pub use mono::measure_mono;
 pub use own::{size_of_formula, size_of_mono};
-pub use parts::{node_of_four, node_of_one, node_of_three, node_of_two};
 pub use size::Size;
 pub use sizes::Sizes;
 pub use terms::{measure_term, measure_terms};

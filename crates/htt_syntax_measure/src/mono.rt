@@ -12,12 +12,15 @@ use sqlite_items::Boxed;
 
 /// The size of the monotype with what is put for its variables; `depth` binders stand around it.
 #[cycle(mono)]
-#[tactic(auto, using(htt_syntax::specs::Levels::mono_levels, htt_syntax_walk::specs::WalkLevels::mono_walks, crate::specs::MeasureLevels::mono_measures), unfolding(crate::specs::Measures::node_of_two))]
+#[tactic(auto, using(crate::proofs::Rows::mono_rows))]
 pub fn measure_mono<S: Sizes>(mono: &Mono, sizes: &S, depth: u32) -> Size
     ensures measured { (p : Puts) → S.measures sizes.now p → result ≡ mono_measure (walk_mono p depth (mono_tree mono.now)) }
 {
     match mono {
-        Mono::Word | Mono::Bool | Mono::Loc | Mono::Unit => Size::leaf(),
+        Mono::Word => Size::leaf(),
+        Mono::Bool => Size::leaf(),
+        Mono::Loc => Size::leaf(),
+        Mono::Unit => Size::leaf(),
         Mono::Pair(left, right) => mono_box(left, sizes, depth)
             .beside(mono_box(right, sizes, depth))
             .under_node(),

@@ -18,19 +18,19 @@ struct Own {}
 impl Sizes for Own {
     ghost measures = { λ own p. p ≡ kept };
 
-    #[tactic(auto, using(crate::proofs::Own::term_own))]
+    #[tactic(auto, using(crate::proofs::Itself::term_own))]
     fn at_term(&self, index: u32, depth: u32) -> Size {
         Size::leaf()
     }
 
-    #[tactic(auto, using(crate::proofs::Own::mono_own))]
+    #[tactic(auto, using(crate::proofs::Itself::mono_own))]
     fn at_mono(&self, index: u32, depth: u32) -> Size {
         Size::leaf()
     }
 }
 
 /// The size of the monotype.
-#[tactic(auto, using(crate::proofs::Own::own_mono))]
+#[tactic(auto, using(crate::proofs::Itself::own_mono))]
 pub fn size_of_mono(mono: &Mono) -> Size
     ensures measured { result ≡ mono_measure (mono_tree mono.now) }
 {
@@ -38,7 +38,7 @@ pub fn size_of_mono(mono: &Mono) -> Size
 }
 
 /// The size of the formula. It takes no memory, and fails where more than 32 bits of binders stand around a place.
-#[tactic(auto, using(crate::proofs::Own::own_formula))]
+#[tactic(auto, using(crate::proofs::Itself::own_formula))]
 pub fn size_of_formula(formula: &Formula) -> Result<Size, AllocError>
     ensures measured { IfOk result (λ z. z ≡ formula_measure (formula_tree formula.now)) }
 {

@@ -20,14 +20,18 @@ use std::alloc::AllocError;
 /// 32 bits of binders stand around a place, and takes no memory. One flat `match`: each form of node is one line, so
 /// that a missing or wrong one is seen.
 #[cycle(measure)]
-#[tactic(auto, using(htt_syntax::specs::Levels::term_levels, htt_syntax_walk::specs::WalkLevels::term_walks, crate::specs::MeasureLevels::term_measures))]
+#[tactic(auto, using(crate::proofs::Rows::term_rows))]
 pub fn measure_term<S: Sizes>(term: &Term, sizes: &S, depth: u32) -> Result<Size, AllocError>
     ensures measured { (p : Puts) → S.measures sizes.now p → IfOk result (λ z. z ≡ term_measure (walk_term p depth (term_tree term.now))) }
 {
     match term {
         Term::Var(index) => Ok(sizes.at_term(*index, depth)),
-        Term::Val(_) | Term::Def(_) => Ok(Size::leaf()),
-        Term::Word(_) | Term::Bool(_) | Term::Loc(_) | Term::Unit => Ok(Size::leaf()),
+        Term::Val(_) => Ok(Size::leaf()),
+        Term::Def(_) => Ok(Size::leaf()),
+        Term::Word(_) => Ok(Size::leaf()),
+        Term::Bool(_) => Ok(Size::leaf()),
+        Term::Loc(_) => Ok(Size::leaf()),
+        Term::Unit => Ok(Size::leaf()),
         Term::App(function, argument) => node_of_two(
             term_box(function, sizes, depth),
             term_box(argument, sizes, depth),

@@ -47,7 +47,13 @@ fn a_position_counts_nothing(rt: HostRuntime) -> Result<(), Fail> {
 fn steps_stand_beside_the_result(rt: HostRuntime) -> Result<(), Fail> {
     let term = computation(rt.alloc())?;
     let equation = Formula::Eq(Mono::Word, term, Term::Unit);
-    assert_eq!(rt; size_of_formula(&equation)?, Size { nodes: 11, depth: 5 });
+    assert_eq!(rt;
+        size_of_formula(&equation)?,
+        Size {
+            nodes: 11,
+            depth: 5
+        }
+    );
     Ok(())
 }
 
@@ -58,7 +64,13 @@ fn a_size_stops_one_past_the_limit(rt: HostRuntime) -> Result<(), Fail> {
         depth: 1_000,
     };
     let both = large.beside(large).under_node();
-    assert_eq!(rt; both, Size { nodes: 1_000_001, depth: 1_001 });
+    assert_eq!(rt;
+        both,
+        Size {
+            nodes: 1_000_001,
+            depth: 1_001
+        }
+    );
     assert!(rt; !both.has_few_nodes());
     assert!(rt; !both.is_flat());
     assert!(rt; large.has_few_nodes());

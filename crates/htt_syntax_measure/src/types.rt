@@ -18,7 +18,7 @@ use std::alloc::AllocError;
 /// The size of the type with what is put for its variables; `depth` binders stand around it. It fails where more than
 /// 32 bits of binders stand around a place, and takes no memory.
 #[cycle(measure)]
-#[tactic(auto, using(htt_syntax::specs::Levels::ty_levels, htt_syntax_walk::specs::WalkLevels::ty_walks, crate::specs::MeasureLevels::ty_measures))]
+#[tactic(auto, using(crate::proofs::Rows::ty_rows))]
 pub fn measure_ty<S: Sizes>(ty: &Ty, sizes: &S, depth: u32) -> Result<Size, AllocError>
     ensures measured { (p : Puts) → S.measures sizes.now p → IfOk result (λ z. z ≡ ty_measure (walk_ty p depth (ty_tree ty.now))) }
 {
@@ -36,7 +36,7 @@ pub fn measure_ty<S: Sizes>(ty: &Ty, sizes: &S, depth: u32) -> Result<Size, Allo
 
 /// The size of the triple, likewise.
 #[cycle(measure)]
-#[tactic(auto, using(htt_syntax_walk::specs::WalkLevels::triple_walks, crate::specs::MeasureLevels::triple_measures), unfolding(htt_syntax::specs::Levels::triple_tree))]
+#[tactic(auto, using(crate::proofs::Rows::triple_rows))]
 pub fn measure_triple<S: Sizes>(triple: &Triple, sizes: &S, depth: u32) -> Result<Size, AllocError>
     ensures measured { (p : Puts) → S.measures sizes.now p → IfOk result (λ z. z ≡ triple_measure (walk_triple p depth (triple_tree triple.now))) }
 {

@@ -7,7 +7,7 @@ use Rattle.htt_resolve_scopes.proofs.heap_outside.Given as goal
 abbrev pub invariant-outward : goal.invariant-outward
 invariant-outward l =
     (heap_outside (is_of l.word) l.fn.over 0 (innermost_first l.fn.locals)
-     ≡ heap_outside (is_of l.word) l.left l.inside (innermost_first (take l.outer l.fn.locals)))
+    ≡ heap_outside (is_of l.word) l.left l.inside (innermost_first (take l.outer l.fn.locals)))
     × (l.inside + l.outer ≤ length l.fn.locals)
 
 abbrev pub decreases-outward : goal.decreases-outward

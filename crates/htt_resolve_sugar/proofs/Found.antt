@@ -1,5 +1,6 @@
 -- Where in a list that has the innermost one last a variable finds what is put for it.
-use Rattle.std.proofs.Common.{◌≡◌, ℕ, zero, suc, ◌+◌, ◌-◌, ◌<◌, ◌≤◌, inl, inr, List, [], ◌∷◌, ◌++◌, length, map, get_or, refl, sym, ap, ◌∙◌, arith, subst, Option, Some, None, slice_get}
+use Rattle.std.proofs.Common.{◌≡◌, ℕ, zero, suc, ◌+◌, ◌-◌, ◌<◌, ◌≤◌, inl, inr, List, [], ◌∷◌, ◌++◌, length, map, get_or, refl, sym, ap, ◌∙◌, arith, subst}
+use Rattle.std.proofs.Common.{Option, Some, None, slice_get}
 use Rattle.std.specs.Prelude.{reverse, option_map, option_and_then}
 use Rattle.std.proofs.lemmas.Option.{slice_get_read, slice_get-get_or, slice_get_past, get_or_from_slice_get, slice_get-map, slice_get_within}
 use Rattle.std.proofs.lemmas.List.{get_or-reverse, length-reverse, length-map, map-append, reverse-append}
@@ -50,7 +51,8 @@ pub put_there : (all : List Put) (index depth place : ℕ) (x : Put)
 unfolding puts_tree
 put_there all index depth place x (below, is) at =
     let out : index ≡ depth + (index - depth) = omega (arith, below) in
-    let count : suc (place + (index - depth)) ≡ length (map put_tree all) = (let n : suc (place + (index - depth)) ≡ length all = omega (arith, below, is) in n ∙ sym (length-map put_tree all)) in
+    let count : suc (place + (index - depth)) ≡ length (map put_tree all) =
+    (let n : suc (place + (index - depth)) ≡ length all = omega (arith, below, is) in n ∙ sym (length-map put_tree all)) in
     found (reverse (map put_tree all)) index depth (index - depth) (put_tree x) out
     (turned (map put_tree all) place (index - depth) (put_tree x) (slice_get-map put_tree all place ∙ ap (option_map put_tree) at) count)
 
