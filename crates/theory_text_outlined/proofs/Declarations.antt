@@ -50,18 +50,18 @@ alike_more [] (y ∷ es) d e h k = absurd h
 alike_more (x ∷ ds) [] d e h k = absurd h
 alike_more (x ∷ ds) (y ∷ es) d e (row, rows) k = (row, alike_more ds es d e rows k)
 
-recursion_alike : (m n : Meaning) → AlikeMeaning m n → a_recursion m ≡ a_recursion n
-recursion_alike m n alike_mono = refl
-recursion_alike m n (alike_pred h k) = refl
-recursion_alike m n alike_rec = refl
-recursion_alike m n alike_def = refl
-recursion_alike m n alike_val = refl
+recursion_alike : {m n : Meaning} → AlikeMeaning m n → a_recursion m ≡ a_recursion n
+recursion_alike alike_mono = refl
+recursion_alike (alike_pred h k) = refl
+recursion_alike alike_rec = refl
+recursion_alike alike_def = refl
+recursion_alike alike_val = refl
 
 row_alike : (d e : Option Declared) → AlikeRow d e → declares_such a_recursion d ≡ declares_such a_recursion e
 row_alike None None h = refl
 row_alike None (Some e) h = absurd h
 row_alike (Some d) None h = absurd h
-row_alike (Some d) (Some e) (same, alike) = recursion_alike d.meaning e.meaning alike
+row_alike (Some d) (Some e) (same, alike) = recursion_alike alike
 
 count_alike : (ds es : Names) → AlikeNames ds es → how_many a_recursion ds ≡ how_many a_recursion es
 count_alike [] [] h = refl
@@ -71,12 +71,12 @@ count_alike (d ∷ ds) (e ∷ es) (row, rows) = grind (arith, row_alike d e row,
 
 -- ---- new names
 
-none_alike : (u v : Option Use) → AlikeUse u v → is_none u ≡ is_none v
-none_alike u u same_use = refl
-none_alike (Some a) (Some b) (declared_alike h) = refl
+none_alike : {u v : Option Use} → AlikeUse u v → is_none u ≡ is_none v
+none_alike (same_use e) = ap is_none e
+none_alike (declared_alike h) = refl
 
 may_alike : (ds es : Names) (name : List ℕ) → AlikeNames ds es → may_be_declared ds name ≡ may_be_declared es name
-may_alike ds es name h = ap (λ b. not (is_reserved name) && b) (none_alike _ _ (declared_uses name ds es h))
+may_alike ds es name h = ap (λ b. not (is_reserved name) && b) (none_alike (declared_uses name ds es h))
 
 new_name_related : (names : Names) (s : Scope)
     → AlikeNames s.names names
