@@ -3,7 +3,7 @@ use Rattle.std.proofs.Common.{◌≡◌, ℕ, suc, ◌+◌, ◌<◌, ◌≤◌, 
 use Rattle.std.proofs.lemmas.List.{map-append, reverse-append, take_more}
 use Rattle.std.specs.Prelude.{Bool, true, false, Option, Some, None, reverse, if◌then◌else◌}
 use Rattle.theory_text_names.specs.Scopes as scopes
-use Rattle.theory_text_names.specs.Scopes.{one_more, one_more_hypothesis, hypotheses}
+use Rattle.theory_text_names.specs.Scopes.{one_more, one_more_hypothesis, hypotheses, heap_past, with_local}
 use Rattle.theory_text_names.specs.Uses.{is_named, use_of, local_use, heap_outside, heap_or_outer}
 use Rattle.htt_resolve_scopes.specs.declared.local.Local.{Local}
 use Rattle.htt_resolve_scopes.specs.Views.{sort_of, name_of, local_tree, innermost_first}
@@ -13,6 +13,20 @@ pub innermost_more : (rest : List Local) (l : Local) →
 unfolding innermost_first
 innermost_more rest l =
     ap reverse (map-append local_tree rest (l ∷ [])) ∙ reverse-append (map local_tree rest) (local_tree l ∷ [])
+
+pub innermost_empty : (locals : List Local) → locals ≡ [] → innermost_first locals ≡ []
+unfolding innermost_first
+innermost_empty locals none = ap (λ ls. reverse (map local_tree ls)) none
+
+-- under one more binder
+pub entered : (text : List ℕ) (names : scopes.Names) (old more : List Local) (l : Local) (inner heap : Option ℕ)
+    → more ≡ old ++ l ∷ []
+    → inner ≡ heap_past (sort_of l.sort) heap
+    → record { text = text; names = names; locals = innermost_first more; current = inner }
+    ≡ with_local (name_of l) (sort_of l.sort) (record { text = text; names = names; locals = innermost_first old; current = heap })
+entered text names old more l inner heap is past =
+    let locals : innermost_first more ≡ local_tree l ∷ innermost_first old = (ap innermost_first is ∙ innermost_more old l) in
+    λ j. record { text = text; names = names; locals = locals j; current = past j }
 
 -- the first so many, of which the last one stands at i
 innermost_next : (locals : List Local) (k i : ℕ) (l : Local)

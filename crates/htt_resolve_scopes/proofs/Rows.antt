@@ -6,12 +6,12 @@ use Rattle.htt_resolve_names.specs.declared.names.Declared.{Declared}
 use Rattle.htt_resolve_names.specs.Views.{declared_tree, rows_tree}
 
 pub rows_none : (name : List ℕ) → declared_use name (rows_tree []) ≡ None
-unfolding rows_tree, declared_use
+unfolding rows_tree declared_use
 rows_none name = refl
 
 pub rows_more : (name : List ℕ) (row : Option Declared) (rows : List (Option Declared)) →
     declared_use name (rows_tree (row ∷ rows)) ≡
     (if declares name (option_map declared_tree row) then meaning_of (option_map declared_tree row)
      else declared_use name (rows_tree rows))
-unfolding rows_tree, declared_use
+unfolding rows_tree declared_use
 rows_more name row rows = refl

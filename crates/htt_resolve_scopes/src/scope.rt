@@ -38,6 +38,7 @@ fn heap_past(sort: Sort, heap: Option<u32>) -> Result<Option<u32>, NameStop>
 
 impl<'a> Scope<'a> {
     /// A declaration behind those that declare these names. It takes no memory.
+    #[tactic(auto, using(crate::proofs::Outward::innermost_empty))]
     pub fn at_top(alloc: Global, text: &'a [u8], names: &'a [Option<Declared>]) -> Scope<'a>
         ensures top { scope_tree result ≡ at_top text.now (rows_tree names.now) }
     {

@@ -54,6 +54,7 @@ pub(crate) fn local_use<'a>(locals: &[Local], name: &[u8]) -> Option<Use<'a>>
 }
 
 /// What the row declares the name as, if it declares it.
+#[tactic(auto, unfolding(htt_resolve_names::specs::Views::declared_tree))]
 fn declared_by<'a>(row: &'a Option<Declared>, name: &[u8]) -> Option<&'a Meaning>
     ensures found { IfSome result (λ m. (declares name.now (option_map declared_tree row.now) ≡ true) × (meaning_of (option_map declared_tree row.now) ≡ Some (a_declared (meaning_tree m.now)))) }
     ensures other { IfNone result (declares name.now (option_map declared_tree row.now) ≡ false) }

@@ -1,7 +1,7 @@
 use Rattle.std.proofs.Common.{◌≡◌, length}
 use Rattle.theory_text_names.specs.Uses.{declared_use}
 use Rattle.htt_resolve_names.specs.Views.{rows_tree}
-use Rattle.htt_resolve_scopes.proofs.declared_use.Given as goal
+use Rattle.htt_resolve_scopes.proofs.uses.declared_use.Given as goal
 
 -- the first row of this name is one of those that are left
 abbrev pub invariant-onward : goal.invariant-onward

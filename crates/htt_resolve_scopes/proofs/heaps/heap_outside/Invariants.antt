@@ -1,7 +1,7 @@
 use Rattle.std.proofs.Common.{◌≡◌, ◌+◌, ◌≤◌, length, take}
 use Rattle.theory_text_names.specs.Uses.{heap_outside}
 use Rattle.htt_resolve_scopes.specs.Views.{innermost_first, is_of}
-use Rattle.htt_resolve_scopes.proofs.heap_outside.Given as goal
+use Rattle.htt_resolve_scopes.proofs.heaps.heap_outside.Given as goal
 
 -- the heap is one of those that are left
 abbrev pub invariant-outward : goal.invariant-outward

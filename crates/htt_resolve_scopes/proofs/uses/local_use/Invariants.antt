@@ -1,7 +1,7 @@
 use Rattle.std.proofs.Common.{◌≡◌, ◌+◌, ◌≤◌, length, take}
 use Rattle.theory_text_names.specs.Uses.{local_use}
 use Rattle.htt_resolve_scopes.specs.Views.{innermost_first}
-use Rattle.htt_resolve_scopes.proofs.local_use.Given as goal
+use Rattle.htt_resolve_scopes.proofs.uses.local_use.Given as goal
 
 -- the innermost local of this name is one of those that are left
 abbrev pub invariant-outward : goal.invariant-outward
