@@ -1,5 +1,4 @@
 pub mod Nodes
 pub mod Depth
-pub mod Sizes
 pub mod Laws
 pub mod Examples

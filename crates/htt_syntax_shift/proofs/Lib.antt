@@ -1,4 +1,0 @@
-pub mod Depths
-pub mod Renaming
-pub mod RenamingProofs
-pub mod Places

@@ -1,4 +1,0 @@
-pub mod Uses
-pub mod Phrases
-pub mod Proofs
-pub mod Declarations
