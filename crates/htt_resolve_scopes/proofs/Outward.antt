@@ -106,3 +106,20 @@ pub hypotheses_more : (k i : ℕ) (locals : List Local) (l : Local)
 hypotheses_more k i locals l is below read =
     ap hypotheses (innermost_next locals k i l is below read)
     ∙ hypotheses_step (local_tree l) (innermost_first (take i locals))
+
+-- ---- none is left
+
+none_left : (locals : List Local) (k : ℕ) → k ≤ 0 → innermost_first (take k locals) ≡ []
+none_left locals k h = (let none : k ≡ 0 = omega (arith, h) in ap (λ n. innermost_first (take n locals)) none) ∙ innermost_none locals
+
+pub local_end : (name : List ℕ) (n k : ℕ) (locals : List Local) → k ≤ 0 → local_use name n (innermost_first (take k locals)) ≡ None
+unfolding local_use
+local_end name n k locals h = ap (local_use name n) (none_left locals k h)
+
+pub heap_end : (is_kind : scopes.Sort → Bool) (over n k : ℕ) (locals : List Local) → k ≤ 0 → heap_outside is_kind over n (innermost_first (take k locals)) ≡ None
+unfolding heap_outside
+heap_end is_kind over n k locals h = ap (heap_outside is_kind over n) (none_left locals k h)
+
+pub hypotheses_empty : 0 ≡ hypotheses (innermost_first [])
+unfolding hypotheses innermost_first
+hypotheses_empty = refl

@@ -19,7 +19,7 @@ pub enum Use<'a> {
 }
 
 /// How many of the first `count` locals are hypotheses.
-#[tactic(auto, using(crate::proofs::Outward::hypotheses_none, crate::proofs::Outward::hypotheses_more))]
+#[tactic(auto, using(crate::proofs::Outward::hypotheses_none, crate::proofs::Outward::hypotheses_empty, crate::proofs::Outward::hypotheses_more))]
 fn hypotheses(locals: &[Local], count: usize) -> u64
     requires within { count ≤ length locals.now }
     ensures counted { result ≡ hypotheses (innermost_first (take count locals.now)) }

@@ -1,11 +1,9 @@
-use Rattle.std.proofs.Common.{rules}
+use Rattle.std.proofs.Common.{rules, sym, ◌∙◌}
+use Rattle.htt_resolve_scopes.specs.Views.{is_of}
+use Rattle.htt_resolve_scopes.proofs.Outward.{heap_end}
 use Rattle.htt_resolve_scopes.proofs.heaps.heap_outside.Goals as goal
 
-pub returns-then-left-eq0 : goal.returns-then-left-eq0
-returns-then-left-eq0 c = ?
-
-pub outward-preserved : goal.outward-preserved
-outward-preserved c = ?
-
 pub returns : goal.returns
-returns c = ?
+returns c = record {
+  reached = sym (c.outward.invariant.0 ∙ heap_end (is_of c.args.word) c.outward.left c.outward.inside c.outward.outer c.args.locals.now c.outward-test.false);
+}
