@@ -1,34 +1,29 @@
 -- The code of a file: which program its items are, when main is extractable, and why it isn't. Names aren't
 -- looked up here: the number of the value that is called main is given.
 use Rattle.std.specs.Prelude.{◌≡◌, ℕ, List, [], ◌∷◌, Option, Some, None}
-use Rattle.htt_syntax.specs.Trees.{TyTree, TermTree}
 use Rattle.word_loader_code.specs.declared.code.Code.{Code}
-use Rattle.theory_typing.specs.Contexts.{Environment, Obligation, EndsInHoare}
-use Rattle.theory_typing.specs.Typing.{in_program, FormsTy, Fits}
+use Rattle.theory_typing.specs.Contexts.{Environment, Obligation}
 use Rattle.theory_typing.specs.Laws.{none}
-use Rattle.theory_items.specs.Items.{ItemTree, i_val, with_val, Derives}
+use Rattle.theory_items.specs.Items.{ItemTree, Added, adds_val, with_added, Derives}
 use Rattle.theory_instances.specs.Calls.{ProgramVal, Program}
 use Rattle.theory_instances.specs.Lists.{Refusal, RefusesInstances}
 use Rattle.theory_flat.specs.Flat.{Instance, HasFlatInstances}
 use Rattle.theory_emission.specs.Codes.{EmitRefusal, code_of, emit_refusal}
 
+-- What an item adds in front of the values that follow: a value with its canonical type and term.
+abbrev pub vals_with : Added → List ProgramVal → List ProgramVal
+vals_with (adds_val ty term) vals = record { ty = ty; term = term } ∷ vals
+vals_with added vals = vals
+
 -- The canonical types and terms of the values among items, each derived in the environment of those before
--- it. An item that isn't a value adds none.
+-- it.
 pub data HasVals : Environment → List ItemTree → List ProgramVal → Type 0 where
   vals_none : {env : Environment} → HasVals env [] []
-  vals_of_val : {env : Environment} {ty ty' : TyTree} {term term' : TermTree} {owed : List Obligation}
-      {items : List ItemTree} {vals : List ProgramVal}
-      → FormsTy env [] ty ty'
-      → EndsInHoare ty'
-      → Fits env in_program [] term ty' term' owed
-      → HasVals (with_val env ty') items vals
-      → HasVals env (i_val ty term ∷ items) (record { ty = ty'; term = term' } ∷ vals)
-  vals_of_other : {env next : Environment} {item : ItemTree} {owed : List Obligation} {items : List ItemTree}
+  vals_next : {env : Environment} {item : ItemTree} {added : Added} {owed : List Obligation} {items : List ItemTree}
       {vals : List ProgramVal}
-      → Derives env item next owed
-      → next.vals ≡ env.vals
-      → HasVals next items vals
-      → HasVals env (item ∷ items) vals
+      → Derives env [] item added owed
+      → HasVals (with_added env added) items vals
+      → HasVals env (item ∷ items) (vals_with added vals)
 
 abbrev pub program : List ProgramVal → Option ℕ → Program
 program vals main = record { vals = vals; main = main }

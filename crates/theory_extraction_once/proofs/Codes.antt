@@ -1,39 +1,27 @@
 -- A file has one code, or one reason why it has none.
 use Rattle.std.proofs.Common.{◌≡◌, ℕ, List, [], ◌∷◌, ◌++◌, Option, Some, None, refl, sym, ap, ◌∙◌, subst}
 use Rattle.std.proofs.lemmas.Option.{same_Some}
-use Rattle.htt_syntax.specs.Trees.{TyTree}
 use Rattle.word_loader_code.specs.declared.code.Code.{Code}
 use Rattle.theory_typing.specs.Contexts.{Environment}
-use Rattle.theory_typing.proofs.Once.{ty_formed_once, fits_once}
-use Rattle.theory_items.specs.Items.{ItemTree, with_val, derives_val}
+use Rattle.theory_items.specs.Items.{ItemTree, with_added}
 use Rattle.theory_items.proofs.Derived.{items_give_one}
 use Rattle.theory_instances.specs.Calls.{ProgramVal}
 use Rattle.theory_instances.specs.Lists.{Refusal, RefusesInstances}
 use Rattle.theory_flat.specs.Flat.{Instance, HasFlatInstances}
 use Rattle.theory_emission.specs.Codes.{EmitRefusal, code_of, emit_refusal}
-use Rattle.theory_extraction.specs.Extraction.{HasVals, vals_none, vals_of_val, vals_of_other, program, HasCode, ExtractionRefusal, of_list, of_code}
+use Rattle.theory_extraction.specs.Extraction.{HasVals, vals_none, vals_next, vals_with, program, HasCode, ExtractionRefusal, of_list, of_code}
 use Rattle.theory_extraction.specs.Extraction.{RefusesExtraction, refuses_list, refuses_code}
 use Rattle.theory_extraction_once.specs.Laws.{CodeIsOne}
 use Rattle.theory_extraction_once.proofs.Lists.{list_or_not, refusal_once, none_or_some}
 use Rattle.theory_extraction_once.proofs.Flat.{flat_instances_once}
 
-no_longer : (types : List TyTree) (ty : TyTree) → types ++ ty ∷ [] ≡ types → ⊥
-no_longer [] ty q = cc
-no_longer (t ∷ types) ty q = no_longer types ty (cc)
-
 vals_once : {env : Environment} {items : List ItemTree} {vals others : List ProgramVal} → HasVals env items vals → HasVals env items others → vals ≡ others
 vals_once vals_none vals_none = refl
-vals_once {env = env} (vals_of_val {items = items} f h a rest) (vals_of_val {vals = vals'} g k b again) =
-    let x = ty_formed_once env refl f g in
-    let y = fits_once env refl x a b in
-    let z = vals_once rest (subst (λ t. HasVals (with_val env t) items vals') (sym x) again) in
-    λ j. record { ty = x j; term = (y.0) j } ∷ z j
-vals_once {env = env} (vals_of_val f h a rest) (vals_of_other (derives_val {ty' = t} g k b) q again) = absurd (no_longer env.vals t q)
-vals_once {env = env} (vals_of_other (derives_val {ty' = t} g k b) q again) (vals_of_val f h a rest) = absurd (no_longer env.vals t q)
-vals_once {env = env} (vals_of_other {next = next} {item = item} {owed = owed} {items = items} d q rest)
-    (vals_of_other {next = next'} {owed = owed'} {vals = vals'} e r again) =
-    let x = (items_give_one env item next next' owed owed' d e).0 in
-    vals_once rest (subst (λ n. HasVals n items vals') (sym x) again)
+vals_once {env = env} (vals_next {item = item} {added = added} {owed = owed} {items = items} d rest)
+    (vals_next {added = other} {owed = owed'} {vals = vals'} e again) =
+    let x = (items_give_one env [] item added other owed owed' d e).0 in
+    let y = vals_once rest (subst (λ a. HasVals (with_added env a) items vals') (sym x) again) in
+    λ j. vals_with (x j) (y j)
 
 at_vals : {main : Option ℕ} {env : Environment} {items : List ItemTree} {vals others : List ProgramVal} {instances : List Instance}
     → HasVals env items vals
