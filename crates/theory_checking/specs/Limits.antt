@@ -6,10 +6,10 @@ use Rattle.htt_syntax_words.specs.declared.words.Which.TheVariants.{Nodes, Depth
 use Rattle.htt_syntax.specs.Trees.{MonoTree, TyTree, TermTree, CompTree, FormulaTree, t_unit}
 use Rattle.theory_counts.specs.Nodes.{nodes_mono, nodes_ty, nodes_term, nodes_comp, nodes_formula}
 use Rattle.theory_counts.specs.Depth.{depth_formula}
+use Rattle.theory_counts_monotypes.specs.Monotypes.{greatest_in_ty, greatest_in_term, greatest_in_comp}
 use Rattle.theory_canonical.specs.Skeletons.{Skeleton, sk_o}
 use Rattle.theory_substitution.specs.Substitution.{SubTerm, SubTy, SubComp, Bind}
 use Rattle.theory_typing.specs.Contexts.{Context, FormsMono}
-use Rattle.theory_counts_monotypes.specs.Monotypes.{greatest_in_ty, greatest_in_term, greatest_in_comp}
 use Rattle.theory_checking.specs.Stops.{Stop, refused, passed, ◌>>=◌, ◌>>◌, Comes, Needs, Makes}
 
 -- The largest permitted numbers.
@@ -48,7 +48,7 @@ abbrev pub OwedIsWithin : Option FormulaTree → Result (Unit {0}) Stop → Type
 OwedIsWithin None = Comes tt
 OwedIsWithin (Some F) = StateIsWithin F
 
--- the result of a substitution, which has so many nodes and such a greatest monotype
+-- the result of a substitution, which has so many nodes, and so many in its greatest monotype
 abbrev pub ResultIsWithin : ℕ → ℕ → Result (Unit {0}) Stop → Type 0
 ResultIsWithin nodes greatest = do
   Needs (nodes ≤ node_limit) (passed Nodes)

@@ -1,15 +1,17 @@
 -- Code that was worked out by hand, with its bytes.
 use Rattle.std.specs.Prelude.{◌≡◌, ℕ, List, [], ◌∷◌, true, length, sum_by, None}
-use Rattle.htt_syntax.specs.declared.mono.Op.TheVariants.{Add}
-use Rattle.htt_syntax.specs.Trees.{TermTree, m_word, m_unit, t_var, t_word, t_bool, t_unit, t_bin}
+use Rattle.htt_syntax.specs.declared.mono.Op.TheVariants.{Add, Mul}
+use Rattle.htt_syntax.specs.Trees.{MonoTree, TermTree, m_word, m_bool, m_unit, m_pair, t_var, t_word, t_bool, t_loc, t_unit}
+use Rattle.htt_syntax.specs.Trees.{t_fst, t_snd, t_not, t_bin}
 use Rattle.word_loader_code.specs.declared.code.Code.{Code}
 use Rattle.word_loader_code.specs.declared.code.Instr.{Instr}
 use Rattle.word_loader_code.specs.declared.code.Instr.TheVariants.{Const, Mov, Op, Alloc, Get, Free, Jump, Jz, Call}
-use Rattle.word_loader_code.specs.declared.code.Instr.TheVariants.{Ret}
+use Rattle.word_loader_code.specs.declared.code.Instr.TheVariants.{Ret, Set}
 use Rattle.word_loader_code.specs.declared.code.Instr.TheVariants.{Tail}
 use Rattle.word_loader_format.specs.Layout.{code_bytes}
-use Rattle.theory_flat.specs.Flat.{FlatTree, Instance, flat_ret, flat_step, flat_call, flat_if}
-use Rattle.theory_flat.specs.Examples.{alone, sum_flat, cell_flat, blocks_flat, seven_flat, dup_flat, rep_flat}
+use Rattle.theory_flat.specs.Flat.{FlatTree, Instance, flat_ret, flat_step, flat_call, flat_get, flat_set, flat_free}
+use Rattle.theory_flat.specs.Flat.{flat_if}
+use Rattle.theory_flat.specs.Examples.{alone, sum_flat, cell_flat, blocks_flat, seven_flat, dup_flat, rep_flat, pick_flat}
 use Rattle.theory_emission.specs.Codes.{first_code, code_of, emit_refusal}
 
 -- The number of instructions of a code.
@@ -31,6 +33,18 @@ chosen result =
 abbrev pub unit_called : TermTree → List Instance
 unit_called result =
     alone m_unit (flat_step (flat_call 1 []) (flat_ret result)) ∷ alone m_unit (flat_ret t_unit) ∷ []
+
+-- x <- get[(word * word) * bool] place 5; _ <- set[bool] place 6 (not (snd x)); _ <- free[(word * word) * bool] place 5;
+-- ret snd (fst x) * 2
+abbrev pub words_and_bool : MonoTree
+words_and_bool = m_pair (m_pair m_word m_word) m_bool
+
+abbrev pub parts_flat : List Instance
+parts_flat =
+    alone m_word
+    (flat_step (flat_get words_and_bool (t_loc 5))
+    (flat_step (flat_set m_bool (t_loc 6) (t_not (t_snd (t_var 0))))
+    (flat_step (flat_free words_and_bool (t_loc 5)) (flat_ret (t_bin Mul (t_snd (t_fst (t_var 2))) (t_word 2)))))) ∷ []
 
 pub record WorkedCode : Type 0 where
   pub cell_code : code_of cell_flat ≡ only 3 1 (Const 0 7 ∷ Alloc 1 0 1 ∷ Get 2 1 1 ∷ Free 1 1 ∷ Ret 2 ∷ [])
@@ -65,6 +79,29 @@ pub record WorkedCode : Type 0 where
                   Call 2 6 7 ∷ Const 8 2 ∷ Op 9 0 7 8 ∷ Ret 9 ∷ [];
             } ∷ [];
       }
+  -- several parameters, of other widths, in a call and in a function
+  pub pick_code :
+      code_of pick_flat
+      ≡ record {
+        version = 2;
+        functions = record {
+          params = 0;
+          locals = 8;
+          result = 1;
+          body = Const 0 3 ∷ Const 1 4 ∷ Mov 2 0 1 ∷ Mov 3 1 1 ∷ Const 4 1 ∷ Mov 5 2 2 ∷ Mov 7 4 1 ∷ Tail 1 5 ∷ [];
+        } ∷ record { params = 3; locals = 7; result = 1; body = Mov 3 2 1 ∷ Mov 4 0 2 ∷ Mov 6 0 1 ∷ Tail 2 3 ∷ [] } ∷
+            record {
+              params = 4;
+              locals = 10;
+              result = 1;
+              body = Jz 0 2 ∷ Ret 2 ∷ Const 4 1 ∷ Op 5 0 3 4 ∷ Mov 6 0 1 ∷ Mov 7 1 2 ∷ Mov 9 5 1 ∷ Tail 2 6 ∷ [];
+            } ∷ [];
+      }
+  -- parts of a pair, `set`, `not`, and blocks of several words
+  pub parts_code :
+      code_of parts_flat
+      ≡ only 9 1 (Const 0 5 ∷ Get 1 0 3 ∷ Const 4 6 ∷ Op 5 10 3 3 ∷ Set 4 5 1 ∷ Const 6 5 ∷ Free 6 3 ∷ Const 7 2 ∷
+      Op 8 2 2 7 ∷ Ret 8 ∷ [])
   -- a tail call keeps no frame, and where the result is another term there is none
   pub tail_count : instr_count (code_of (unit_called (t_var 0))) ≡ 2
   pub call_count : instr_count (code_of (unit_called t_unit)) ≡ 3

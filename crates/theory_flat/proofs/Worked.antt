@@ -86,6 +86,7 @@ worked = record {
           body = flattens_step (flattens_if flattens_ret (flattens_step (flattens_run (names_made refl refl)) flattens_ret)) flattens_ret;
         }) flat_none));
   };
+  captured_in_order = refl;
 }
 
 pub read : WorkedReadings
@@ -99,4 +100,5 @@ read = record {
   blocks_ask = refl;
   counted_lacks_fuel = refl;
   counted = refl;
+  picked = refl;
 }

@@ -2,13 +2,14 @@
 use Rattle.std.specs.Prelude.{◌≡◌, ℕ, List, [], ◌∷◌, true, false}
 use Rattle.htt_syntax.specs.declared.mono.Op.TheVariants.{Add, Sub}
 use Rattle.htt_syntax.specs.Trees.{MonoTree, m_word, m_bool, m_loc, m_unit, m_pair, t_var, t_word, t_bool, t_unit}
-use Rattle.htt_syntax.specs.Trees.{t_pair, t_bin, t_eq}
+use Rattle.htt_syntax.specs.Trees.{t_pair, t_fst, t_snd, t_bin, t_eq}
 use Rattle.theory_values.specs.Values.{v_word, v_bool, v_pair, encoding}
 use Rattle.theory_values.specs.Heaps.{empty_heap, with_block}
 use Rattle.theory_denotation.specs.Outcomes.{ended, out_of_fuel, asking}
 use Rattle.theory_instances.specs.Examples.{sum, cell, blocks, seven, dup, rep, passed_on, word_and_bool, dup_result}
+use Rattle.theory_instances.specs.Examples.{pick, picking_call, two_words}
 use Rattle.theory_flat.specs.Flat.{FlatTree, Instance, HasFlatInstances, flat_ret, flat_step, flat_call, flat_alloc}
-use Rattle.theory_flat.specs.Flat.{flat_get, flat_free, flat_if}
+use Rattle.theory_flat.specs.Flat.{flat_get, flat_free, flat_if, captured_params}
 use Rattle.theory_flat.specs.Reading.{flat_run}
 
 abbrev pub alone : MonoTree → FlatTree → Instance
@@ -63,6 +64,27 @@ rep_flat =
     (flat_step (flat_call 2 (t_bin Sub (t_var 0) (t_word 1) ∷ [])) (flat_ret (t_bin Add (t_var 0) (t_word 2)))))
     (flat_ret (t_var 0))) ∷ []
 
+-- r <- (instance 1) (3, 4) true; ret r, then r <- (instance 2) b q (fst q); ret r, and
+-- s <- if [word] b { ret snd q } { t <- (instance 2) b q (n + 1); ret t }; ret s
+abbrev pub pick_flat : List Instance
+pick_flat =
+    alone m_word
+    (flat_step (flat_call 1 (t_pair (t_word 3) (t_word 4) ∷ t_bool true ∷ [])) (flat_ret (t_var 0))) ∷
+    record {
+      params = two_words ∷ m_bool ∷ [];
+      result = m_word;
+      body = flat_step (flat_call 2 (t_var 0 ∷ t_var 1 ∷ t_fst (t_var 1) ∷ [])) (flat_ret (t_var 0));
+    } ∷
+    record {
+      params = m_bool ∷ two_words ∷ m_word ∷ [];
+      result = m_word;
+      body =
+          flat_step
+          (flat_if m_word (t_var 2) (flat_ret (t_snd (t_var 1)))
+          (flat_step (flat_call 2 (t_var 2 ∷ t_var 1 ∷ t_bin Add (t_var 0) (t_word 1) ∷ [])) (flat_ret (t_var 0))))
+          (flat_ret (t_var 0));
+    } ∷ []
+
 pub record WorkedFlatBodies : Type 0 where
   pub sum_has : HasFlatInstances sum sum_flat
   pub cell_has : HasFlatInstances cell cell_flat
@@ -70,6 +92,9 @@ pub record WorkedFlatBodies : Type 0 where
   pub seven_has : HasFlatInstances seven seven_flat
   pub dup_has : HasFlatInstances dup dup_flat
   pub rep_has : HasFlatInstances (rep passed_on) rep_flat
+  -- what a call captures is passed in the order in which it is met: b and then q
+  pub captured_in_order :
+      captured_params pick (record { call = picking_call 50; context = m_bool ∷ two_words ∷ [] }) ≡ t_var 0 ∷ t_var 1 ∷ []
 
 pub record WorkedReadings : Type 0 where
   pub sum_ends : flat_run sum_flat 0 0 [] empty_heap [] ≡ ended (v_word 5) empty_heap []
@@ -86,3 +111,4 @@ pub record WorkedReadings : Type 0 where
   -- seven calls: of rep, and of the loop from 5 down to 0
   pub counted_lacks_fuel : flat_run rep_flat 6 0 [] empty_heap [] ≡ out_of_fuel
   pub counted : flat_run rep_flat 7 0 [] empty_heap [] ≡ ended (v_word 10) empty_heap []
+  pub picked : flat_run pick_flat 2 0 [] empty_heap [] ≡ ended (v_word 4) empty_heap []

@@ -39,8 +39,16 @@ plus_two_of : {new t r : TermTree} {s : Skeleton} {x : ℕ} → SubTerm new s x 
 plus_two_of d = u_bin d u_word
 
 pub worked_keys : WorkedKeys
-unfolding head_of arguments_of fix_ty met_in_term rename_term rename_mono lift skeleton
-worked_keys = record { captured_in_formulas = refl; captured_by_a_function = refl }
+unfolding head_of arguments_of fix_ty met_in_term rename_term rename_mono lift lifts skeleton fill_mono plain_term sites_of
+worked_keys = record {
+  captured_in_formulas = refl;
+  captured_by_a_function = refl;
+  two_captured = refl;
+  captured_before_passed = refl;
+  made_with_captured = refl;
+  same_at_another_byte = refl;
+  first_branch_first = refl;
+}
 
 abbrev sum_spec : TripleTree
 sum_spec = triple f_tt m_word (f_eq m_word (t_var 2) (t_word 5))

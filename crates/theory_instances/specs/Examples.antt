@@ -1,14 +1,16 @@
 -- Instances that were worked out by hand.
-use Rattle.std.specs.Prelude.{◌≡◌, ℕ, List, [], ◌∷◌, true, Some, None}
+use Rattle.std.specs.Prelude.{◌≡◌, ℕ, List, [], ◌∷◌, map, true, Some, None}
 use Rattle.htt_syntax.specs.declared.mono.Op.TheVariants.{Add, Sub}
 use Rattle.htt_syntax.specs.Trees.{MonoTree, TyTree, TermTree, FixTree, CompTree, m_word, m_bool, m_loc, m_unit, m_pair}
 use Rattle.htt_syntax.specs.Trees.{m_var, y_mono, y_fun, y_all, y_hoare, triple, t_var, t_val, t_app, t_inst, t_lam}
 use Rattle.htt_syntax.specs.Trees.{t_lam_t}
-use Rattle.htt_syntax.specs.Trees.{t_do, t_fix, t_word, t_bool, t_unit, t_pair, t_bin, t_eq, t_made, x_param, x_body}
-use Rattle.htt_syntax.specs.Trees.{c_ret}
-use Rattle.htt_syntax.specs.Trees.{c_step, s_run, s_alloc, s_get, s_free, s_if, f_tt, f_eq, no_terms}
-use Rattle.theory_instances.specs.Calls.{Program, of_term, of_mono}
-use Rattle.theory_instances.specs.Keys.{Key, key_of_site}
+use Rattle.htt_syntax.specs.Trees.{t_do, t_fix, t_word, t_bool, t_unit, t_pair, t_fst, t_snd, t_bin, t_eq, t_made}
+use Rattle.htt_syntax.specs.Trees.{x_param, x_body, c_ret}
+use Rattle.htt_syntax.specs.Trees.{c_step, s_run, s_alloc, s_get, s_free, s_if, f_tt, f_eq, no_terms, more_terms}
+use Rattle.theory_canonical.specs.Skeletons.{sk_o, sk_c, sk_arrow}
+use Rattle.theory_instances.specs.Calls.{Program, of_term, of_mono, Site, sites_of}
+use Rattle.theory_instances.specs.Keys.{Key, key_of_site, IsSameKey}
+use Rattle.theory_instances.specs.Bodies.{params_of, made_of}
 use Rattle.theory_instances.specs.Varying.{Varies}
 use Rattle.theory_instances.specs.Lists.{Taken, HasInstances, RefusesInstances, no_main, has_parameters, is_varying}
 use Rattle.theory_instances.specs.Lists.{main_key}
@@ -189,6 +191,53 @@ capturing in_pre in_post =
     x_param (y_mono m_word)
     (x_body (triple (f_eq m_loc in_pre in_pre) m_word (f_eq m_word in_post in_post)) (c_ret (t_var 1)))
 
+abbrev pub two_words : MonoTree
+two_words = m_pair m_word m_word
+
+-- fix f (n : word) : {b =[bool] b} z : word {q =[word * word] q} .
+--   s <- if [word] b { ret snd q } { t <- f (n + 1); ret t }; ret s, which captures b and q
+abbrev pub picking : TermTree → TermTree → TermTree → TermTree → FixTree
+picking b_in_pre q_in_post b q =
+    x_param (y_mono m_word)
+    (x_body (triple (f_eq m_bool b_in_pre b_in_pre) m_word (f_eq two_words q_in_post q_in_post))
+    (c_step
+    (s_if m_word b (c_ret (t_snd q))
+    (c_step (s_run (t_app (t_var 0) (t_bin Add (t_var 1) (t_word 1))) (Some m_word)) (c_ret (t_var 0)))) (c_ret (t_var 0))))
+
+-- (fix f ..) (fst q) under q : word * word and b : bool, the variables 1 and 0, and its key
+abbrev pub picking_call : ℕ → TermTree
+picking_call at = t_app (t_fix at (picking (t_var 2) (t_var 5) (t_var 2) (t_var 3))) (t_fst (t_var 1))
+
+abbrev pub picking_key : ℕ → Key
+picking_key at =
+    record {
+      head = t_fix at (picking (t_var 3) (t_var 4) (t_var 3) (t_var 2));
+      fixed = [];
+      captured = two_words ∷ m_bool ∷ [];
+    }
+
+-- val pick : (q : word * word) -> (b : bool) -> {tt} z : word {tt} = fun q . fun b . do r <- (fix f ..) (fst q); ret r, and
+-- val main = do r <- pick (3, 4) true; ret r
+abbrev pub pick : Program
+pick = record {
+  vals = record {
+    ty = y_fun (y_mono two_words) (y_fun (y_mono m_bool) (always m_word));
+    term = t_lam (t_lam (t_do (c_step (s_run (picking_call 50) (Some m_word)) (c_ret (t_var 0)))));
+  } ∷ record {
+    ty = always m_word;
+    term = t_do (c_step (s_run (t_app (t_app (t_val 0) (t_pair (t_word 3) (t_word 4))) (t_bool true)) (Some m_word))
+        (c_ret (t_var 0)));
+  } ∷ [];
+  main = Some 1;
+}
+
+-- s <- if [word] true { r <- (value 1); ret r } { r <- (value 2); ret r }; ret s
+abbrev pub running : ℕ → CompTree
+running number = c_step (s_run (t_val number) (Some m_word)) (c_ret (t_var 0))
+
+abbrev pub either_runs : CompTree
+either_runs = c_step (s_if m_word (t_bool true) (running 1) (running 2)) (c_ret (t_var 0))
+
 pub record WorkedInstances : Type 0 where
   pub sum_has : HasInstances sum sum_instances (main_key 0 ∷ [])
   pub cell_has : HasInstances cell cell_instances (main_key 0 ∷ [])
@@ -219,3 +268,13 @@ pub record WorkedKeys : Type 0 where
         context = m_bool ∷ m_word ∷ m_loc ∷ [];
       })
       ≡ record { head = t_val 0; fixed = of_term (t_lam (t_bin Add (t_var 0) (t_var 1))) ∷ []; captured = m_word ∷ [] }
+  -- b is met first, in the precondition, and becomes the outer one, though q stands further out
+  pub two_captured : key_of_site pick (record { call = picking_call 50; context = m_bool ∷ two_words ∷ [] }) ≡ picking_key 50
+  -- the parameters are b, q and n, with n the innermost
+  pub captured_before_passed : params_of pick (picking_key 50) ≡ m_word ∷ two_words ∷ m_bool ∷ []
+  -- under n the captured variables are 2 and 1
+  pub made_with_captured :
+      made_of 2 (sk_arrow sk_o sk_c) (picking_key 50) ≡ t_made 2 (more_terms (t_var 2) (more_terms (t_var 1) no_terms))
+  -- the bytes of recursive functions don't count
+  pub same_at_another_byte : IsSameKey (picking_key 50) (picking_key 70)
+  pub first_branch_first : map (λ (site : Site). site.call) (sites_of [] either_runs) ≡ t_val 1 ∷ t_val 2 ∷ []
