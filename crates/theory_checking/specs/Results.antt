@@ -71,7 +71,7 @@ byte_of_term at (t_at inner term) = byte_of_term inner term
 byte_of_term at _ = at
 
 abbrev pub byte_of_ty : ℕ → TyTree → ℕ
-byte_of_ty at (y_at outer ty) = outer
+byte_of_ty at (y_at inner ty) = byte_of_ty inner ty
 byte_of_ty at _ = at
 
 -- What a phrase gives is asked for, or a type that it is to fit.
