@@ -22,6 +22,10 @@ codes = record {
   branches_end = refl;
   branches_join = refl;
   none_refused = refl;
+  longest = refl;
+  one_longer = refl;
+  locals_come_first = refl;
+  widest = refl;
 }
 
 pub bytes : WorkedBytes

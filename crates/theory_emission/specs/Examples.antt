@@ -1,9 +1,10 @@
 -- Code that was worked out by hand, with its bytes.
-use Rattle.std.specs.Prelude.{◌≡◌, ℕ, List, [], ◌∷◌, true, length, sum_by, None}
+use Rattle.std.specs.Prelude.{◌≡◌, ℕ, List, [], ◌∷◌, true, length, sum_by, Some, None}
 use Rattle.htt_syntax.specs.declared.mono.Op.TheVariants.{Add, Mul}
 use Rattle.htt_syntax.specs.Trees.{MonoTree, TermTree, m_word, m_bool, m_unit, m_pair, t_var, t_word, t_bool, t_loc, t_unit}
 use Rattle.htt_syntax.specs.Trees.{t_fst, t_snd, t_not, t_bin}
 use Rattle.word_loader_code.specs.declared.code.Code.{Code}
+use Rattle.word_loader_code.specs.declared.code.Function.{Function}
 use Rattle.word_loader_code.specs.declared.code.Instr.{Instr}
 use Rattle.word_loader_code.specs.declared.code.Instr.TheVariants.{Const, Mov, Op, Alloc, Get, Free, Jump, Jz, Call}
 use Rattle.word_loader_code.specs.declared.code.Instr.TheVariants.{Ret, Set}
@@ -12,7 +13,8 @@ use Rattle.word_loader_format.specs.Layout.{code_bytes}
 use Rattle.theory_flat.specs.Flat.{FlatTree, Instance, flat_ret, flat_step, flat_call, flat_get, flat_set, flat_free}
 use Rattle.theory_flat.specs.Flat.{flat_if}
 use Rattle.theory_flat.specs.Examples.{alone, sum_flat, cell_flat, blocks_flat, seven_flat, dup_flat, rep_flat, pick_flat}
-use Rattle.theory_emission.specs.Codes.{first_code, code_of, emit_refusal}
+use Rattle.theory_emission.specs.Codes.{first_code, code_of, emit_refusal, refusal_for, wide_function}
+use Rattle.theory_emission.specs.Codes.{too_long, too_many_locals}
 
 -- The number of instructions of a code.
 abbrev pub instr_count : Code → ℕ
@@ -45,6 +47,9 @@ parts_flat =
     (flat_step (flat_get words_and_bool (t_loc 5))
     (flat_step (flat_set m_bool (t_loc 6) (t_not (t_snd (t_var 0))))
     (flat_step (flat_free words_and_bool (t_loc 5)) (flat_ret (t_bin Mul (t_snd (t_fst (t_var 2))) (t_word 2)))))) ∷ []
+
+abbrev pub with_locals : ℕ → Function
+with_locals count = record { params = 0; locals = count; result = 0; body = Ret 0 ∷ [] }
 
 pub record WorkedCode : Type 0 where
   pub cell_code : code_of cell_flat ≡ only 3 1 (Const 0 7 ∷ Alloc 1 0 1 ∷ Get 2 1 1 ∷ Free 1 1 ∷ Ret 2 ∷ [])
@@ -120,6 +125,11 @@ pub record WorkedCode : Type 0 where
       ≡ only 6 1 (Const 0 1 ∷ Jz 0 5 ∷ Const 2 1 ∷ Mov 1 2 1 ∷ Jump 7 ∷ Const 3 2 ∷ Mov 1 3 1 ∷ Const 4 1 ∷ Op 5 0 1 4 ∷
       Ret 5 ∷ [])
   pub none_refused : emit_refusal (code_of rep_flat) ≡ None
+  -- at a limit, past it, and past both
+  pub longest : refusal_for None 1_000_000 ≡ None
+  pub one_longer : refusal_for None 1_000_001 ≡ Some too_long
+  pub locals_come_first : refusal_for (Some 1) 1_000_001 ≡ Some (too_many_locals 1)
+  pub widest : wide_function 0 (with_locals 4096 ∷ with_locals 4097 ∷ []) ≡ Some 1
 
 pub record WorkedBytes : Type 0 where
   -- 33 bytes

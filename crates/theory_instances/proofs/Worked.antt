@@ -1,12 +1,12 @@
 -- The worked examples hold.
-use Rattle.std.proofs.Common.{◌≡◌, ◌≢◌, ℕ, zero, suc, List, [], ◌∷◌, None, Some, slice_get, refl, sym, ap, ◌∙◌, arith}
+use Rattle.std.proofs.Common.{◌≡◌, ℕ, zero, suc, List, [], ◌∷◌, Some, refl, ap, ◌∙◌, arith}
 use Rattle.std.proofs.lemmas.Option.{same_Some}
 use Rattle.std.proofs.lemmas.List.Elements.{All-nil, All-cons}
 use Rattle.htt_syntax.specs.declared.mono.Op.TheVariants.{Add, Sub}
-use Rattle.htt_syntax.specs.Trees.{MonoTree, TyTree, TripleTree, TermTree, FixTree, CompTree, m_word, m_bool, m_pair, y_mono, y_fun, y_hoare, triple, t_var}
-use Rattle.htt_syntax.specs.Trees.{t_val, t_word, t_bin, t_fix, t_do, t_lam, t_app, t_eq, c_ret, c_step, s_run, s_if, f_tt, f_eq}
+use Rattle.htt_syntax.specs.Trees.{TyTree, TripleTree, TermTree, CompTree, m_word, m_bool, m_pair, y_mono, y_fun, y_hoare, triple, t_var}
+use Rattle.htt_syntax.specs.Trees.{t_val, t_word, t_bin, t_do, t_lam, t_app, t_eq, c_ret, c_step, s_run, s_if, f_tt, f_eq}
 use Rattle.theory_renaming.specs.Renaming.{lift, lifts, rename_mono, rename_term}
-use Rattle.theory_canonical.specs.Skeletons.{Skeleton, skeleton, sk_o, sk_arrow}
+use Rattle.theory_canonical.specs.Skeletons.{Skeleton, skeleton, sk_o}
 use Rattle.theory_canonical.specs.Eta.{expansion}
 use Rattle.theory_canonical.specs.Folding.{contractum, folding}
 use Rattle.theory_counts.specs.Nodes.{nodes_mono, nodes_option, nodes_term}
@@ -22,8 +22,8 @@ use Rattle.theory_instances.specs.Calls.{Argument, of_mono, head_of, arguments_o
 use Rattle.theory_instances.specs.Occurrences.{met_in_term}
 use Rattle.theory_instances.specs.Keys.{Key, IsSameKey, plain_key}
 use Rattle.theory_instances.specs.Bodies.{opened_fix, opened_skeleton, puts_none, puts_term, puts_mono, HasBody, body_of_val, body_of_fix}
-use Rattle.theory_instances.specs.Varying.{PassesOnAt, own_occurrences, passes_end, passes_value, passes_fixed, varies_here}
-use Rattle.theory_instances.specs.Lists.{computation_in, IsKnownAs, IsNew, meets_none, meets_new, TakesUp, takes_end, takes_next, HasInstances, IsMain}
+use Rattle.theory_instances.specs.Varying.{PassesOnAt, passes_end, passes_value, passes_fixed, varies_here}
+use Rattle.theory_instances.specs.Lists.{computation_in, IsNew, meets_none, meets_new, TakesUp, takes_end, takes_next, HasInstances, IsMain}
 use Rattle.theory_instances.specs.Lists.{main_key}
 use Rattle.theory_instances.specs.Lists.{RefusesInstances, is_varying, refuses_no_main, refuses_parameters, refuses_list, refuses_up, refuses_later, up_varies}
 use Rattle.theory_instances.specs.Examples.{WorkedInstances, WorkedKeys, plus_two, sum, sum_instances, cell, cell_body, cell_instances, blocks, blocks_body}
@@ -31,8 +31,6 @@ use Rattle.theory_instances.specs.Examples.{blocks_instances}
 use Rattle.theory_instances.specs.Examples.{seven, seven_body, seven_instances, dup, dup_body, dup_result, dup_at, dup_instances, twice_result, word_and_bool}
 use Rattle.theory_instances.specs.Examples.{always}
 use Rattle.theory_instances.specs.Examples.{rep, rep_main, rep_key, rep_taken, rep_instances, fix_key, counted, passed_on, changed, counted_body, repeated}
-use Rattle.theory_instances.specs.Examples.{word_to_word}
-use Rattle.theory_instances.specs.Examples.{without_parameters}
 
 -- x + 2, where a term is put for x
 plus_two_of : {new t r : TermTree} {s : Skeleton} {x : ℕ} → SubTerm new s x t r → SubTerm new s x (t_bin Add t (t_word 2)) (folding (t_bin Add r (t_word 2)))
@@ -65,17 +63,17 @@ abbrev pair_given : List Argument → ℕ
 pair_given (of_mono (m_pair left right) ∷ others) = 1
 pair_given arguments = 0
 
-other_head : (k l : Key) → (head_number (plain_term k.head) ≡ head_number (plain_term l.head) → ⊥) → IsSameKey k l → ⊥
+pub other_head : (k l : Key) → (head_number (plain_term k.head) ≡ head_number (plain_term l.head) → ⊥) → IsSameKey k l → ⊥
 other_head k l d e = d (ap (λ (key : Key). head_number key.head) e)
 
 other_argument : (k l : Key) → (pair_given (plain_key k).fixed ≡ pair_given (plain_key l).fixed → ⊥) → IsSameKey k l → ⊥
 other_argument k l d e = d (ap (λ (key : Key). pair_given key.fixed) e)
 
-new_to_one : {key known : Key} → (IsSameKey known key → ⊥) → IsNew (known ∷ []) key
+pub new_to_one : {key known : Key} → (IsSameKey known key → ⊥) → IsNew (known ∷ []) key
 new_to_one d zero k = d (ap plain_key (same_Some _ _ k.at) ∙ k.same)
 new_to_one d (suc n) k = absurd (cc)
 
-new_to_two : {key first second : Key} → (IsSameKey first key → ⊥) → (IsSameKey second key → ⊥) → IsNew (first ∷ second ∷ []) key
+pub new_to_two : {key first second : Key} → (IsSameKey first key → ⊥) → (IsSameKey second key → ⊥) → IsNew (first ∷ second ∷ []) key
 new_to_two d e zero k = d (ap plain_key (same_Some _ _ k.at) ∙ k.same)
 new_to_two d e (suc zero) k = e (ap plain_key (same_Some _ _ k.at) ∙ k.same)
 new_to_two d e (suc (suc n)) k = absurd (cc)

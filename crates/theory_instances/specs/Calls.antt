@@ -1,6 +1,6 @@
 -- Calls: a head with its arguments. An argument of a monotype is passed at run time; a monotype, and an
 -- argument that is a function, a family over monotypes or a computation, is fixed.
-use Rattle.std.specs.Prelude.{ℕ, zero, suc, List, [], ◌∷◌, ◌++◌, map, Option, Some, None, slice_get}
+use Rattle.std.specs.Prelude.{ℕ, zero, suc, List, [], ◌∷◌, ◌++◌, Option, Some, None, slice_get}
 use Rattle.htt_syntax.specs.Trees.{MonoTree, TyTree, TermTree, FixTree, CompTree, StepTree, TermTrees, m_loc, m_unit}
 use Rattle.htt_syntax.specs.Trees.{y_mono, y_fun, y_hoare, t_var, t_val, t_app, t_inst, t_fix, x_param, x_body, c_ret}
 use Rattle.htt_syntax.specs.Trees.{c_step}

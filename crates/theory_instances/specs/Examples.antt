@@ -11,7 +11,6 @@ use Rattle.theory_canonical.specs.Skeletons.{sk_o, sk_c, sk_arrow}
 use Rattle.theory_instances.specs.Calls.{Program, of_term, of_mono, Site, sites_of}
 use Rattle.theory_instances.specs.Keys.{Key, key_of_site, IsSameKey}
 use Rattle.theory_instances.specs.Bodies.{params_of, made_of}
-use Rattle.theory_instances.specs.Varying.{Varies}
 use Rattle.theory_instances.specs.Lists.{Taken, HasInstances, RefusesInstances, no_main, has_parameters, is_varying}
 use Rattle.theory_instances.specs.Lists.{main_key}
 

@@ -2,9 +2,9 @@
 -- these capture. The captured variables are numbered as they are first met, the first one being outermost.
 use Rattle.std.specs.Prelude.{◌≡◌, ℕ, zero, suc, List, [], ◌∷◌, ◌++◌, map, flat_map, Bool, true, false}
 use Rattle.std.specs.Prelude.{if◌then◌else◌, nat_eq}
-use Rattle.htt_syntax.specs.Trees.{MonoTree, TyTree, TermTree, m_unit, t_val, t_fix}
+use Rattle.htt_syntax.specs.Trees.{MonoTree, TermTree, m_unit, t_val, t_fix}
 use Rattle.theory_renaming.specs.Renaming.{Map, rename_term}
-use Rattle.theory_canonical.specs.Skeletons.{Skeleton, skeleton}
+use Rattle.theory_canonical.specs.Skeletons.{skeleton}
 use Rattle.theory_typing.specs.Positions.{plain_term}
 use Rattle.theory_instances.specs.Calls.{Program, Argument, of_term, of_mono, rename_argument, head_of, arguments_of}
 use Rattle.theory_instances.specs.Calls.{fixed_of, head_ty, Site}

@@ -5,3 +5,4 @@ pub mod Bodies
 pub mod Varying
 pub mod Lists
 pub mod Examples
+pub mod Orders

@@ -1,10 +1,10 @@
 -- The instances of a program, in the order in which they are met, or why it has none. Instance 0 is main.
 -- Instances are taken up in the order of their numbers; the calls of a body are met from the first step to
 -- the last.
-use Rattle.std.specs.Prelude.{◌≡◌, ◌≢◌, ◌<◌, ◌≤◌, ℕ, zero, suc, List, [], ◌∷◌, ◌++◌, length, All, flat_map, Option}
+use Rattle.std.specs.Prelude.{◌≡◌, ◌≢◌, ◌<◌, ℕ, zero, suc, List, [], ◌∷◌, ◌++◌, length, flat_map, Option}
 use Rattle.std.specs.Prelude.{Some}
 use Rattle.std.specs.Prelude.{None, slice_get, nat_lt, if◌then◌else◌}
-use Rattle.htt_syntax.specs.Trees.{MonoTree, TyTree, TripleTree, TermTree, FixTree, CompTree, y_hoare, t_val, t_lam}
+use Rattle.htt_syntax.specs.Trees.{MonoTree, TripleTree, TermTree, FixTree, CompTree, y_hoare, t_val, t_lam}
 use Rattle.htt_syntax.specs.Trees.{t_do, t_fix, t_unit, c_ret}
 use Rattle.theory_counts.specs.Nodes.{nodes_mono, nodes_term, nodes_comp}
 use Rattle.theory_counts_monotypes.specs.Monotypes.{greatest_in_term}

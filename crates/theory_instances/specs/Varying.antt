@@ -2,7 +2,7 @@
 -- that aren't of monotypes are fixed. At each occurrence of the recursion variable in the body the argument
 -- for a fixed parameter has to be the eta-expansion of this parameter.
 use Rattle.std.specs.Prelude.{◌≡◌, ◌≢◌, ℕ, zero, suc, List, [], ◌∷◌, ◌++◌, map, filter, All, nat_eq}
-use Rattle.htt_syntax.specs.Trees.{TyTree, TermTree, FixTree, t_var, t_fix, x_param, x_body}
+use Rattle.htt_syntax.specs.Trees.{TermTree, FixTree, t_var, t_fix, x_param, x_body}
 use Rattle.theory_renaming.specs.Renaming.{shifting, rename_term}
 use Rattle.theory_canonical.specs.Skeletons.{Skeleton, sk_o, sk_c, sk_arrow, skeleton}
 use Rattle.theory_canonical.specs.Eta.{expansion}

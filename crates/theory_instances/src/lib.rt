@@ -3,9 +3,11 @@
 #![tactic(auto)]
 
 ghost use Rattle.theory_instances.specs.Examples.{WorkedInstances, WorkedKeys};
+ghost use Rattle.theory_instances.specs.Orders.{WorkedOrders};
 
 /// Instances, keys and refusals that were worked out by hand.
 pub fn worked_instances()
     ensures lists { WorkedInstances }
     ensures keys { WorkedKeys }
+    ensures orders { WorkedOrders }
 {}
