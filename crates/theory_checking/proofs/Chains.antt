@@ -65,8 +65,8 @@ owed_once : (F : Option FormulaTree) → Once (OwedIsWithin F)
 owed_once None = comes_once
 owed_once (Some F) = state_once F
 
-pub within_once : (nodes widest : ℕ) → Once (ResultIsWithin nodes widest)
-within_once nodes widest = then_once needs_once (λ given. needs_once)
+pub within_once : (nodes greatest : ℕ) → Once (ResultIsWithin nodes greatest)
+within_once nodes greatest = then_once needs_once (λ given. needs_once)
 
 pub puts_ty_once : (new : TermTree) (s : Skeleton) (A : TyTree) → Once (PutsInTy new s A)
 puts_ty_once new s A = then_once (makes_once (λ a b d e. sub_ty_once d e)) (λ result. then_once (within_once _ _) (λ given. comes_once))

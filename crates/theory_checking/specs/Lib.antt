@@ -1,5 +1,4 @@
 pub mod Stops
-pub mod Monotypes
 pub mod Limits
 pub mod Results
 pub mod Checking

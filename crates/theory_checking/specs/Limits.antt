@@ -9,7 +9,7 @@ use Rattle.theory_counts.specs.Depth.{depth_formula}
 use Rattle.theory_canonical.specs.Skeletons.{Skeleton, sk_o}
 use Rattle.theory_substitution.specs.Substitution.{SubTerm, SubTy, SubComp, Bind}
 use Rattle.theory_typing.specs.Contexts.{Context, FormsMono}
-use Rattle.theory_checking.specs.Monotypes.{widest_ty, widest_term, widest_comp}
+use Rattle.theory_counts_monotypes.specs.Monotypes.{greatest_in_ty, greatest_in_term, greatest_in_comp}
 use Rattle.theory_checking.specs.Stops.{Stop, refused, passed, ◌>>=◌, ◌>>◌, Comes, Needs, Makes}
 
 -- The largest permitted numbers.
@@ -48,20 +48,20 @@ abbrev pub OwedIsWithin : Option FormulaTree → Result (Unit {0}) Stop → Type
 OwedIsWithin None = Comes tt
 OwedIsWithin (Some F) = StateIsWithin F
 
--- the result of a substitution, which has so many nodes and such a widest monotype
+-- the result of a substitution, which has so many nodes, and so many in its greatest monotype
 abbrev pub ResultIsWithin : ℕ → ℕ → Result (Unit {0}) Stop → Type 0
-ResultIsWithin nodes widest = do
+ResultIsWithin nodes greatest = do
   Needs (nodes ≤ node_limit) (passed Nodes)
-  Needs (widest ≤ mono_limit) (passed Mono)
+  Needs (greatest ≤ mono_limit) (passed Mono)
 
 abbrev pub TyIsWithin : TyTree → Result (Unit {0}) Stop → Type 0
-TyIsWithin A = ResultIsWithin (nodes_ty A) (widest_ty A)
+TyIsWithin A = ResultIsWithin (nodes_ty A) (greatest_in_ty A)
 
 abbrev pub TermIsWithin : TermTree → Result (Unit {0}) Stop → Type 0
-TermIsWithin M = ResultIsWithin (nodes_term M) (widest_term M)
+TermIsWithin M = ResultIsWithin (nodes_term M) (greatest_in_term M)
 
 abbrev pub CompIsWithin : CompTree → Result (Unit {0}) Stop → Type 0
-CompIsWithin E = ResultIsWithin (nodes_comp E) (widest_comp E)
+CompIsWithin E = ResultIsWithin (nodes_comp E) (greatest_in_comp E)
 
 -- a term of a skeleton put for the innermost variable of a type, of a term
 abbrev pub PutsInTy : TermTree → Skeleton → TyTree → Result TyTree Stop → Type 0
