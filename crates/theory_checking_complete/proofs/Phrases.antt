@@ -28,24 +28,24 @@ inferred_reaches : (env : Environment) (m : Mode) (g : Context) (at : ℕ) (M : 
     → Reaches (TermComesTo env m g at M None) k
     → Reaches (TermComesTo env m g at M (Some A)) (typed A k.term k.owed)
 unfolding TermComesTo
-inferred_reaches env m g at (t_var index) A i e f = asked_reaches A e f
-inferred_reaches env m g at (t_val number) A i e f = asked_reaches A e f
-inferred_reaches env m g at (t_def number) A i e f = asked_reaches A e f
-inferred_reaches env m g at (t_word word) A i e f = asked_reaches A e f
-inferred_reaches env m g at (t_bool truth) A i e f = asked_reaches A e f
-inferred_reaches env m g at (t_loc place) A i e f = asked_reaches A e f
-inferred_reaches env m g at t_unit A i e f = asked_reaches A e f
-inferred_reaches env m g at (t_app function value) A i e f = asked_reaches A e f
-inferred_reaches env m g at (t_inst function mono) A i e f = asked_reaches A e f
-inferred_reaches env m g at (t_ann term ty) A i e f = asked_reaches A e f
-inferred_reaches env m g at (t_fst term) A i e f = asked_reaches A e f
-inferred_reaches env m g at (t_snd term) A i e f = asked_reaches A e f
-inferred_reaches env m g at (t_bin op first second) A i e f = asked_reaches A e f
-inferred_reaches env m g at (t_not term) A i e f = asked_reaches A e f
-inferred_reaches env m g at (t_eq mono first second) A i e f = asked_reaches A e f
-inferred_reaches env m g at (t_sel mono first second third) A i e f = asked_reaches A e f
+inferred_reaches env m g at (t_var index) A i e f = asked_reaches at A e f
+inferred_reaches env m g at (t_val number) A i e f = asked_reaches at A e f
+inferred_reaches env m g at (t_def number) A i e f = asked_reaches at A e f
+inferred_reaches env m g at (t_word word) A i e f = asked_reaches at A e f
+inferred_reaches env m g at (t_bool truth) A i e f = asked_reaches at A e f
+inferred_reaches env m g at (t_loc place) A i e f = asked_reaches at A e f
+inferred_reaches env m g at t_unit A i e f = asked_reaches at A e f
+inferred_reaches env m g at (t_app function value) A i e f = asked_reaches at A e f
+inferred_reaches env m g at (t_inst function mono) A i e f = asked_reaches at A e f
+inferred_reaches env m g at (t_ann term ty) A i e f = asked_reaches at A e f
+inferred_reaches env m g at (t_fst term) A i e f = asked_reaches at A e f
+inferred_reaches env m g at (t_snd term) A i e f = asked_reaches at A e f
+inferred_reaches env m g at (t_bin op first second) A i e f = asked_reaches at A e f
+inferred_reaches env m g at (t_not term) A i e f = asked_reaches at A e f
+inferred_reaches env m g at (t_eq mono first second) A i e f = asked_reaches at A e f
+inferred_reaches env m g at (t_sel mono first second third) A i e f = asked_reaches at A e f
 inferred_reaches env in_formula g at (t_fix keyword fix) A i e f = refuses_reaches f
-inferred_reaches env in_program g at (t_fix keyword fix) A i e f = asked_reaches A e f
+inferred_reaches env in_program g at (t_fix keyword fix) A i e f = asked_reaches at A e f
 inferred_reaches env m g at (t_made number values) A i e f = refuses_reaches f
 inferred_reaches env m g at (t_pair first second) A i e f = absurd i
 inferred_reaches env m g at (t_lam term) A i e f = absurd i

@@ -70,13 +70,13 @@ drops_reaches : {others R : CompTree} → SubComp t_unit sk_o 0 others R → Rea
 drops_reaches d = then_reaches (makes_reaches _ d) (then_reaches (within_reaches _ _) comes_reaches)
 
 -- a phrase whose type is inferred fits what it gives
-pub asked_reaches : {at : ℕ} {Row : Result Typed Stop → Type 0} {k : Typed} (A : TyTree)
+pub asked_reaches : {Row : Result Typed Stop → Type 0} {k : Typed} (at : ℕ) (A : TyTree)
     → plain_ty k.ty ≡ plain_ty A
     → Reaches (Inferred at None Row) k
     → Reaches (Inferred at (Some A) Row) (typed A k.term k.owed)
-asked_reaches A e (reaches (goes_on d comes) is_given) = reaches (goes_on d (goes_on (holds e) comes)) is_given
-asked_reaches A e (reaches (stops d) (is_limit l)) = reaches (stops d) (is_limit l)
-asked_reaches A e (reaches (goes_on d x) (is_limit l)) = elim x [ ]
+asked_reaches at A e (reaches (goes_on d comes) is_given) = reaches (goes_on d (goes_on (holds e) comes)) is_given
+asked_reaches at A e (reaches (stops d) (is_limit l)) = reaches (stops d) (is_limit l)
+asked_reaches at A e (reaches (goes_on d x) (is_limit l)) = elim x [ ]
 
 -- a row that refuses reaches nothing
 pub refuses_reaches : {A : Type 0} {given other : A} {rule : Rule} {at : ℕ}

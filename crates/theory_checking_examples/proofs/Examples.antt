@@ -37,49 +37,36 @@ nodes_of_wide (suc n) = let e = nodes_of_wide n in omega (arith, e)
 too_wide : {g : Context} {at : ℕ} → MonoComesTo g at (wide 32) (Err (passed Mono))
 too_wide = goes_on (holds (wide_formed 32)) (fails (λ p. let e = nodes_of_wide 32 in omega (arith, e, p)))
 
--- small phrases
+-- small monotypes
 
-word_formed : {env : Environment} {g : Context} {at : ℕ} → TyComesTo env g at (y_mono m_word) (Ok (y_mono m_word))
-unfolding TyComesTo nodes_mono
-word_formed = goes_on (goes_on (holds forms_word) (holds (omega arith))) comes
+word_mono : {g : Context} {at : ℕ} → MonoComesTo g at m_word (Ok tt)
+unfolding nodes_mono
+word_mono = goes_on (holds forms_word) (holds (omega arith))
 
-word_given : {env : Environment} {m : Mode} {g : Context} {at : ℕ} (n : ℕ)
-    → IsWord n
-    → TermComesTo env m g at (t_word n) None (Ok (typed (y_mono m_word) (t_word n) []))
-unfolding TermComesTo
-word_given n w = goes_on (goes_on (makes w) comes) comes
-
-word_fits : {env : Environment} {m : Mode} {g : Context} {at : ℕ} (n : ℕ)
-    → IsWord n
-    → TermComesTo env m g at (t_word n) (Some (y_mono m_word)) (Ok (typed (y_mono m_word) (t_word n) []))
-unfolding TermComesTo plain_ty
-word_fits n w = goes_on (goes_on (makes w) comes) (goes_on (holds refl) comes)
-
-no_truth : {env : Environment} {m : Mode} {g : Context} {at : ℕ}
-    → TermComesTo env m g at (t_bool true) (Some (y_mono m_word)) (Err (refused Mismatch at))
-unfolding TermComesTo plain_ty
-no_truth = goes_on comes (stops (fails (λ e. cc)))
+bool_mono : {g : Context} {at : ℕ} → MonoComesTo g at m_bool (Ok tt)
+unfolding nodes_mono
+bool_mono = goes_on (holds forms_bool) (holds (omega arith))
 
 pub terms : RefusedTerms
 unfolding TyComesTo TermComesTo plain_ty nodes_mono
 terms = record {
-  function_for_a_head = goes_on word_formed (stops (stops (stops refuses)));
-  function_for_a_word = goes_on word_formed (stops refuses);
-  pair_for_a_word = goes_on word_formed (stops refuses);
-  do_for_a_word = goes_on word_formed (stops refuses);
-  truth_for_a_word = goes_on word_formed (stops no_truth);
-  truth_annotated = goes_on word_formed (stops (stops (goes_on word_formed (stops no_truth))));
+  function_for_a_head = goes_on (goes_on word_mono comes) (stops (stops (stops refuses)));
+  function_for_a_word = goes_on (goes_on word_mono comes) (stops refuses);
+  pair_for_a_word = goes_on (goes_on word_mono comes) (stops refuses);
+  do_for_a_word = goes_on (goes_on word_mono comes) (stops refuses);
+  truth_for_a_word = goes_on (goes_on word_mono comes) (stops (goes_on comes (stops (fails (λ e. cc)))));
+  truth_annotated = goes_on (goes_on word_mono comes) (stops (stops (goes_on (goes_on word_mono comes) (stops (goes_on comes (stops (fails (λ e. cc))))))));
   word_for_a_truth =
-      goes_on (goes_on (goes_on (holds forms_bool) (holds (omega arith))) comes)
-      (stops (goes_on (goes_on word_formed (goes_on (word_fits 1 (omega arith)) comes)) (stops (fails (λ e. cc)))));
-  head_first = goes_on word_formed (stops (stops (goes_on (word_given 1 (omega arith)) (stops (finds_none (λ f e. cc))))));
-  part_of_a_word = goes_on word_formed (stops (stops (goes_on (word_given 1 (omega arith)) (stops (finds_none (λ f e. cc))))));
+      goes_on (goes_on bool_mono comes)
+      (stops (goes_on (goes_on (goes_on word_mono comes) (goes_on (goes_on (goes_on (makes (omega arith)) comes) (goes_on (holds refl) comes)) comes)) (stops (fails (λ e. cc)))));
+  head_first = goes_on (goes_on word_mono comes) (stops (stops (goes_on (goes_on (goes_on (makes (omega arith)) comes) comes) (stops (finds_none (λ f e. cc))))));
+  part_of_a_word = goes_on (goes_on word_mono comes) (stops (stops (goes_on (goes_on (goes_on (makes (omega arith)) comes) comes) (stops (finds_none (λ f e. cc))))));
   function_in_a_pair =
-      goes_on word_formed (stops (stops (stops (goes_on (goes_on (goes_on (finds refl) comes) comes) (stops (finds_none (λ t e. cc)))))));
-  instance_of_a_word = goes_on word_formed (stops (stops (goes_on (word_given 3 (omega arith)) (stops (finds_none (λ ty e. cc))))));
-  wide_comparison = goes_on word_formed (stops (stops (stops too_wide)));
+      goes_on (goes_on word_mono comes) (stops (stops (stops (goes_on (goes_on (goes_on (finds refl) comes) comes) (stops (finds_none (λ t e. cc)))))));
+  instance_of_a_word = goes_on (goes_on word_mono comes) (stops (stops (goes_on (goes_on (goes_on (makes (omega arith)) comes) comes) (stops (finds_none (λ ty e. cc))))));
+  wide_comparison = goes_on (goes_on word_mono comes) (stops (stops (stops too_wide)));
   comparison_of_units =
-      goes_on word_formed (stops (stops (goes_on (goes_on (holds forms_unit) (holds (omega arith))) (stops (fails (λ c. elim c [ ]))))));
+      goes_on (goes_on word_mono comes) (stops (stops (goes_on (goes_on (holds forms_unit) (holds (omega arith))) (stops (fails (λ c. elim c [ ]))))));
   no_entry = stops (stops (finds_none (λ ty d. elim d [ ])));
   no_item = stops (stops (finds_none (λ d e. cc)));
   made_function = refuses;
@@ -90,9 +77,9 @@ unfolding FormulaComesTo TermComesTo nodes_mono
 formulas = record {
   wide_equation = stops too_wide;
   head_before_do =
-      goes_on (goes_on (holds forms_word) (holds (omega arith)))
-      (stops (stops (goes_on (word_given 1 (omega arith)) (stops (finds_none (λ f e. cc))))));
-  do_in_a_formula = goes_on (goes_on (holds forms_word) (holds (omega arith))) (stops refuses);
+      goes_on word_mono
+      (stops (stops (goes_on (goes_on (goes_on (makes (omega arith)) comes) comes) (stops (finds_none (λ f e. cc))))));
+  do_in_a_formula = goes_on word_mono (stops refuses);
   word_for_a_heap = stops (fails (λ h. elim h [ ]));
   no_predicate = stops (finds_none (λ r e. cc));
   no_room = λ g e. stops (fails (λ p. omega (arith, e, p)));
@@ -102,26 +89,26 @@ pub items : RefusedItems
 unfolding TyComesTo FormulaComesTo TermComesTo RunsTo StepComesTo ClosedComeTo IndexComesTo plain_ty nodes_mono nodes_formula nodes_term
     depth_mono depth_formula depth_term rename_ty rename_mono rename_term lift past at_heap start contractum expansion count_of
 items = record {
-  no_ending = λ M. goes_on (goes_on word_formed (goes_on (holds (omega arith)) (goes_on word_formed comes))) (stops (fails (λ x. x)));
-  type_first = λ M. stops (stops (stops (goes_on (holds (omega arith)) (stops (goes_on (goes_on (holds forms_word) (holds (omega arith))) (stops no_truth))))));
+  no_ending = λ M. goes_on (goes_on (goes_on word_mono comes) (goes_on (holds (omega arith)) (goes_on (goes_on word_mono comes) comes))) (stops (fails (λ x. x)));
+  type_first = λ M. stops (stops (stops (goes_on (holds (omega arith)) (stops (goes_on word_mono (stops (goes_on comes (stops (fails (λ e. cc))))))))));
   run_of_a_word =
-      goes_on (goes_on (goes_on (holds (omega arith)) (goes_on comes (goes_on (goes_on (holds forms_word) (holds (omega arith)))
+      goes_on (goes_on (goes_on (holds (omega arith)) (goes_on comes (goes_on word_mono
       (goes_on (holds (omega arith)) (goes_on comes comes))))) comes)
       (goes_on (holds tt) (stops (stops (goes_on (holds (omega arith)) (goes_on (goes_on (holds (omega arith)) (holds (omega arith)))
-      (stops (stops (goes_on (word_given 3 (omega arith)) (stops (finds_none (λ spec e. cc)))))))))));
+      (stops (stops (goes_on (goes_on (goes_on (makes (omega arith)) comes) comes) (stops (finds_none (λ spec e. cc)))))))))));
   no_room = λ g e. stops (stops (fails (λ p. omega (arith, e, p))));
   wide_abbreviation = stops too_wide;
   other_index =
       goes_on comes (goes_on (holds (omega arith)) (goes_on comes (goes_on (holds (omega arith))
       (goes_on (goes_on (finds refl) (goes_on (holds heap_here)
       (goes_on (goes_on (goes_on (goes_on (goes_on (finds (type_there type_here)) comes) (goes_on (holds refl) comes))
-      (goes_on (word_fits 1 (omega arith)) comes)) (goes_on (holds refl) comes)) (goes_on (holds refl) (goes_on comes comes)))))
+      (goes_on (goes_on (goes_on (makes (omega arith)) comes) (goes_on (holds refl) comes)) comes)) (goes_on (holds refl) comes)) (goes_on (holds refl) (goes_on comes comes)))))
       (stops (fails (λ f. let e = f refl in cc)))))));
   not_folded =
       goes_on comes (goes_on (holds (omega arith)) (goes_on comes (goes_on (holds (omega arith))
       (goes_on (goes_on (finds refl) (goes_on (holds heap_here)
       (goes_on (goes_on (goes_on (goes_on (goes_on (finds (type_there type_here)) comes) (goes_on (holds refl) comes))
-      (goes_on (word_fits 0 (omega arith)) comes)) (goes_on (holds refl) comes)) (goes_on (holds refl) (goes_on comes comes)))))
+      (goes_on (goes_on (goes_on (makes (omega arith)) comes) (goes_on (holds refl) comes)) comes)) (goes_on (holds refl) comes)) (goes_on (holds refl) (goes_on comes comes)))))
       (stops (fails (λ f. let e = f refl in cc)))))));
 }
 
@@ -130,21 +117,21 @@ unfolding TyComesTo FormulaComesTo TermComesTo RunsTo StepComesTo ClosedComeTo I
     depth_formula depth_term rename_ty rename_mono rename_term lift lifts past at_heap start some_values within ending finish last contractum expansion count_of
 checked_items = record {
   sum =
-      goes_on (goes_on (goes_on (holds (omega arith)) (goes_on comes (goes_on (goes_on (holds forms_word) (holds (omega arith)))
+      goes_on (goes_on (goes_on (holds (omega arith)) (goes_on comes (goes_on word_mono
       (goes_on (holds (omega arith)) (goes_on
-      (goes_on (goes_on (holds forms_word) (holds (omega arith)))
-      (goes_on (goes_on (goes_on (finds (type_there (type_there type_here))) comes) (goes_on (holds refl) comes)) (goes_on (word_fits 5 (omega arith)) comes)))
+      (goes_on word_mono
+      (goes_on (goes_on (goes_on (finds (type_there (type_there type_here))) comes) (goes_on (holds refl) comes)) (goes_on (goes_on (goes_on (makes (omega arith)) comes) (goes_on (holds refl) comes)) comes)))
       comes))))) comes)
       (goes_on (holds tt)
       (goes_on (goes_on (goes_on (holds (omega arith)) (goes_on (goes_on (holds (omega arith)) (holds (omega arith)))
-      (goes_on (goes_on (goes_on (goes_on (word_fits 2 (omega arith)) (goes_on (word_fits 3 (omega arith)) comes)) (goes_on (holds refl) comes)) comes)
+      (goes_on (goes_on (goes_on (goes_on (goes_on (goes_on (makes (omega arith)) comes) (goes_on (holds refl) comes)) (goes_on (goes_on (goes_on (makes (omega arith)) comes) (goes_on (holds refl) comes)) comes)) (goes_on (holds refl) comes)) comes)
       (goes_on (holds (omega arith)) (goes_on (goes_on (holds (omega arith)) (holds (omega arith)))
       (goes_on (goes_on (holds (omega arith)) (holds (omega arith))) (goes_on comes comes))))))) comes) comes));
   folded_index =
       goes_on comes (goes_on (holds (omega arith)) (goes_on comes (goes_on (holds (omega arith))
       (goes_on (goes_on (finds refl) (goes_on (holds heap_here)
       (goes_on (goes_on (goes_on (goes_on (goes_on (goes_on (finds (type_there type_here)) comes) comes)
-      (goes_on (finds refl) (goes_on (word_given 3 (omega arith)) (goes_on (finds refl) (goes_on (holds (omega arith)) comes)))))
+      (goes_on (finds refl) (goes_on (goes_on (goes_on (makes (omega arith)) comes) comes) (goes_on (finds refl) (goes_on (holds (omega arith)) comes)))))
       (goes_on (finds refl) comes)) (goes_on (holds refl) comes)) (goes_on (holds refl) (goes_on comes comes)))))
       (goes_on (holds (λ p. refl)) comes)))));
 }

@@ -80,7 +80,7 @@ pub record RefusedFormulas : Type 0 where
   -- (1 2) =[T] 1 with T of 65 nodes: the monotype comes before the sides
   pub wide_equation :
       FormulaComesTo none [] 0
-      (f_at 0 (f_eq (wide 32) (t_at 1 (t_app (t_at 1 (t_word 1)) (t_at 3 (t_word 2)))) (t_at 15 (t_word 1))))
+      (f_at 0 (f_eq (wide 32) (t_at 1 (t_app (t_at 1 (t_word 1)) (t_at 3 (t_word 2)))) (t_at 11 (t_word 1))))
       (Err (passed Mono))
   -- 1 (do ret 0) =[word] 2
   pub head_before_do :
@@ -112,7 +112,7 @@ pub record RefusedItems : Type 0 where
   pub type_first : (M : TermTree)
       → ItemComesTo none [] 0 (i_val
       (y_at 8 (y_fun (y_at 13
-      (y_hoare (triple (f_at 14 (f_eq m_word (t_at 14 (t_bool true)) (t_at 26 (t_word 1)))) m_word (f_at 40 f_tt))))
+      (y_hoare (triple (f_at 14 (f_eq m_word (t_at 14 (t_bool true)) (t_at 27 (t_word 1)))) m_word (f_at 40 f_tt))))
       (y_at 48 (y_mono m_word)))) M) (Err (refused Mismatch 14))
   -- val a : {tt} x : word {tt} = do y <- 3; ret y
   pub run_of_a_word :
@@ -135,7 +135,7 @@ pub record CheckedItems : Type 0 where
   -- val main : {tt} x : word {x =[word] 5} = do ret 2 + 3
   pub sum :
       ItemComesTo none [] 0
-      (i_val (y_at 11 gives_five) (t_at 42 (t_do (c_ret (t_at 49 (t_bin Add (t_word 2) (t_word 3)))))))
+      (i_val (y_at 11 gives_five) (t_at 41 (t_do (c_ret (t_at 48 (t_bin Add (t_word 2) (t_word 3)))))))
       (Ok (checked (adds_val gives_five (t_do (c_ret (t_word 5)))) (sum_goal ∷ [])))
   -- fst (n, 3) is folded to n
   pub folded_index :

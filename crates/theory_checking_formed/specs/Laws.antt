@@ -1,13 +1,14 @@
 -- What a phrase and a declaration come to is formed.
-use Rattle.std.specs.Prelude.{ℕ, Result, Ok, Some, None}
+use Rattle.std.specs.Prelude.{ℕ, [], Result, Ok, Some, None}
 use Rattle.htt_syntax.specs.Trees.{TyTree, TermTree, FormulaTree}
 use Rattle.theory_typing.specs.Contexts.{Context, Environment}
 use Rattle.theory_typing.specs.Typing.{Mode}
-use Rattle.theory_items.specs.Items.{ItemTree}
+use Rattle.theory_items.specs.Items.{ItemTree, with_added}
 use Rattle.theory_formed_shapes.specs.Shapes.{shape_of, shapes_of}
 use Rattle.theory_formed_shapes.specs.Formed.{FileShapes, file_shapes, IsFormedTerm, IsFormedTy, IsFormedFormula}
 use Rattle.theory_formed_shapes.specs.Environments.{IsFormedContext, FormsEnvironment}
 use Rattle.theory_formed_obligations.specs.Laws.{AreFormed}
+use Rattle.theory_formed_items.specs.Environments.{IsFormedEnvironment}
 use Rattle.theory_checking.specs.Results.{Typed}
 use Rattle.theory_checking.specs.Checking.{TyComesTo, FormulaComesTo, TermComesTo}
 use Rattle.theory_checking_items.specs.Items.{Checked, ItemComesTo}
@@ -52,3 +53,12 @@ pub record WhatComesIsFormed : Type 0 where
       → (at : ℕ) (item : ItemTree) (c : Checked)
       → ItemComesTo env g at item (Ok c)
       → AreFormed (file_shapes env) c.owed
+
+-- an item without entries keeps the environment formed
+abbrev pub CheckedItemsKeepFormed : Type 0
+CheckedItemsKeepFormed =
+    (env : Environment)
+    → IsFormedEnvironment env
+    → (at : ℕ) (item : ItemTree) (c : Checked)
+    → ItemComesTo env [] at item (Ok c)
+    → IsFormedEnvironment (with_added env c.added)
