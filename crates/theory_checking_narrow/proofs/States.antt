@@ -1,6 +1,7 @@
 -- Eta-expansions, foldings and states are narrow where their parts are.
 use Rattle.std.proofs.Common.{◌≡◌, ℕ, zero, suc, ◌≤◌, max, Bool, true, false, not, List, [], ◌∷◌, ◌++◌, length, All, Option, Some, None, nat_eq, refl, sym, subst, arith}
 use Rattle.htt_syntax.specs.declared.mono.Op.{Op}
+use Rattle.htt_syntax.specs.declared.mono.Op.TheVariants.{Lt}
 use Rattle.htt_syntax.specs.Trees.{MonoTree, TyTree, TripleTree, TermTree, FormulaTree, m_word, m_bool, m_loc, m_pair, m_var, y_mono, y_fun, y_all, y_hoare}
 use Rattle.htt_syntax.specs.Trees.{y_at, triple, t_var, t_app, t_inst, t_word, t_bool, t_loc, t_pair, t_fst, t_snd, t_not, t_bin, t_eq, t_sel}
 use Rattle.theory_renaming.specs.Renaming.{Map, lift, lifts, rename_mono, rename_ty, rename_term, rename_formula}
