@@ -1,5 +1,5 @@
 -- What a phrase or an item comes to is canonical, since the rules derive it.
-use Rattle.std.proofs.Common.{[], Some, None}
+use Rattle.std.proofs.Common.{[]}
 use Rattle.theory_typing_canonical.proofs.Typed.{formed_ty, formed_formula, given, fitted, body}
 use Rattle.theory_checking_derived.proofs.Derived.{what_comes_is_derived}
 use Rattle.theory_items.proofs.Derived.{items_keep_canonical}

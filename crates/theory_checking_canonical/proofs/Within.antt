@@ -7,10 +7,10 @@ use Rattle.htt_syntax.specs.Trees.{t_unit, t_pair, t_fst, t_snd, t_not, t_bin, t
 use Rattle.htt_syntax.specs.Trees.{s_alloc, s_get, s_set, s_free, s_if, s_claim}
 use Rattle.theory_renaming.specs.Renaming.{rename_mono, rename_ty, rename_triple}
 use Rattle.theory_states.specs.States.{Move, move_alloc, move_get, move_set, move_free, move_run, move_claim, owed, start, branch, finish, last}
-use Rattle.theory_typing.specs.Contexts.{en_mono, en_heap, en_term, Context, Environment, Obligation}
+use Rattle.theory_typing.specs.Contexts.{en_mono, en_term, Context, Environment, Obligation}
 use Rattle.theory_typing.specs.Typing.{Mode, in_program, in_formula, with_heaps, owes, Part, part_step, part_comp, part_unit}
 use Rattle.theory_items.specs.Items.{ItemTree, i_abbreviation, i_pred, i_def, i_val, i_rec}
-use Rattle.theory_checking.specs.Stops.{Stop, Then, goes_on, Comes, comes, holds, finds, makes}
+use Rattle.theory_checking.specs.Stops.{Stop, goes_on, Comes, comes, holds, finds, makes}
 use Rattle.theory_checking.specs.Limits.{entry_limit, StateIsWithin, OwedIsWithin}
 use Rattle.theory_checking.specs.Results.{Typed, Fixed, Computed, Ran, Moved, Branched, Agrees, GoesOn, BodyComesTo}
 use Rattle.theory_checking.specs.Checking.{TermComesTo, FixComesTo, RunsTo, StepComesTo, result_of}
@@ -162,14 +162,16 @@ mutual
   step_within env g at state (s_run term given) s room (goes_on {given = k} a (goes_on {given = spec} e (goes_on {given = comp} f o))) =
       goes_on_within g state (move_run spec) (result_of spec) (part_comp comp) k.owed s room (term_within env in_program g at term None k a) o
   step_within env g at state (s_if mono test on_true on_false) s room
-      (goes_on n (goes_on {given = k} a (goes_on {given = b} c (goes_on {given = d} e (goes_on (holds h) (goes_on w z)))))) =
-      (came_to (λ (x : Moved). All IsWithin x.owed)
-      (join (k.owed ++ b.owed) d.owed
-      (join k.owed b.owed (term_within env in_program g at test (Some (y_mono m_bool)) k a)
-      (branch_to g mono (branch state k.term true) (λ from. RunsTo env g at mono from on_true) (λ (y : Branched). All IsWithin y.owed)
-      (λ r E x l. runs_within env g at mono (branch state k.term true) on_true r room x) c))
-      (branch_to g mono (branch state k.term false) (λ from. RunsTo env g at mono from on_false) (λ (y : Branched). All IsWithin y.owed)
-      (λ r E x l. runs_within env g at mono (branch state k.term false) on_false r room x) e)) z, h)
+      (goes_on n (goes_on {given = k} a (goes_on {given = b} c (goes_on {given = d} e (goes_on (holds h) (goes_on w z)))))) = (
+        came_to (λ (x : Moved). All IsWithin x.owed)
+            (join (k.owed ++ b.owed) d.owed
+            (join k.owed b.owed (term_within env in_program g at test (Some (y_mono m_bool)) k a)
+            (branch_to g mono (branch state k.term true) (λ from. RunsTo env g at mono from on_true) (λ (y : Branched). All IsWithin y.owed)
+            (λ r E x l. runs_within env g at mono (branch state k.term true) on_true r room x) c))
+            (branch_to g mono (branch state k.term false) (λ from. RunsTo env g at mono from on_false) (λ (y : Branched). All IsWithin y.owed)
+            (λ r E x l. runs_within env g at mono (branch state k.term false) on_false r room x) e)) z,
+        h,
+      )
   step_within env g at state (s_claim claim) s room (goes_on k (goes_on {given = F} a o)) =
       goes_on_within g state (move_claim F) m_unit part_unit [] s room nothing o
 

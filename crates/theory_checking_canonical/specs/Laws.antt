@@ -1,5 +1,5 @@
 -- What a phrase or an item comes to is canonical, and what it owes is within the limits.
-use Rattle.std.specs.Prelude.{ℕ, ◌≤◌, [], length, All, Result, Ok, Option, Some, None}
+use Rattle.std.specs.Prelude.{ℕ, ◌≤◌, [], length, All, Ok, Option, Some, None}
 use Rattle.htt_syntax.specs.Trees.{TyTree, TripleTree, TermTree, CompTree, FormulaTree}
 use Rattle.theory_counts.specs.Nodes.{nodes_formula}
 use Rattle.theory_counts.specs.Depth.{depth_formula}

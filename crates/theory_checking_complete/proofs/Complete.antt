@@ -1,7 +1,8 @@
 -- What is derived reaches that, or a limit: phrases, and items by the derivation; and nothing else, since a
 -- phrase comes to one thing at most.
-use Rattle.std.proofs.Common.{ℕ, zero, suc, List, [], ◌∷◌, All, length, Some, None}
+use Rattle.std.proofs.Common.{ℕ, zero, suc, List, [], ◌∷◌, All, length, Some, None, Err}
 use Rattle.std.proofs.lemmas.List.Elements.{All-head, All-tail}
+use Rattle.htt_syntax_words.specs.declared.words.Rule.{Rule}
 use Rattle.htt_syntax.specs.Trees.{MonoTree, FormulaTree, y_mono}
 use Rattle.theory_truth.specs.Atoms.{AtomsMeet}
 use Rattle.theory_typing.specs.Contexts.{en_term, Context, Environment, Obligation, FormsMono}
@@ -9,11 +10,12 @@ use Rattle.theory_typing.specs.Typing.{FormsFormula, forms_tt, forms_ff, forms_a
 use Rattle.theory_typing.specs.Typing.{forms_ex_h, forms_emp, forms_cell, forms_block, forms_join, forms_same, forms_eq, forms_rec, forms_formula_at}
 use Rattle.theory_items.specs.Items.{ItemTree, Added, with_rec, OwnAtIndex, FormsParams, params_none, params_more, Derives, derives_abbreviation, derives_pred}
 use Rattle.theory_items.specs.Items.{derives_def, derives_val, derives_rec}
+use Rattle.theory_checking.specs.Stops.{refused}
 use Rattle.theory_checking.proofs.Once.{checking_comes_to_one}
 use Rattle.theory_checking_items.specs.Items.{checked, ParamsComeTo, ClosedComeTo, IndexComesTo, ItemComesTo}
 use Rattle.theory_checking_items.proofs.Items.{items_come_to_one}
-use Rattle.theory_checking_complete.specs.Reaching.{Reaches}
-use Rattle.theory_checking_complete.specs.Laws.{DerivedReaches, DerivedIsNotRefused}
+use Rattle.theory_checking_complete.specs.Reaching.{IsOrLimit, is_limit, Reaches}
+use Rattle.theory_checking_complete.specs.Laws.{DerivedReaches, DerivedIsNotRefused, RefusedIsNotDerived}
 use Rattle.theory_checking_complete.proofs.Reached.{only, then_reaches, comes_reaches, needs_reaches, limit_reaches, mono_reaches}
 use Rattle.theory_checking_complete.proofs.Phrases.{ty_reaches, formula_reaches, give_reaches, fit_reaches, body_reaches}
 
@@ -85,4 +87,17 @@ derived_is_not_refused = record {
   fitting = λ env m g at M N A o r d. only (checking_comes_to_one.terms env m g at M (Some A)) (fit_reaches env at d) r;
   bodies = λ env g at spec E R o r d. only (checking_comes_to_one.bodies env g at spec E) (body_reaches env at d) r;
   items = λ env g at item added owed r d. only (items_come_to_one env g at item) (item_reaches env g at d) r;
+}
+
+not_refused : {A : Type 0} {given : A} {rule : Rule} {byte : ℕ} → IsOrLimit given (Err (refused rule byte)) → ⊥
+not_refused (is_limit l) = elim l [ ]
+
+pub refused_is_not_derived : RefusedIsNotDerived
+refused_is_not_derived = record {
+  types = λ env g at A R rule byte d e. not_refused (derived_is_not_refused.types env g at A R (Err (refused rule byte)) e d);
+  formulas = λ env g at F R rule byte d e. not_refused (derived_is_not_refused.formulas env g at F R (Err (refused rule byte)) e d);
+  given = λ env m g at M N A o rule byte d e. not_refused (derived_is_not_refused.given env m g at M N A o (Err (refused rule byte)) e d);
+  fitting = λ env m g at M N A o rule byte d e. not_refused (derived_is_not_refused.fitting env m g at M N A o (Err (refused rule byte)) e d);
+  bodies = λ env g at spec E R o rule byte d e. not_refused (derived_is_not_refused.bodies env g at spec E R o (Err (refused rule byte)) e d);
+  items = λ env g at item added owed rule byte d e. not_refused (derived_is_not_refused.items env g at item added owed (Err (refused rule byte)) e d);
 }

@@ -1,12 +1,12 @@
 -- What is derived reaches that, or a limit: by the derivation, each rule by its row.
 use Rattle.std.proofs.Common.{◌≡◌, ℕ, List, [], Some, None, refl}
-use Rattle.htt_syntax.specs.Trees.{MonoTree, TyTree, TripleTree, TermTree, FixTree, CompTree, StepTree, FormulaTree, TermTrees, m_pair, y_mono, y_fun, y_all}
-use Rattle.htt_syntax.specs.Trees.{y_hoare, triple, t_var, t_val, t_def, t_app, t_inst, t_lam, t_lam_t, t_do, t_fix, t_word, t_bool, t_loc, t_unit, t_pair}
+use Rattle.htt_syntax.specs.Trees.{MonoTree, TyTree, TripleTree, TermTree, FixTree, CompTree, StepTree, FormulaTree, TermTrees}
+use Rattle.htt_syntax.specs.Trees.{triple, t_var, t_val, t_def, t_app, t_inst, t_lam, t_lam_t, t_do, t_fix, t_word, t_bool, t_loc, t_unit, t_pair}
 use Rattle.htt_syntax.specs.Trees.{t_fst, t_snd, t_not, t_bin, t_eq, t_sel, t_ann, t_made, t_at}
 use Rattle.theory_states.specs.States.{move_alloc, move_get, move_set, move_free, move_run, move_claim}
 use Rattle.theory_typing.specs.Positions.{plain_ty}
 use Rattle.theory_typing.specs.Contexts.{Context, Environment, Obligation}
-use Rattle.theory_typing.specs.Typing.{Mode, in_program, in_formula, IsInferred, Part, part_step, part_comp, part_unit, FormsTy, forms_mono, forms_fun}
+use Rattle.theory_typing.specs.Typing.{Mode, in_program, in_formula, IsInferred, Part, FormsTy, forms_mono, forms_fun}
 use Rattle.theory_typing.specs.Typing.{forms_all, forms_hoare, forms_ty_at, FormsTriple, forms_triple, FormsFormula, forms_tt, forms_ff, forms_and, forms_or}
 use Rattle.theory_typing.specs.Typing.{forms_imp, forms_all_t, forms_ex_t, forms_all_h, forms_ex_h, forms_emp, forms_cell, forms_block, forms_join, forms_same}
 use Rattle.theory_typing.specs.Typing.{forms_eq, forms_rec, forms_formula_at, FitsAll, fits_none, fits_more, Gives, gives_var, gives_val, gives_def, gives_word}

@@ -1,5 +1,5 @@
 -- Rows of premises that hold reach what they give.
-use Rattle.std.proofs.Common.{◌≡◌, ℕ, ◌≤◌, List, [], ◌∷◌, ◌++◌, Result, Ok, Err, Option, Some, None, subst, ⊎_elim, arith}
+use Rattle.std.proofs.Common.{◌≡◌, ℕ, ◌≤◌, List, ◌++◌, Result, Option, Some, None, subst, ⊎_elim, arith}
 use Rattle.std.proofs.lemmas.Bool.{cases_lt}
 use Rattle.htt_syntax_words.specs.declared.words.Rule.{Rule}
 use Rattle.htt_syntax_words.specs.declared.words.Which.{Which}
@@ -15,7 +15,7 @@ use Rattle.theory_checking.specs.Stops.{Makes, makes}
 use Rattle.theory_checking.specs.Limits.{MonoComesTo, StateIsWithin, OwedIsWithin, ResultIsWithin, PutsInTy, PutsInTerm, RunsBefore, DropsClaim}
 use Rattle.theory_checking.specs.Results.{Typed, typed, moved, Inferred, GoesOn, AssemblesTo}
 use Rattle.theory_checking.specs.Laws.{Once}
-use Rattle.theory_checking_complete.specs.Reaching.{IsLimit, limit, IsOrLimit, is_given, is_limit, Reaches, reaches}
+use Rattle.theory_checking_complete.specs.Reaching.{limit, IsOrLimit, is_given, is_limit, Reaches, reaches}
 
 -- what comes to one result at most comes to nothing else
 pub only : {A : Type 0} {Row : Result A Stop → Type 0} {given : A} → Once Row → Reaches Row given → (r : Result A Stop) → Row r → IsOrLimit given r

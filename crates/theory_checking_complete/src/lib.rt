@@ -2,7 +2,7 @@
 //! a body states laws by its contract.
 #![tactic(auto)]
 
-ghost use Rattle.theory_checking_complete.specs.Laws.{DerivedIsNotRefused, DerivedReaches};
+ghost use Rattle.theory_checking_complete.specs.Laws.{DerivedIsNotRefused, DerivedReaches, RefusedIsNotDerived};
 
 /// A phrase or an item that is derived comes to that, at whatever byte it stands, or to a limit.
 pub fn derived_reaches()
@@ -12,4 +12,9 @@ pub fn derived_reaches()
 /// A phrase or an item that is derived comes to nothing else.
 pub fn derived_is_not_refused()
     ensures law { DerivedIsNotRefused }
+{}
+
+/// What a rule refuses isn't derived: so checking decides the rules, up to the limits.
+pub fn refused_is_not_derived()
+    ensures law { RefusedIsNotDerived }
 {}

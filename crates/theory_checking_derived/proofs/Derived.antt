@@ -1,5 +1,5 @@
 -- What a phrase gives is derived: by the phrase, each row by its rule.
-use Rattle.std.proofs.Common.{◌≡◌, ℕ, zero, suc, true, false, List, [], ◌∷◌, ◌++◌, Result, Ok, Option, Some, None, refl}
+use Rattle.std.proofs.Common.{ℕ, suc, true, false, List, [], ◌∷◌, ◌++◌, Ok, Option, Some, None, refl}
 use Rattle.htt_syntax.specs.Trees.{MonoTree, TyTree, TripleTree, TermTree, FixTree, CompTree, StepTree, FormulaTree, TermTrees, m_word, m_bool, m_loc, m_pair, y_mono, y_fun, y_all}
 use Rattle.htt_syntax.specs.Trees.{y_hoare, y_at, triple, t_var, t_val, t_def, t_app, t_inst, t_lam, t_lam_t, t_do, t_fix, t_word, t_bool, t_loc, t_unit}
 use Rattle.htt_syntax.specs.Trees.{t_pair, t_fst, t_snd, t_not, t_bin, t_eq, t_sel, t_ann, t_made, t_at, x_param, x_body, c_ret, c_step, s_run, s_alloc}
@@ -16,7 +16,7 @@ use Rattle.theory_typing.specs.Typing.{gives_unit, gives_app, gives_inst, gives_
 use Rattle.theory_typing.specs.Typing.{gives_sel, gives_fix, gives_at, fits_lam, fits_lam_t, fits_pair, fits_do, fits_at, FormsHeader, header_param}
 use Rattle.theory_typing.specs.Typing.{header_body, FitsFix, fix_param, fix_body, Runs, runs_ret, runs_step, Moves, moves_alloc, moves_get, moves_set}
 use Rattle.theory_typing.specs.Typing.{moves_free, moves_if, moves_claim}
-use Rattle.theory_checking.specs.Stops.{Stop, Then, goes_on, comes, holds, finds, makes}
+use Rattle.theory_checking.specs.Stops.{goes_on, comes, holds, finds, makes}
 use Rattle.theory_checking.specs.Results.{Typed, Fixed, Ran, Moved, Branched}
 use Rattle.theory_checking.specs.Checking.{TyComesTo, TripleComesTo, FormulaComesTo, TermsComeTo, TermComesTo, HeaderComesTo, FixComesTo, RunsTo, StepComesTo}
 use Rattle.theory_checking_derived.specs.Laws.{WhatComesIsDerived}

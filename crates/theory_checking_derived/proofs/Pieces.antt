@@ -1,5 +1,5 @@
 -- The parts of a derivation that a row of premises comes to.
-use Rattle.std.proofs.Common.{◌≡◌, ℕ, List, [], ◌∷◌, ◌++◌, Result, Ok, Option, Some, None, refl, ap, subst}
+use Rattle.std.proofs.Common.{◌≡◌, ℕ, List, [], ◌∷◌, ◌++◌, Result, Ok, Option, Some, None, refl, subst}
 use Rattle.htt_syntax.specs.Trees.{MonoTree, TyTree, TripleTree, TermTree, CompTree, StepTree, FormulaTree, y_hoare, triple, t_do, s_run}
 use Rattle.theory_states.specs.States.{Move, move_run, owed, after, start, finish}
 use Rattle.theory_typing.specs.Contexts.{Context, Environment, Obligation}
@@ -8,7 +8,7 @@ use Rattle.theory_typing.specs.Typing.{Assembled, assembled_end, assembled_part,
 use Rattle.theory_typing.specs.Typing.{gives_loc, gives_unit, gives_app, gives_inst, gives_ann, gives_pair, gives_fst, gives_snd, gives_bin, gives_not}
 use Rattle.theory_typing.specs.Typing.{gives_eq, gives_sel, gives_fix, gives_at, Fits, fits_lam, fits_lam_t, fits_pair, fits_do, fits_given, fits_at}
 use Rattle.theory_typing.specs.Typing.{FitsBody, fits_body, Runs, Moves, moves_run}
-use Rattle.theory_checking.specs.Stops.{Stop, Then, goes_on, Comes, comes, holds, makes}
+use Rattle.theory_checking.specs.Stops.{Stop, goes_on, Comes, comes, holds, makes}
 use Rattle.theory_checking.specs.Results.{Typed, Computed, Ran, Moved, Branched, branched, Agrees, GoesOn, AssemblesTo, BodyComesTo, BranchComesTo}
 use Rattle.theory_checking.specs.Checking.{result_of}
 

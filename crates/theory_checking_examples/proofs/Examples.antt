@@ -1,45 +1,41 @@
 -- The worked cases hold: each by its premises up to the one that stops it.
-use Rattle.std.proofs.Common.{◌≡◌, ℕ, zero, suc, ◌+◌, true, [], ◌∷◌, length, Result, Ok, Err, Some, None, refl, sym, ap, subst, arith}
-use Rattle.htt_syntax.specs.Trees.{MonoTree, TyTree, TermTree, m_word, m_bool, m_unit, y_mono, y_at, t_word, t_bool, t_at}
+use Rattle.std.proofs.Common.{◌≡◌, ℕ, zero, suc, ◌+◌, Ok, Err, refl, arith}
+use Rattle.htt_syntax.specs.Trees.{m_word, m_bool}
 use Rattle.theory_renaming.specs.Renaming.{lift, lifts, rename_mono, rename_ty, rename_term}
-use Rattle.theory_values.specs.Values.{IsWord}
 use Rattle.theory_counts.specs.Nodes.{nodes_mono, nodes_formula, nodes_term}
 use Rattle.theory_counts.specs.Depth.{depth_mono, depth_formula, depth_term}
-use Rattle.theory_states.specs.States.{past, at_heap, start, owed, after, some_values, within, ending, finish, last}
+use Rattle.theory_states.specs.States.{past, at_heap, start, some_values, within, ending, finish, last}
 use Rattle.theory_canonical.specs.Folding.{contractum}
 use Rattle.theory_canonical.specs.Eta.{expansion}
 use Rattle.theory_typing.specs.Positions.{plain_ty}
-use Rattle.theory_typing.specs.Contexts.{Context, Environment, FormsMono, forms_word, forms_bool, forms_unit, forms_pair, heap_here, type_here, type_there}
+use Rattle.theory_typing.specs.Contexts.{Context, FormsMono, forms_word, forms_bool, forms_unit, forms_pair, heap_here, type_here, type_there}
 use Rattle.theory_typing.specs.Contexts.{count_of}
-use Rattle.theory_typing.specs.Typing.{Mode, in_program}
-use Rattle.theory_typing.specs.Laws.{none}
-use Rattle.htt_syntax_words.specs.declared.words.Rule.TheVariants.{Mismatch}
 use Rattle.htt_syntax_words.specs.declared.words.Which.TheVariants.{Mono}
-use Rattle.theory_checking.specs.Stops.{Stop, refused, passed, stops, goes_on, comes, refuses, holds, fails, finds, finds_none, makes}
+use Rattle.theory_checking.specs.Stops.{passed, stops, goes_on, comes, refuses, holds, fails, finds, finds_none, makes}
 use Rattle.theory_checking.specs.Limits.{MonoComesTo}
-use Rattle.theory_checking.specs.Results.{typed, AssemblesTo}
-use Rattle.theory_checking.specs.Checking.{TyComesTo, FormulaComesTo, TermComesTo, TermsComeTo, RunsTo, StepComesTo}
+use Rattle.theory_checking.specs.Results.{AssemblesTo}
+use Rattle.theory_checking.specs.Checking.{TyComesTo, FormulaComesTo, TermComesTo, RunsTo, StepComesTo}
 use Rattle.theory_checking_items.specs.Items.{ClosedComeTo, IndexComesTo}
-use Rattle.theory_checking_examples.specs.Examples.{with_f, wide, RefusedTerms, RefusedFormulas, RefusedItems, CheckedItems}
+use Rattle.theory_checking_examples.specs.Examples.{wide, RefusedTerms, RefusedFormulas, RefusedItems, CheckedItems}
 
 -- the wide monotype
 
-wide_formed : {g : Context} (n : ℕ) → FormsMono g (wide n)
+pub wide_formed : {g : Context} (n : ℕ) → FormsMono g (wide n)
 unfolding wide
 wide_formed zero = forms_word
 wide_formed (suc n) = forms_pair forms_word (wide_formed n)
 
-nodes_of_wide : (n : ℕ) → nodes_mono (wide n) ≡ suc (n + n)
+pub nodes_of_wide : (n : ℕ) → nodes_mono (wide n) ≡ suc (n + n)
 unfolding wide nodes_mono
 nodes_of_wide zero = refl
 nodes_of_wide (suc n) = let e = nodes_of_wide n in omega (arith, e)
 
-too_wide : {g : Context} {at : ℕ} → MonoComesTo g at (wide 32) (Err (passed Mono))
+pub too_wide : {g : Context} {at : ℕ} → MonoComesTo g at (wide 32) (Err (passed Mono))
 too_wide = goes_on (holds (wide_formed 32)) (fails (λ p. let e = nodes_of_wide 32 in omega (arith, e, p)))
 
 -- small monotypes
 
-word_mono : {g : Context} {at : ℕ} → MonoComesTo g at m_word (Ok tt)
+pub word_mono : {g : Context} {at : ℕ} → MonoComesTo g at m_word (Ok tt)
 unfolding nodes_mono
 word_mono = goes_on (holds forms_word) (holds (omega arith))
 

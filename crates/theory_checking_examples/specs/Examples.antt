@@ -1,16 +1,16 @@
 -- Phrases and items, and what they come to, worked out by hand: each with its text, whose bytes count from 0.
-use Rattle.std.specs.Prelude.{◌≡◌, ℕ, zero, suc, [], ◌∷◌, true, length, Result, Ok, Err, Option, Some, None}
+use Rattle.std.specs.Prelude.{◌≡◌, ℕ, zero, suc, [], ◌∷◌, true, length, Result, Ok, Err, Some, None}
 use Rattle.htt_syntax_words.specs.declared.words.Rule.TheVariants.{Function, Instance, Pair, Project, Eq, Synth, Fun}
 use Rattle.htt_syntax_words.specs.declared.words.Rule.TheVariants.{Do, Mismatch, Pure, Sort, Ending, Run, Index}
 use Rattle.htt_syntax_words.specs.declared.words.Which.TheVariants.{Context as Entries, Mono}
 use Rattle.htt_syntax.specs.declared.mono.Op.TheVariants.{Add}
-use Rattle.htt_syntax.specs.Trees.{MonoTree, TyTree, TermTree, m_word, m_bool, m_unit, m_pair, y_mono, y_fun, y_hoare}
+use Rattle.htt_syntax.specs.Trees.{MonoTree, TermTree, m_word, m_bool, m_unit, m_pair, y_mono, y_fun, y_hoare}
 use Rattle.htt_syntax.specs.Trees.{y_at, triple, t_var, t_def, t_app, t_inst, t_lam, t_do, t_word, t_bool, t_unit}
 use Rattle.htt_syntax.specs.Trees.{t_pair}
 use Rattle.htt_syntax.specs.Trees.{t_fst, t_bin, t_eq, t_ann, t_made, t_at, c_ret, c_step, s_run, f_tt, f_all_h, f_emp}
 use Rattle.htt_syntax.specs.Trees.{f_eq, f_at, f_rec, no_terms}
 use Rattle.theory_typing.specs.Contexts.{en_term, Context, Environment}
-use Rattle.theory_typing.specs.Typing.{in_program, in_formula}
+use Rattle.theory_typing.specs.Typing.{in_program}
 use Rattle.theory_typing.specs.Laws.{none, word_to_word, sum_goal}
 use Rattle.theory_items.specs.Items.{ItemTree, i_abbreviation, i_def, i_val, i_rec, adds_val, adds_rec}
 use Rattle.theory_items.specs.Examples.{gives_five}

@@ -1,20 +1,20 @@
 -- Checked items: one result, which is derived.
 use Rattle.std.proofs.Common.{ℕ, zero, suc, List, [], ◌∷◌, All, length, Ok, Some}
 use Rattle.std.proofs.lemmas.List.Elements.{All-nil, All-cons}
-use Rattle.htt_syntax.specs.Trees.{MonoTree, FormulaTree, y_mono, f_tt, f_ff, f_and, f_or, f_imp, f_all_t, f_ex_t, f_all_h, f_ex_h, f_emp, f_cell, f_block}
-use Rattle.htt_syntax.specs.Trees.{f_join, f_same, f_eq, f_at, f_rec}
+use Rattle.htt_syntax.specs.Trees.{MonoTree, FormulaTree, y_mono, f_and, f_or, f_imp, f_all_t, f_ex_t, f_all_h, f_ex_h}
+use Rattle.htt_syntax.specs.Trees.{f_at, f_rec}
 use Rattle.theory_truth.specs.Atoms.{AtomsMeet}
 use Rattle.theory_typing.specs.Contexts.{en_heap, en_term, Context, Environment, FormsMono}
 use Rattle.theory_typing.specs.Typing.{in_program, FormsFormula, forms_tt, forms_ff, forms_and, forms_or, forms_imp, forms_all_t, forms_ex_t, forms_all_h}
 use Rattle.theory_typing.specs.Typing.{forms_ex_h, forms_emp, forms_cell, forms_block, forms_join, forms_same, forms_eq, forms_rec, forms_formula_at}
-use Rattle.theory_items.specs.Items.{ItemTree, i_abbreviation, i_pred, i_def, i_val, i_rec, with_monos, with_rec, zero_under, next_under, OwnAtIndex}
-use Rattle.theory_items.specs.Items.{FormsParams, params_none, params_more, Derives, derives_abbreviation, derives_pred, derives_def, derives_val, derives_rec}
-use Rattle.theory_checking.specs.Stops.{Then, goes_on, comes, holds}
+use Rattle.theory_items.specs.Items.{i_abbreviation, i_pred, i_def, i_val, i_rec, with_monos, with_rec, zero_under, next_under, OwnAtIndex}
+use Rattle.theory_items.specs.Items.{FormsParams, params_none, params_more, derives_abbreviation, derives_pred, derives_def, derives_val, derives_rec}
+use Rattle.theory_checking.specs.Stops.{goes_on, comes, holds}
 use Rattle.theory_checking.specs.Laws.{Once}
 use Rattle.theory_checking.proofs.Chains.{then_once, comes_once, needs_once, mono_once}
 use Rattle.theory_checking.proofs.Once.{ty_once, formula_once, term_once}
 use Rattle.theory_checking_derived.proofs.Derived.{ty_derived, formula_derived, term_derived}
-use Rattle.theory_checking_items.specs.Items.{Checked, ParamsComeTo, ClosedComeTo, IndexComesTo, ItemComesTo}
+use Rattle.theory_checking_items.specs.Items.{ParamsComeTo, ClosedComeTo, IndexComesTo}
 use Rattle.theory_checking_items.specs.Laws.{ItemsComeToOne, CheckedItemsDerive}
 
 -- one result

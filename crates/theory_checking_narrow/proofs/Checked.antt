@@ -1,5 +1,5 @@
 -- What a phrase comes to is narrow: by the phrase, where each monotype and each result was tested.
-use Rattle.std.proofs.Common.{◌≡◌, ℕ, zero, suc, ◌≤◌, true, false, List, [], ◌∷◌, ◌++◌, All, Result, Ok, Option, Some, None, refl, subst, arith}
+use Rattle.std.proofs.Common.{◌≡◌, ℕ, suc, ◌≤◌, true, false, List, [], ◌∷◌, ◌++◌, All, Result, Ok, Option, Some, None, subst, arith}
 use Rattle.std.proofs.lemmas.List.Elements.{All-head, All-tail}
 use Rattle.htt_syntax.specs.declared.mono.Op.{Op}
 use Rattle.htt_syntax.specs.declared.mono.Op.TheVariants.{Lt}
@@ -13,10 +13,10 @@ use Rattle.theory_values.specs.Values.{op_mono}
 use Rattle.theory_counts.specs.Nodes.{nodes_mono}
 use Rattle.theory_counts_monotypes.specs.Monotypes.{greatest_in_ty, greatest_in_triple, greatest_in_term, greatest_in_fix, greatest_in_comp}
 use Rattle.theory_counts_monotypes.specs.Monotypes.{greatest_in_step, greatest_in_formula, greatest_in_terms}
-use Rattle.theory_states.specs.States.{Move, move_alloc, move_get, move_set, move_free, move_run, move_claim, start, owed, branch, finish, last}
+use Rattle.theory_states.specs.States.{Move, move_alloc, move_get, move_set, move_free, move_run, move_claim, start, owed, branch, finish}
 use Rattle.theory_typing.specs.Contexts.{en_mono, en_heap, en_term, Context, Environment, HasEntryType, type_here, type_there, Obligation}
 use Rattle.theory_typing.specs.Typing.{Mode, in_program, in_formula, with_heaps, owes, Part, part_step, part_comp, part_unit}
-use Rattle.theory_checking.specs.Stops.{Stop, Then, goes_on, Comes, comes, holds, finds}
+use Rattle.theory_checking.specs.Stops.{Stop, goes_on, Comes, comes, holds, finds}
 use Rattle.theory_checking.specs.Results.{Typed, Fixed, Computed, Ran, Moved, Branched, Agrees, GoesOn, AssemblesTo, BodyComesTo}
 use Rattle.theory_checking.specs.Results.{BranchComesTo}
 use Rattle.theory_checking.specs.Checking.{TyComesTo, TripleComesTo, FormulaComesTo, TermsComeTo, TermComesTo, HeaderComesTo, FixComesTo, RunsTo, StepComesTo}
@@ -214,8 +214,12 @@ module _ (env : Environment) (known : IsNarrowEnvironment env) where
         → IsNarrowTriple R
     triple_narrow g at (triple pre mono post) R c
         (goes_on h (goes_on {given = P} a (goes_on (goes_on m (holds n)) (goes_on k (goes_on {given = Q} b comes))))) =
-        omega (arith, n, formula_narrow (en_heap ∷ g) at pre P (tt, c) a,
-        formula_narrow (with_heaps (en_term (y_mono mono) ∷ g)) at post Q (tt, (tt, (n, c))) b)
+        omega (
+          arith,
+          n,
+          formula_narrow (en_heap ∷ g) at pre P (tt, c) a,
+          formula_narrow (with_heaps (en_term (y_mono mono) ∷ g)) at post Q (tt, (tt, (n, c))) b,
+        )
 
     pub formula_narrow : (g : Context) (at : ℕ) (F R : FormulaTree)
         → IsNarrowContext g
@@ -364,7 +368,7 @@ module _ (env : Environment) (known : IsNarrowEnvironment env) where
     term_narrow in_program g at (t_do comp) None r c q a = elim a [ ]
     term_narrow in_program g at (t_do comp) (Some (y_hoare spec)) r c q (goes_on {given = k} a comes) =
         let x = body_narrow g spec k (λ mono state. RunsTo env g at mono state comp) c q
-            (λ mono state y t p d. runs_narrow g at mono state comp y c t p d) a in
+        (λ mono state y t p d. runs_narrow g at mono state comp y c t p d) a in
         record { ty = q; term = x.comp; owed = x.owed }
     term_narrow in_program g at (t_do comp) (Some _) r c q a = elim a [ ]
     term_narrow m g at (t_made number values) asked r c q a = elim a [ ]
@@ -387,7 +391,7 @@ module _ (env : Environment) (known : IsNarrowEnvironment env) where
     fix_narrow g at whole (x_param argument rest) _ x c w q a = elim a [ ]
     fix_narrow g at whole (x_body spec comp) (y_hoare spec') x c w q (goes_on h (goes_on {given = k} a comes)) =
         let u = body_narrow (en_term whole ∷ g) (rename_triple suc spec') k (λ mono state. RunsTo env (en_term whole ∷ g) at mono state comp) (w, c)
-            (triple_sent spec' q) (λ mono state y t p d. runs_narrow (en_term whole ∷ g) at mono state comp y (w, c) t p d) a in
+        (triple_sent spec' q) (λ mono state y t p d. runs_narrow (en_term whole ∷ g) at mono state comp y (w, c) t p d) a in
         (omega (arith, q, u.comp), u.owed)
     fix_narrow g at whole (x_body spec comp) _ x c w q a = elim a [ ]
 
@@ -440,9 +444,9 @@ module _ (env : Environment) (known : IsNarrowEnvironment env) where
         (goes_on (goes_on m (holds n)) (goes_on {given = k} a (goes_on {given = b} d (goes_on {given = e} f (goes_on h (goes_on w z)))))) =
         let x = term_narrow in_program g at test (Some (y_mono m_bool)) k c bool_narrow a in
         let y = branch_narrows g mono (branch state k.term true) (λ from. RunsTo env g at mono from on_true) n
-            (λ r u. runs_narrow g at mono (branch state k.term true) on_true r c n (branch_narrow state k.term true p x.term) u) d in
+        (λ r u. runs_narrow g at mono (branch state k.term true) on_true r c n (branch_narrow state k.term true p x.term) u) d in
         let v = branch_narrows g mono (branch state k.term false) (λ from. RunsTo env g at mono from on_false) n
-            (λ r u. runs_narrow g at mono (branch state k.term false) on_false r c n (branch_narrow state k.term false p x.term) u) f in
+        (λ r u. runs_narrow g at mono (branch state k.term false) on_false r c n (branch_narrow state k.term false p x.term) u) f in
         came_to IsNarrowMoved (record {
           mono = n;
           next = merge_narrow b.ending e.ending y.ending v.ending;

@@ -1,5 +1,5 @@
 -- What an item adds and owes is narrow, and so is the environment after it.
-use Rattle.std.proofs.Common.{◌≡◌, ℕ, List, [], ◌∷◌, All, length, Ok, Some, inl, inr, subst}
+use Rattle.std.proofs.Common.{ℕ, List, [], ◌∷◌, All, Ok, Some, inl, inr, subst}
 use Rattle.std.proofs.lemmas.List.Elements.{All-nil, All-cons, All-head, All-tail}
 use Rattle.htt_syntax.specs.Trees.{MonoTree, TyTree, TermTree, y_mono, m_word}
 use Rattle.theory_counts_monotypes.specs.Monotypes.{greatest_in_ty}
@@ -9,7 +9,7 @@ use Rattle.theory_typing.specs.Typing.{in_program}
 use Rattle.theory_items.specs.Items.{with_params, ItemTree, i_abbreviation, i_pred, i_def, i_val, i_rec, Added, adds_nothing, adds_def, adds_val, adds_rec}
 use Rattle.theory_items.specs.Items.{with_added, with_def, with_val, with_rec, zero_under, next_under}
 use Rattle.theory_items.proofs.Lists.{appended}
-use Rattle.theory_checking.specs.Stops.{Then, goes_on, comes, holds}
+use Rattle.theory_checking.specs.Stops.{goes_on, comes, holds}
 use Rattle.theory_checking_items.specs.Items.{Checked, ClosedComeTo, ItemComesTo}
 use Rattle.theory_checking_narrow.specs.Narrow.{IsNarrowMono, IsNarrowTy, IsNarrowTerm, IsNarrowContext, AreNarrow, IsNarrowEnvironment, IsNarrowAdded}
 use Rattle.theory_checking_narrow.specs.Laws.{CheckedItemsAreNarrow}
@@ -84,10 +84,17 @@ module _ (env : Environment) (known : IsNarrowEnvironment env) where
       let x = term_narrow env known in_program g at term (Some A) v n p b in
       ((p, x.term), x.owed)
   added_narrow g at (i_rec r) c n (goes_on a (goes_on k (goes_on {given = F} x (goes_on l (goes_on {given = G} y (goes_on i comes)))))) =
-      let p = closed_narrow g at r.params a in
-      ((p, (formula_narrow env known (zero_under g r.params) at r.at_zero F (tt, params_narrow g r.params n p) x,
-      formula_narrow (with_rec env r) (rec_added r p) (next_under g r.params) at r.at_next G
-      (tt, params_narrow (en_term (y_mono m_word) ∷ g) r.params (word_narrow, n) p) y)), tt)
+      let p = closed_narrow g at r.params a in (
+        (
+          p,
+          (
+            formula_narrow env known (zero_under g r.params) at r.at_zero F (tt, params_narrow g r.params n p) x,
+            formula_narrow (with_rec env r) (rec_added r p) (next_under g r.params) at r.at_next G
+                (tt, params_narrow (en_term (y_mono m_word) ∷ g) r.params (word_narrow, n) p) y,
+          ),
+        ),
+        tt,
+      )
 
 pub checked_items_are_narrow : CheckedItemsAreNarrow
 checked_items_are_narrow = record {

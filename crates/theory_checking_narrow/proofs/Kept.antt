@@ -8,7 +8,7 @@ use Rattle.htt_syntax.specs.Trees.{s_set, s_free, s_if, s_claim, f_tt, f_ff, f_a
 use Rattle.htt_syntax.specs.Trees.{f_block, f_join, f_same, f_eq, f_at, f_rec, no_terms, more_terms}
 use Rattle.theory_renaming.specs.Renaming.{Map, lift, rename_mono, rename_ty, rename_triple, rename_term, rename_fix, rename_comp, rename_step}
 use Rattle.theory_renaming.specs.Renaming.{rename_formula, rename_terms}
-use Rattle.theory_counts.specs.Nodes.{nodes_mono, nodes_option}
+use Rattle.theory_counts.specs.Nodes.{nodes_option}
 use Rattle.theory_counts.proofs.NodesKept.{nodes_mono_kept}
 use Rattle.theory_counts_monotypes.specs.Monotypes.{greatest_in_ty, greatest_in_triple, greatest_in_term, greatest_in_fix, greatest_in_comp}
 use Rattle.theory_counts_monotypes.specs.Monotypes.{greatest_in_step, greatest_in_formula, greatest_in_terms}

@@ -1,8 +1,8 @@
 -- Eta-expansions, foldings and states are narrow where their parts are.
-use Rattle.std.proofs.Common.{◌≡◌, ℕ, zero, suc, ◌≤◌, max, Bool, true, false, not, List, [], ◌∷◌, ◌++◌, length, All, Option, Some, None, nat_eq, refl, sym, subst, arith}
+use Rattle.std.proofs.Common.{ℕ, zero, suc, ◌≤◌, Bool, true, false, List, [], ◌∷◌, length, Option, Some, None, arith}
 use Rattle.htt_syntax.specs.declared.mono.Op.{Op}
 use Rattle.htt_syntax.specs.declared.mono.Op.TheVariants.{Lt}
-use Rattle.htt_syntax.specs.Trees.{MonoTree, TyTree, TripleTree, TermTree, FormulaTree, m_word, m_bool, m_loc, m_pair, m_var, y_mono, y_fun, y_all, y_hoare}
+use Rattle.htt_syntax.specs.Trees.{MonoTree, TyTree, TermTree, FormulaTree, m_word, m_bool, m_loc, m_var, y_mono, y_fun, y_all, y_hoare}
 use Rattle.htt_syntax.specs.Trees.{y_at, triple, t_var, t_app, t_inst, t_word, t_bool, t_loc, t_pair, t_fst, t_snd, t_not, t_bin, t_eq, t_sel}
 use Rattle.theory_renaming.specs.Renaming.{Map, lift, lifts, rename_mono, rename_ty, rename_term, rename_formula}
 use Rattle.theory_counts.specs.Nodes.{nodes_mono, nodes_option}
@@ -14,7 +14,7 @@ use Rattle.theory_states.specs.States.{owes_block, owed, after, branch, some_val
 use Rattle.theory_canonical.specs.Folding.{op_literal, contractum, folding}
 use Rattle.theory_canonical.specs.Eta.{expansion}
 use Rattle.theory_checking_narrow.specs.Narrow.{IsNarrowMono, IsNarrowTy, IsNarrowTriple, IsNarrowTerm, IsNarrowFormula}
-use Rattle.theory_checking_narrow.proofs.Kept.{ty_kept, triple_kept, term_kept, formula_kept}
+use Rattle.theory_checking_narrow.proofs.Kept.{ty_kept, term_kept, formula_kept}
 
 -- renamed trees
 

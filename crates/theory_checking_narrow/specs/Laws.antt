@@ -1,5 +1,5 @@
 -- Each monotype of what a phrase or an item comes to is within its limit.
-use Rattle.std.specs.Prelude.{ℕ, Result, Ok, Option, Some, None}
+use Rattle.std.specs.Prelude.{ℕ, Ok, Option, Some, None}
 use Rattle.htt_syntax.specs.Trees.{TyTree, TripleTree, TermTree, CompTree, FormulaTree}
 use Rattle.theory_typing.specs.Contexts.{Context, Environment}
 use Rattle.theory_typing.specs.Typing.{Mode}
