@@ -6,10 +6,10 @@ use Rattle.htt_syntax_words.specs.declared.words.Which.TheVariants.{Nodes, Depth
 use Rattle.htt_syntax.specs.Trees.{MonoTree, TyTree, TermTree, CompTree, FormulaTree, t_unit}
 use Rattle.theory_counts.specs.Nodes.{nodes_mono, nodes_ty, nodes_term, nodes_comp, nodes_formula}
 use Rattle.theory_counts.specs.Depth.{depth_formula}
+use Rattle.theory_counts_monotypes.specs.Monotypes.{greatest_in_ty, greatest_in_term, greatest_in_comp}
 use Rattle.theory_canonical.specs.Skeletons.{Skeleton, sk_o}
 use Rattle.theory_substitution.specs.Substitution.{SubTerm, SubTy, SubComp, Bind}
 use Rattle.theory_typing.specs.Contexts.{Context, FormsMono}
-use Rattle.theory_counts_monotypes.specs.Monotypes.{greatest_in_ty, greatest_in_term, greatest_in_comp}
 use Rattle.theory_checking.specs.Stops.{Stop, refused, passed, ◌>>=◌, ◌>>◌, Comes, Needs, Makes}
 
 -- The largest permitted numbers.

@@ -87,6 +87,7 @@ files_come_to_one n env (item ∷ items) r q (item_then_items {final = f} {rows 
 -- the first stop
 
 pub first_stop : FirstStop
+first_stop n env [] s d = elim d [ ]
 first_stop n env (item ∷ items) s (item_stops d) = record {
   before = [];
   item = item;
@@ -127,20 +128,20 @@ then_items : (n : ℕ) (env final : Environment) (item : ItemTree) (items : List
     → ItemsComeTo (suc n) (with_added env c.added) items r
     → AreOrLimit final rows r
     → Reached n env (item ∷ items) final (c.owed ∷ rows)
-then_items n env final item items c rows r d x are_given = (Ok (checked_all final (c.owed ∷ rows)), (item_then_items c d x, are_given))
-then_items n env final item items c rows r d x (are_cut {n = m} {stop = s} l) = (Err (item_stop m s), (item_then_stop c d x, are_cut l))
+then_items n env final item items c rows r d x are_given = (Ok (checked_all final (c.owed ∷ rows)), item_then_items c d x, are_given)
+then_items n env final item items c rows r d x (are_cut {n = m} {stop = s} l) = (Err (item_stop m s), item_then_stop c d x, are_cut l)
 
 first_item : (n : ℕ) (env final : Environment) (item : ItemTree) (items : List ItemTree) (c : Checked) (rows : List (List Obligation))
     → Reaches (ItemComesTo env [] zero item) c
     → Reached (suc n) (with_added env c.added) items final rows
     → Reached n env (item ∷ items) final (c.owed ∷ rows)
-first_item n env final item items c rows (reaches d is_given) y = then_items n env final item items c rows y.0 d y.1.0 y.1.1
-first_item n env final item items c rows (reaches {result = r} d (is_limit {stop = s} l)) y = (Err (item_stop n s), (item_stops d, are_cut l))
+first_item n env final item items c rows (reaches d is_given) y = then_items n env final item items c rows y.0 d y.1 y.2
+first_item n env final item items c rows (reaches {result = r} d (is_limit {stop = s} l)) y = (Err (item_stop n s), item_stops d, are_cut l)
 
 all_reached : (n : ℕ) {env final : Environment} {items : List ItemTree} {rows : List (List Obligation)}
     → DerivesAll env items final rows
     → Reached n env items final rows
-all_reached n (derives_none {env = env}) = (Ok (checked_all env []), (items_end, are_given))
+all_reached n (derives_none {env = env}) = (Ok (checked_all env []), items_end, are_given)
 all_reached n (derives_more {env = env} {final = final} {item = item} {added = added} {items = items} {owed = owed} {rows = rows} d rest) =
     first_item n env final item items (checked added owed) rows (derived_reaches.items env [] zero item added owed d) (all_reached (suc n) rest)
 
@@ -155,7 +156,7 @@ only_reached : (n : ℕ) (env final : Environment) (items : List ItemTree) (rows
     → AreOrLimit final rows r
 only_reached n env final items rows r d x =
     let y = all_reached n d in
-    subst (λ (q : Result CheckedAll ItemStop). AreOrLimit final rows q) (files_come_to_one n env items y.0 r y.1.0 x) y.1.1
+    subst (λ (q : Result CheckedAll ItemStop). AreOrLimit final rows q) (files_come_to_one n env items y.0 r y.1 x) y.2
 
 pub derived_files_reach : DerivedFilesReach
 derived_files_reach = record {

@@ -1,5 +1,5 @@
 -- What a phrase comes to is formed, since the rules derive it.
-use Rattle.std.proofs.Common.{[], Some, None}
+use Rattle.std.proofs.Common.{[]}
 use Rattle.theory_formed_typing.proofs.Typed.{formed_ty, formed_formula, given_formed, fit_formed}
 use Rattle.theory_formed_obligations.proofs.Owed.{owed_formed_all}
 use Rattle.theory_formed_items.proofs.Kept.{items_keep_formed}

@@ -1,5 +1,5 @@
 -- What a phrase and a declaration come to is formed.
-use Rattle.std.specs.Prelude.{ℕ, [], Result, Ok, Some, None}
+use Rattle.std.specs.Prelude.{ℕ, [], Ok, Some, None}
 use Rattle.htt_syntax.specs.Trees.{TyTree, TermTree, FormulaTree}
 use Rattle.theory_typing.specs.Contexts.{Context, Environment}
 use Rattle.theory_typing.specs.Typing.{Mode}
