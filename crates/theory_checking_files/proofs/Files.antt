@@ -1,17 +1,17 @@
 -- The items of a file: one result, derived and reached, each item by the law of items.
-use Rattle.std.proofs.Common.{◌≡◌, ℕ, zero, suc, ◌+◌, List, [], ◌∷◌, ◌++◌, length, All, Result, Ok, Err, refl, sym, ap, subst, arith}
+use Rattle.std.proofs.Common.{◌≡◌, ℕ, zero, suc, List, [], ◌∷◌, All, Result, Ok, Err, refl, sym, ap, subst, arith}
 use Rattle.std.proofs.lemmas.List.Elements.{All-nil, All-cons}
 use Rattle.htt_syntax_words.specs.declared.words.Rule.{Rule}
 use Rattle.theory_typing.specs.Contexts.{Environment, Obligation}
 use Rattle.theory_typing_canonical.specs.Environments.{IsCanonicalEnvironment}
-use Rattle.theory_items.specs.Items.{ItemTree, Added, with_added}
+use Rattle.theory_items.specs.Items.{ItemTree, with_added}
 use Rattle.theory_file_derived.specs.Derived.{DerivesAll, derives_none, derives_more}
 use Rattle.theory_formed_items.specs.Environments.{IsFormedEnvironment}
 use Rattle.theory_checking.specs.Stops.{Stop, refused}
 use Rattle.theory_checking.proofs.Chains.{stop_of, given_of, not_both}
 use Rattle.theory_checking_items.specs.Items.{Checked, checked, ItemComesTo}
 use Rattle.theory_checking_items.proofs.Items.{items_come_to_one, checked_items_derive}
-use Rattle.theory_checking_complete.specs.Reaching.{IsLimit, IsOrLimit, is_given, is_limit, Reaches, reaches}
+use Rattle.theory_checking_complete.specs.Reaching.{is_given, is_limit, Reaches, reaches}
 use Rattle.theory_checking_complete.proofs.Complete.{derived_reaches}
 use Rattle.theory_checking_canonical.specs.Laws.{IsWithin}
 use Rattle.theory_checking_canonical.proofs.Within.{owed_is_within_limits}
@@ -81,7 +81,7 @@ files_come_to_one n env (item ∷ items) r q (item_then_items {final = f} {rows 
 files_come_to_one n env (item ∷ items) r q (item_then_items {final = f} {rows = o} c d x) (item_then_items {final = h} {rows = u} b e y) =
     let p = same_checked env item c b d e in
     let i = files_come_to_one (suc n) (with_added env c.added) items (Ok (checked_all f o)) (Ok (checked_all h u)) x
-        (same_items (suc n) env items (Ok (checked_all h u)) c b p y) in
+    (same_items (suc n) env items (Ok (checked_all h u)) c b p y) in
     λ j. with_row ((p j).owed) (i j)
 
 -- the first stop

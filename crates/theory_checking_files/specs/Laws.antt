@@ -6,7 +6,7 @@ use Rattle.theory_typing_canonical.specs.Environments.{IsCanonicalEnvironment}
 use Rattle.theory_items.specs.Items.{ItemTree}
 use Rattle.theory_file_derived.specs.Derived.{DerivesAll}
 use Rattle.theory_formed_items.specs.Environments.{IsFormedEnvironment}
-use Rattle.theory_checking.specs.Stops.{Stop, refused}
+use Rattle.theory_checking.specs.Stops.{refused}
 use Rattle.theory_checking_items.specs.Items.{ItemComesTo}
 use Rattle.theory_checking_canonical.specs.Laws.{IsWithin}
 use Rattle.theory_checking_narrow.specs.Narrow.{IsNarrowEnvironment}
