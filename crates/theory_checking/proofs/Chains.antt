@@ -1,5 +1,5 @@
 -- Rows of premises come to one result at most where each premise does.
-use Rattle.std.proofs.Common.{◌≡◌, ℕ, zero, List, [], ◌∷◌, Result, Ok, Err, Option, Some, None, refl, ap, subst}
+use Rattle.std.proofs.Common.{◌≡◌, ℕ, List, [], ◌∷◌, Result, Ok, Err, Option, Some, None, refl, ap, subst}
 use Rattle.htt_syntax.specs.Trees.{MonoTree, TyTree, TripleTree, TermTree, CompTree, FormulaTree, triple}
 use Rattle.theory_states.specs.States.{Move, owed, start}
 use Rattle.theory_canonical.specs.Skeletons.{Skeleton}

@@ -25,12 +25,12 @@ use Rattle.theory_canonical.specs.Eta.{eta}
 use Rattle.theory_substitution.specs.Monotypes.{put_mono_ty, put_mono_term}
 use Rattle.theory_states.specs.States.{move_alloc, move_get, move_set, move_free, move_run, move_claim, branch, merge}
 use Rattle.theory_typing.specs.Contexts.{en_mono, en_heap, en_term, Context, Environment, IsHeapEntry, HasEntryType}
-use Rattle.theory_typing.specs.Contexts.{IsComparable, count_of, Obligation}
+use Rattle.theory_typing.specs.Contexts.{IsComparable, count_of}
 use Rattle.theory_typing.specs.Typing.{Mode, in_program, in_formula, with_heaps, part_step, part_comp, part_unit}
-use Rattle.theory_checking.specs.Stops.{Stop, refused, passed, ◌>>=◌, ◌>>◌, Comes, Refuses, Needs, Finds, Makes}
+use Rattle.theory_checking.specs.Stops.{Stop, refused, ◌>>=◌, ◌>>◌, Comes, Refuses, Needs, Finds, Makes}
 use Rattle.theory_checking.specs.Limits.{HasRoom, IsNarrow, MonoComesTo, StateIsWithin, TyIsWithin, TermIsWithin}
 use Rattle.theory_checking.specs.Limits.{PutsInTy, PutsInTerm}
-use Rattle.theory_checking.specs.Results.{Typed, typed, Fixed, fixed, Computed, Ran, ran, Moved, moved, byte_of_term}
+use Rattle.theory_checking.specs.Results.{Typed, typed, Fixed, fixed, Ran, ran, Moved, moved, byte_of_term}
 use Rattle.theory_checking.specs.Results.{Inferred, GoesOn, BodyComesTo, BranchComesTo}
 
 -- a heap of the context, which is nothing else

@@ -1,0 +1,5 @@
+use Rattle.theory_checking_files.proofs.Files.{checked_files_keep}
+use Rattle.theory_checking_files.proofs.checked_files_keep.Goals as goal
+
+pub returns : goal.returns
+returns c = record { law = checked_files_keep }
