@@ -1,0 +1,4 @@
+pub mod Layouts
+pub mod Typed
+pub mod Held
+pub mod Laws
