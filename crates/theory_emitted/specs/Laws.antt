@@ -1,0 +1,58 @@
+-- Emitted code has the outcomes of main's flat body, in both versions.
+use Rattle.std.specs.Prelude.{◌≡◌, ◌≢◌, ◌↔◌, ℕ, List, [], Some, slice_get}
+use Rattle.htt_syntax_words.specs.declared.words.Kind.{Kind}
+use Rattle.theory_values.specs.Values.{Value, encoding}
+use Rattle.theory_values.specs.Heaps.{Heap}
+use Rattle.theory_denotation.specs.Outcomes.{ended, wrong, asking}
+use Rattle.word_loader_code.specs.declared.code.Code.{Code}
+use Rattle.word_loader_code.specs.Machine.{machine_after, halted, faulted, asking as machine_asking}
+use Rattle.theory_flat.specs.Flat.{Instance}
+use Rattle.theory_flat.specs.Reading.{flat_run}
+use Rattle.theory_emission.specs.Bodies.{Ending}
+use Rattle.theory_emission.specs.Codes.{code_ended_by}
+use Rattle.theory_emitted_bodies.specs.Typed.{AreTyped}
+use Rattle.theory_emitted_bodies.specs.Laws.{Leaves}
+
+-- After some number of steps the code has halted with these words and this heap, or it asks.
+abbrev pub Halts : Code → Heap → List ℕ → List ℕ → Heap → Type 0
+Halts code h choices words k = (steps : ℕ) × (machine_after code h choices steps ≡ halted words k)
+
+abbrev pub Asks : Code → Heap → List ℕ → Type 0
+Asks code h choices = (steps : ℕ) × (machine_after code h choices steps ≡ machine_asking)
+
+-- With some fuel main's flat body ends with a value of these words and this heap, or it asks.
+abbrev pub Ends : List Instance → Heap → List ℕ → List ℕ → Heap → Type 0
+Ends instances h choices words k =
+    (n : ℕ) × (v : Value) × (left : List ℕ) × (flat_run instances n 0 [] h choices ≡ ended v k left) × (words ≡ encoding v)
+
+abbrev pub FlatAsks : List Instance → Heap → List ℕ → Type 0
+FlatAsks instances h choices = (n : ℕ) × (flat_run instances n 0 [] h choices ≡ asking)
+
+-- With no fuel main's flat body goes wrong.
+abbrev pub NeverWrong : List Instance → Heap → List ℕ → Type 0
+NeverWrong instances h choices = (n : ℕ) → flat_run instances n 0 [] h choices ≢ wrong
+
+pub record HasOutcomes (instances : List Instance) (code : Code) (h : Heap) (choices : List ℕ) : Type 0 where
+  pub halts : NeverWrong instances h choices
+      → (words : List ℕ) (k : Heap)
+      → Halts code h choices words k ↔ Ends instances h choices words k
+  pub asks : NeverWrong instances h choices → Asks code h choices ↔ FlatAsks instances h choices
+  -- whether it goes wrong elsewhere or not
+  pub ends : (words : List ℕ) (k : Heap) → Ends instances h choices words k → Halts code h choices words k
+  pub flat_asks : FlatAsks instances h choices → Asks code h choices
+  -- with as much fuel as the code has taken steps
+  pub faults : (steps : ℕ) (kind : Kind) (l : ℕ)
+      → machine_after code h choices steps ≡ faulted kind l
+      → flat_run instances steps 0 [] h choices ≡ wrong
+
+-- The first instance is main, and has no parameters. Version 1 code ends bodies in a return, and version 2
+-- code has tail bodies.
+abbrev pub MainIsEmitted : Type 0
+MainIsEmitted =
+    (instances : List Instance) (main : Instance) (version : ℕ) (ending : Ending)
+    → AreTyped instances
+    → slice_get instances 0 ≡ Some main
+    → main.params ≡ []
+    → Leaves ending
+    → (h : Heap) (choices : List ℕ)
+    → HasOutcomes instances (code_ended_by version ending instances) h choices
