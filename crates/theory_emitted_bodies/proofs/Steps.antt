@@ -207,7 +207,7 @@ module _ (a : Around) (f : Function) (there : slice_get a.code.functions a.numbe
       let front = ep.instrs ++ ev.instrs in
       let i = Set ep.place ev.place (width mono) in
       let b =
-      two (around a h cs) f there g vs monos w (emitted (around a h cs) f there g vs monos p) (emitted (around a h cs) f there g vs monos w) at locals next hold
+      two (around a h cs) f there g vs monos place value w (emitted (around a h cs) f there g vs monos p) (emitted (around a h cs) f there g vs monos w) at locals next hold
       (stand_first f.body at front (i ∷ []) stand) (omega (arith, within)) in
       let s = steps (around a h cs) f (at + length front) b.after i there (last_stands f.body at front i stand) in
       let l = a_loc b.left.layout in

@@ -92,7 +92,7 @@ module _ (a : Around) (f : Function) (there : slice_get a.code.functions a.numbe
       at_new [] (Const next word) next 1 (word ∷ []) (goes_none (omega arith))
       (steps a f (at + 0) locals (Const next word) there (last_stands at [] (Const next word) stand)) layout is wide (omega arith) within
 
-  pub two : {left right : TermTree} {t u : MonoTree}
+  pub two : {t u : MonoTree} (left right : TermTree)
       → HasMono monos right u
       → Emits left t
       → Emits right u
@@ -101,7 +101,7 @@ module _ (a : Around) (f : Function) (there : slice_get a.code.functions a.numbe
       → StandAt f.body at ((emit_term g next left).instrs ++ (emit_term g (emit_term g next left).next right).instrs)
       → (emit_term g (emit_term g next left).next right).next ≤ length locals
       → Both a at locals next (emit_term g next left) (emit_term g (emit_term g next left).next right) (value_in vs left) (value_in vs right) t u
-  two {left = left} {right = right} q l r at locals next h stand within =
+  two left right q l r at locals next h stand within =
       let ea = emit_term g next left in
       let eb = emit_term g ea.next right in
       let ra = l at locals next h (stand_first f.body at ea.instrs eb.instrs stand) (omega (arith, grows q g ea.next, within)) in
@@ -170,7 +170,7 @@ module _ (a : Around) (f : Function) (there : slice_get a.code.functions a.numbe
       let ea = emit_term g next left in
       let eb = emit_term g ea.next right in
       let parts = moves eb.next ((ea.place, width_of_term g left) ∷ (eb.place, width_of_term g right) ∷ []) in
-      let b = two q (emitted p) (emitted q) at locals next h (stand_first f.body at (ea.instrs ++ eb.instrs) parts stand) (omega (arith, within)) in
+      let b = two left right q (emitted p) (emitted q) at locals next h (stand_first f.body at (ea.instrs ++ eb.instrs) parts stand) (omega (arith, within)) in
       brings_pair ea eb (width_of_term g left) (width_of_term g right) b (ap width (finds h p)) (ap width (finds h q)) stand within
   emitted (has_fst {pair = pair} p) at locals next h stand within =
       let e = emit_term g next pair in
@@ -203,14 +203,14 @@ module _ (a : Around) (f : Function) (there : slice_get a.code.functions a.numbe
       let ea = emit_term g next left in
       let eb = emit_term g ea.next right in
       let i = Op eb.next (number_of_op op) ea.place eb.place in
-      let b = two q (emitted p) (emitted q) at locals next h (stand_first f.body at (ea.instrs ++ eb.instrs) (i ∷ []) stand) (omega (arith, within)) in
+      let b = two left right q (emitted p) (emitted q) at locals next h (stand_first f.body at (ea.instrs ++ eb.instrs) (i ∷ []) stand) (omega (arith, within)) in
       brings_computed (number_of_op op) ea eb b
       (op_done b.after ea.place eb.place op b.left.layout b.right.layout b.left.words b.right.words) (op_wide op) stand within
   emitted (has_eq {left = left} {right = right} c p q) at locals next h stand within =
       let ea = emit_term g next left in
       let eb = emit_term g ea.next right in
       let i = Op eb.next eq_number ea.place eb.place in
-      let b = two q (emitted p) (emitted q) at locals next h (stand_first f.body at (ea.instrs ++ eb.instrs) (i ∷ []) stand) (omega (arith, within)) in
+      let b = two left right q (emitted p) (emitted q) at locals next h (stand_first f.body at (ea.instrs ++ eb.instrs) (i ∷ []) stand) (omega (arith, within)) in
       brings_computed eq_number ea eb b
       (eq_done b.after ea.place eb.place (map th_value vs) c b.left.layout b.right.layout b.left.words b.right.words) refl stand within
   emitted (has_sel {mono = mono} {test = test} {on_true = on_true} {on_false = on_false} p q r) at locals next h stand within =
@@ -224,7 +224,7 @@ module _ (a : Around) (f : Function) (there : slice_get a.code.functions a.numbe
       let more = grows r g ea.next in
       let c = emitted p at locals next h (stand_first f.body at ec.instrs rest front) (omega (arith, within, room, more)) in
       let b =
-      two r (emitted q) (emitted r) (at + length ec.instrs) c.after ec.next (hold_all_on h c.goes.keeps c.grows) (stand_second f.body at ec.instrs rest front)
+      two on_true on_false r (emitted q) (emitted r) (at + length ec.instrs) c.after ec.next (hold_all_on h c.goes.keeps c.grows) (stand_second f.body at ec.instrs rest front)
       (omega (arith, within, c.goes.long)) in
       let hc = hold_on c.holds b.goes.keeps b.grows in
       let ys = words_at b.after ea.place (width mono) in
