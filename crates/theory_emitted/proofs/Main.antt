@@ -17,7 +17,7 @@ use Rattle.theory_emission.specs.Bodies.{Ending, width_of_monos, emit_instance}
 use Rattle.theory_emission.specs.Codes.{code_ended_by}
 use Rattle.theory_emitted_terms.specs.Layouts.{HaveLayouts, lay_none}
 use Rattle.theory_emitted_bodies.specs.Typed.{AreTyped}
-use Rattle.theory_emitted_bodies.specs.Comes.{ComesTo, Returns, entered}
+use Rattle.theory_emitted_bodies.specs.Comes.{Meets, ComesTo, Returns, entered}
 use Rattle.theory_emitted_bodies.specs.Laws.{Leaves}
 use Rattle.theory_emitted_bodies.proofs.Bodies.{function_there, emitted_bodies}
 use Rattle.theory_emitted.specs.Laws.{Halts, Asks, Ends, FlatAsks, NeverWrong, HasOutcomes, MainIsEmitted}
@@ -85,10 +85,10 @@ module _ (instances : List Instance) (main : Instance) (version : ℕ) (ending :
       → Halts code h cs (encoding v) k
   to_halt n o v k left p q =
       let c = subst (ComesTo code (suc n) (Returns ground main.result) (started (slice_get code.functions 0) h cs)) (p ∙ q) (comes n) in
-      (c.0, c.1.there)
+      (c.meets.0, c.meets.1.there)
 
   to_asking : (n : ℕ) → flat_run instances n 0 [] h cs ≡ asking → Asks code h cs
-  to_asking n p = subst (ComesTo code (suc n) (Returns ground main.result) (started (slice_get code.functions 0) h cs)) p (comes n)
+  to_asking n p = (subst (ComesTo code (suc n) (Returns ground main.result) (started (slice_get code.functions 0) h cs)) p (comes n)).meets
 
   -- what a flat body comes to with as much fuel as the machine has taken steps
   data Over (n : ℕ) (m : Machine) : Type 0 where
@@ -97,9 +97,9 @@ module _ (instances : List Instance) (main : Instance) (version : ℕ) (ending :
     over_wrong : flat_run instances n 0 [] h cs ≡ wrong → Over n m
 
   over : (n : ℕ) (m : Machine) → machine_after code h cs n ≡ m → IsOver m → Over n m
-  over n m p o = by (flat_run instances n 0 [] h cs) refl (comes n)
+  over n m p o = by (flat_run instances n 0 [] h cs) refl ((comes n).meets)
     where
-      by : (x : Outcome) → flat_run instances n 0 [] h cs ≡ x → ComesTo code (suc n) (Returns ground main.result) (started (slice_get code.functions 0) h cs) x → Over n m
+      by : (x : Outcome) → flat_run instances n 0 [] h cs ≡ x → Meets code (suc n) (Returns ground main.result) (started (slice_get code.functions 0) h cs) x → Over n m
       by (ended v k left) q c = over_ended v k left q (agree code h cs n (c.0) m (halted (encoding v) k) p (c.1.there) o tt)
       by out_of_fuel q c = absurd (c.2 (stays_over code h cs n (c.0) m p o (omega (arith, c.1))))
       by asking q c = over_asking q (agree code h cs n (c.0) m machine_asking p (c.1) o tt)

@@ -228,12 +228,12 @@ module _ (instances : List Instance) (version : ℕ) (ending : Ending) where
           grows = r.grows;
         }
 
-    last_call : {monos : List MonoTree} {callee : ℕ} {params : List TermTree} {instance : Instance}
+    last_call : {monos : List MonoTree} (callee : ℕ) {params : List TermTree} {instance : Instance}
         → slice_get instances callee ≡ Some instance
         → HaveMonos monos params instance.params
         → LastComes (flat_call callee params) monos instance.result
     unfolding emit_flat flat_outcome
-    last_call {callee = callee} {params = params} {instance = instance} q p ends fits g vs at locals next h cs hold stand within =
+    last_call callee {params = params} {instance = instance} q p ends fits g vs at locals next h cs hold stand within =
         let e = emit_terms g next params in
         let front = e.instrs ++ moves e.next e.parts in
         let i = Tail callee e.next in
@@ -246,12 +246,12 @@ module _ (instances : List Instance) (version : ℕ) (ending : Ending) where
         ∙ ap (λ (l : List ℕ). going h (with_top stack (entered_frame callee k l)) cs) r.words in
         comes_after r.goes.leads (comes_step goes (calls callee instance us h stack cs q r.layouts))
 
-    call_step : {monos : List MonoTree} {callee : ℕ} {params : List TermTree} {instance : Instance}
+    call_step : {monos : List MonoTree} (callee : ℕ) {params : List TermTree} {instance : Instance}
         → slice_get instances callee ≡ Some instance
         → HaveMonos monos params instance.params
         → StepComes (flat_call callee params) monos instance.result
     unfolding emit_flat flat_outcome
-    call_step {callee = callee} {params = params} {instance = instance} q p g vs at locals next h cs hold stand within =
+    call_step callee {params = params} {instance = instance} q p g vs at locals next h cs hold stand within =
         let e = emit_terms g next params in
         let front = e.instrs ++ moves e.next e.parts in
         let d = e.next + width_of_parts e.parts in
@@ -269,7 +269,7 @@ module _ (instances : List Instance) (version : ℕ) (ending : Ending) where
         let on = above (entered_frame callee k (encodings us)) d waits in
         comes_as (call callee us h cs)
         (λ v h' cs' m ret.
-        new_lands base d (encoding v) (ret.there ∙ returns (here h' cs') (entered_frame callee k (encodings us)) d end r.after (encoding v)) r.goes.keeps r.goes.long
+        new_lands base r.after d (encoding v) (ret.there ∙ returns (here h' cs') (entered_frame callee k (encodings us)) d end r.after (encoding v)) r.goes.keeps r.goes.long
         ret.layout refl (omega (arith, r.grows)) (omega (arith, within, wide)) (omega (arith, wide)) (one_more at front i))
         (comes_after r.goes.leads (comes_step goes (calls callee instance us h on cs q r.layouts)))
 
@@ -327,8 +327,8 @@ module _ (instances : List Instance) (version : ℕ) (ending : Ending) where
     branches {Ends = Ends} {m = m} {o = o} {p = p} true q l c d = subst (λ v. ComesTo code (suc n) Ends m (branch_outcome v o p)) (sym q) (comes_after l c)
     branches {Ends = Ends} {m = m} {o = o} {p = p} false q l c d = subst (λ v. ComesTo code (suc n) Ends m (branch_outcome v o p)) (sym q) (comes_after l d)
 
-    stand_to : {at other : ℕ} {is : List Instr} → at ≡ other → StandAt f.body at is → StandAt f.body other is
-    stand_to {is = is} q s = subst (λ k. StandAt f.body k is) q s
+    stand_to : (at other : ℕ) (is : List Instr) → at ≡ other → StandAt f.body at is → StandAt f.body other is
+    stand_to at other is q s = subst (λ k. StandAt f.body k is) q s
 
     last_if : {monos : List MonoTree} {mono : MonoTree} {test : TermTree} {on_true on_false : FlatTree}
         → HasMono monos test m_bool
@@ -348,12 +348,12 @@ module _ (instances : List Instance) (version : ℕ) (ending : Ending) where
         let test_code = tested c target in
         let t = test_goes p g vs at locals next h cs target hold (stand_first f.body at test_code (a.instrs ++ b.instrs) stand) (omega (arith, ga, gb, within)) in
         let long = length-append c.instrs (Jz c.place target ∷ []) in
-        let both = stand_to (omega (arith, long)) (stand_second f.body at test_code (a.instrs ++ b.instrs) stand) in
+        let both = stand_to (at + length test_code) (first_branch at c) (a.instrs ++ b.instrs) (omega (arith, long)) (stand_second f.body at test_code (a.instrs ++ b.instrs) stand) in
         branches t.truth t.is t.leads
         (x is_tail fits g vs (first_branch at c) t.after c.next h cs (hold_all_on hold t.keeps t.grows) (stand_first f.body (first_branch at c) a.instrs b.instrs both)
         (omega (arith, gb, within, t.long)))
         (y is_tail fits g vs target t.after a.next h cs (hold_all_on hold t.keeps (omega (arith, t.grows, ga)))
-        (stand_to (omega arith) (stand_second f.body (first_branch at c) a.instrs b.instrs both)) (omega (arith, within, t.long)))
+        (stand_to (first_branch at c + length a.instrs) target b.instrs (omega arith) (stand_second f.body (first_branch at c) a.instrs b.instrs both)) (omega (arith, within, t.long)))
 
     if_step : {monos : List MonoTree} {mono : MonoTree} {test : TermTree} {on_true on_false : FlatTree}
         → HasMono monos test m_bool
@@ -384,9 +384,9 @@ module _ (instances : List Instance) (version : ℕ) (ending : Ending) where
         let l2 = length-append test_code branch_code in
         let l3 = length-append a.instrs (first_move ∷ jump ∷ second_code) in
         let l4 = length-append b.instrs (second_move ∷ []) in
-        let s1 = stand_to (omega (arith, l1)) (stand_second f.body at test_code branch_code stand) in
+        let s1 = stand_to (at + length test_code) (first_branch at c) branch_code (omega (arith, l1)) (stand_second f.body at test_code branch_code stand) in
         let s2 = stand_second f.body (first_branch at c) a.instrs (first_move ∷ jump ∷ second_code) s1 in
-        let s3 = stand_to (omega arith) (s2.1.1) in
+        let s3 = stand_to (first_branch at c + length a.instrs + 1 + 1) target second_code (omega arith) (s2.1.1) in
         let whole : last ≡ at + length (test_code ++ branch_code) = omega (arith, l1, l2, l3, l4) in
         let from_true =
         comes_through (flat_outcome call vs on_true h cs)
@@ -398,7 +398,7 @@ module _ (instances : List Instance) (version : ℕ) (ending : Ending) where
         let move = steps (here h' cs') f at_move z.after first_move there (s2.0) in
         let leave = steps (here h' cs') f (at_move + 1) moved_to jump there (s2.1.0) in
         subst (λ k. ComesTo code (suc n) (Landing base at locals next (joined at d c w a b) mono) k (ended v h' cs')) (sym z.there)
-        (lands_new base (suc n) d (words_at z.after a.place w) (leads_on (leads_one move) (leads_one leave))
+        (lands_new base (suc n) z.after d (words_at z.after a.place w) (leads_on (leads_one move) (leads_one leave))
         (agree_less t.after z.after (c.next + w) next z.keeps (omega (arith, t.grows)) ∙ t.keeps) (z.long ∙ t.long) z.holds.layout z.holds.words (omega (arith, t.grows))
         (omega (arith, ga, gb, within)) (omega (arith, ga, gb)) whole)) in
         let from_false =
@@ -409,7 +409,7 @@ module _ (instances : List Instance) (version : ℕ) (ending : Ending) where
         let at_move = target + length b.instrs in
         let move = steps (here h' cs') f at_move z.after second_move there (last_stands f.body target b.instrs second_move s3) in
         subst (λ k. ComesTo code (suc n) (Landing base at locals next (joined at d c w a b) mono) k (ended v h' cs')) (sym z.there)
-        (lands_new base (suc n) d (words_at z.after b.place w) (leads_one move)
+        (lands_new base (suc n) z.after d (words_at z.after b.place w) (leads_one move)
         (agree_less t.after z.after a.next next z.keeps (omega (arith, t.grows, ga)) ∙ t.keeps) (z.long ∙ t.long) z.holds.layout z.holds.words (omega (arith, t.grows))
         (omega (arith, ga, gb, within)) (omega (arith, ga, gb)) whole)) in
         branches t.truth t.is t.leads from_true from_false
@@ -488,19 +488,19 @@ module _ (instances : List Instance) (version : ℕ) (ending : Ending) where
       flat_comes (flat_has_step s r) = step_then s r (step_comes s) (last_comes s) (flat_comes r)
 
       step_comes : {monos : List MonoTree} {step : FlatStepTree} {mono : MonoTree} → StepHasMono instances monos step mono → StepComes step monos mono
-      step_comes (step_has_call q p) = call_step q p
+      step_comes (step_has_call {number = callee} q p) = call_step callee q p
       step_comes {monos = monos} (step_has_alloc p) = λ g vs at locals next h cs hold stand within.
           alloc_comes base f there g vs monos (suc n) at locals next h cs hold p stand within
-      step_comes {monos = monos} (step_has_get p) = λ g vs at locals next h cs hold stand within.
-          get_comes base f there g vs monos (suc n) at locals next h cs hold p stand within
+      step_comes {monos = monos} (step_has_get {mono = mono} p) = λ g vs at locals next h cs hold stand within.
+          get_comes base f there g vs monos (suc n) at locals next h cs hold mono p stand within
       step_comes {monos = monos} (step_has_set p w) = λ g vs at locals next h cs hold stand within.
           set_comes base f there g vs monos (suc n) at locals next h cs hold p w stand within
-      step_comes {monos = monos} (step_has_free p) = λ g vs at locals next h cs hold stand within.
-          free_comes base f there g vs monos (suc n) at locals next h cs hold p stand within
+      step_comes {monos = monos} (step_has_free {mono = mono} p) = λ g vs at locals next h cs hold stand within.
+          free_comes base f there g vs monos (suc n) at locals next h cs hold mono p stand within
       step_comes (step_has_if p q r) = if_step p q r (flat_comes q) (flat_comes r)
 
       last_comes : {monos : List MonoTree} {step : FlatStepTree} {mono : MonoTree} → StepHasMono instances monos step mono → LastComes step monos mono
-      last_comes (step_has_call q p) = last_call q p
+      last_comes (step_has_call {number = callee} q p) = last_call callee q p
       last_comes (step_has_alloc p) = λ ends. absurd (true_or_false (sym ends))
       last_comes (step_has_get p) = λ ends. absurd (true_or_false (sym ends))
       last_comes (step_has_set p w) = λ ends. absurd (true_or_false (sym ends))
@@ -527,11 +527,11 @@ module _ (instances : List Instance) (version : ℕ) (ending : Ending) where
       (emitted_body instances ending instance) instance.result v h' cs' m e)
       (flat_comes n call calls number k stack there (typed.each number instance q) ending (fits_leaving ending k instance.result refl)
       (with_params [] 0 instance.params) (reverse vs) 0 (encodings vs ++ zeros) (width_of_monos instance.params) h cs (entry zeros l) (stands_itself k.body)
-      (omega (arith, long, all_wide l, length-replicate (k.locals - k.params) 0)))
+      (omega (arith, long, all_wide l, length-replicate {A = ℕ} (k.locals - k.params) 0)))
 
   calls_come : AreTyped instances → Leaves ending → (n : ℕ) → Calls n (calling instances n)
   unfolding calling after_steps
-  calls_come typed leaves zero number instance vs h stack cs q l = (0, omega arith, λ o. o)
+  calls_come typed leaves zero number instance vs h stack cs q l = record { meets = (0, omega arith, λ o. o) }
   calls_come typed leaves (suc n) number instance vs h stack cs q l =
       subst (λ o. ComesTo code (suc n) (Returns stack instance.result) (entered number (emit_instance instances ending instance) vs h stack cs)
       (body_outcome o (calling instances n) vs h cs)) (sym q)

@@ -28,7 +28,7 @@ use Rattle.theory_emitted_terms.specs.Held.{Holds, HoldAll, Goes, Brings}
 use Rattle.theory_emitted_terms.proofs.Values.{typed_layout, layout_width}
 use Rattle.theory_emitted_terms.proofs.Terms.{grows, emitted, two}
 use Rattle.theory_emitted_bodies.specs.Comes.{ComesTo}
-use Rattle.theory_emitted_bodies.proofs.Comes.{comes_ended}
+use Rattle.theory_emitted_bodies.proofs.Comes.{comes_ended, comes_asking, comes_wrong}
 
 abbrev pub around : Around → Heap → List ℕ → Around
 around a h choices = record { code = a.code; number = a.number; heap = h; stack = a.stack; choices = choices }
@@ -53,31 +53,31 @@ last_stands body at front i stand = (stand_second body at front (i ∷ []) stand
 pub one_more : (at : ℕ) (front : List Instr) (i : Instr) → at + length front + 1 ≡ at + length (front ++ i ∷ [])
 one_more at front i = let r = length-append front (i ∷ []) in omega (arith, r)
 
-module _ (a : Around) (n : ℕ) {m : Machine} {Ends : Value → Heap → List ℕ → Machine → Type 0} (h : Heap) where
+module _ (a : Around) (n : ℕ) (m : Machine) (Ends : Value → Heap → List ℕ → Machine → Type 0) (h : Heap) where
   -- a choice
   chosen : (cs : List ℕ) (v : Value) (go : ℕ → List ℕ → Machine)
       → Leads a.code m (with_choice h cs go)
       → ((l : ℕ) (left : List ℕ) → Leads a.code m (go l left) → ComesTo a.code n Ends m (ended (v_loc l) (with_block h l (encoding v)) left))
       → ComesTo a.code n Ends m (alloc_outcome v h cs)
-  chosen [] v go q f = (q.steps, q.there)
+  chosen [] v go q f = comes_asking q
   chosen (l ∷ left) v go q f = by (is_fresh h l) q
     where
       by : (b : Bool)
           → Leads a.code m (if b then go l left else machine_asking)
           → ComesTo a.code n Ends m (if b then ended (v_loc l) (with_block h l (encoding v)) left else asking)
       by true q = f l left q
-      by false q = (q.steps, q.there)
+      by false q = comes_asking q
 
   -- a block that holds a value
   fetched : (kind : Kind) (l : ℕ) (o : Option Block) (mono : MonoTree) (cs : List ℕ) (go : Block → Machine)
       → Leads a.code m (at_block kind l o (width mono) go)
       → ((u : Value) (block : Block) → HasType u mono → encoding u ≡ block → Leads a.code m (go block) → ComesTo a.code n Ends m (ended u h cs))
       → ComesTo a.code n Ends m (value_outcome (block_value (Some mono) o) h cs)
-  fetched kind l None mono cs go q f = tt
+  fetched kind l None mono cs go q f = comes_wrong
   fetched kind l (Some block) mono cs go q f = by (value_of_words mono block) refl
     where
       by : (o : Option Value) → value_of_words mono block ≡ o → ComesTo a.code n Ends m (value_outcome o h cs)
-      by None e = tt
+      by None e = comes_wrong
       by (Some u) e =
           let d = decodes mono block u e in
           let long : length block ≡ width mono = ap length (sym d.encoded) ∙ layout_width (typed_layout d.typed) in
@@ -89,15 +89,15 @@ module _ (a : Around) (n : ℕ) {m : Machine} {Ends : Value → Heap → List �
       → Leads a.code m (at_block kind l o (width mono) (λ block. go))
       → (Leads a.code m go → ComesTo a.code n Ends m (ended v_unit k cs))
       → ComesTo a.code n Ends m (if is_as_wide (Some mono) o then ended v_unit k cs else wrong)
-  as_wide kind l None mono cs k go q f = tt
+  as_wide kind l None mono cs k go q f = comes_wrong
   as_wide kind l (Some block) mono cs k go q f = by (nat_eq (length block) (width mono)) q
     where
       by : (b : Bool) → Leads a.code m (if b then go else faulted kind l) → ComesTo a.code n Ends m (if b then ended v_unit k cs else wrong)
       by true q = f q
-      by false q = tt
+      by false q = comes_wrong
 
 -- the words of a value, written at a new place
-pub new_lands : (a : Around) {m : Machine} {locals between : List ℕ} {next limit end last : ℕ} {v : Value} {mono : MonoTree} {h : Heap} {cs : List ℕ} (d : ℕ) (ws : List ℕ)
+pub new_lands : (a : Around) {m : Machine} {locals : List ℕ} {next limit end last : ℕ} {v : Value} {mono : MonoTree} {h : Heap} {cs : List ℕ} (between : List ℕ) (d : ℕ) (ws : List ℕ)
     → m ≡ machine_at (around a h cs) end (with_words between d ws)
     → take next between ≡ take next locals
     → length between ≡ length locals
@@ -108,7 +108,7 @@ pub new_lands : (a : Around) {m : Machine} {locals between : List ℕ} {next lim
     → d + width mono ≤ limit
     → end ≡ last
     → Lands a last locals next limit d mono v h cs m
-new_lands a {between = between} {next = next} {last = last} {mono = mono} {h = h} {cs = cs} d ws there keeps long layout is less within below q =
+new_lands a {next = next} {last = last} {mono = mono} {h = h} {cs = cs} between d ws there keeps long layout is less within below q =
     let wide : length ws ≡ width mono = ap length is ∙ layout_width layout in
     record {
       after = with_words between d ws;
@@ -119,7 +119,7 @@ new_lands a {between = between} {next = next} {last = last} {mono = mono} {h = h
     }
 
 module _ (a : Around) (n : ℕ) where
-  pub lands_new : {m : Machine} {locals between : List ℕ} {next limit end last : ℕ} {v : Value} {mono : MonoTree} {h : Heap} {cs : List ℕ} (d : ℕ) (ws : List ℕ)
+  pub lands_new : {m : Machine} {locals : List ℕ} {next limit end last : ℕ} {v : Value} {mono : MonoTree} {h : Heap} {cs : List ℕ} (between : List ℕ) (d : ℕ) (ws : List ℕ)
       → Leads a.code m (machine_at (around a h cs) end (with_words between d ws))
       → take next between ≡ take next locals
       → length between ≡ length locals
@@ -130,17 +130,17 @@ module _ (a : Around) (n : ℕ) where
       → d + width mono ≤ limit
       → end ≡ last
       → ComesTo a.code n (Lands a last locals next limit d mono) m (ended v h cs)
-  lands_new d ws l keeps long layout is less within below q = comes_ended l (new_lands a d ws refl keeps long layout is less within below q)
+  lands_new between d ws l keeps long layout is less within below q = comes_ended l (new_lands a between d ws refl keeps long layout is less within below q)
 
   -- steps that write nothing, and have ()
-  lands_same : {m : Machine} {locals after : List ℕ} {next limit end last : ℕ} {h : Heap} {cs : List ℕ} (d : ℕ)
+  lands_same : {m : Machine} {locals : List ℕ} {next limit end last : ℕ} {h : Heap} {cs : List ℕ} (after : List ℕ) (d : ℕ)
       → Leads a.code m (machine_at (around a h cs) end after)
       → take next after ≡ take next locals
       → length after ≡ length locals
       → d ≤ limit
       → end ≡ last
       → ComesTo a.code n (Lands a last locals next limit d m_unit) m (ended v_unit h cs)
-  lands_same {after = after} {h = h} {cs = cs} d l keeps long less q =
+  lands_same {h = h} {cs = cs} after d l keeps long less q =
       comes_ended l
       (record {
         after = after;
@@ -167,20 +167,22 @@ module _ (a : Around) (f : Function) (there : slice_get a.code.functions a.numbe
       let i = Alloc e.next e.place (width mono) in
       let r = emitted (around a h cs) f there g vs monos p at locals next hold (stand_first f.body at e.instrs (i ∷ []) stand) (omega (arith, within)) in
       let s = steps (around a h cs) f (at + length e.instrs) r.after i there (last_stands f.body at e.instrs i stand) in
-      chosen a n h cs (value_in vs value) _ (leads_on r.goes.leads (leads_one s))
+      let go : ℕ → List ℕ → Machine = λ l left.
+      machine_at (around a (with_block h l (words_at r.after e.place (width mono))) left) (at + length e.instrs + 1) (with_words r.after e.next (l ∷ [])) in
+      chosen a n (machine_at (around a h cs) at locals) (Landing a at locals next (allocated e (width mono)) m_loc) h cs (value_in vs value) go (leads_on r.goes.leads (leads_one s))
       (λ l left q.
-      lands_new a n e.next (l ∷ [])
+      lands_new a n r.after e.next (l ∷ [])
       (subst (λ b. Leads a.code (machine_at (around a h cs) at locals)
       (machine_at (around a (with_block h l b) left) (at + length e.instrs + 1) (with_words r.after e.next (l ∷ [])))) r.holds.words q)
       r.goes.keeps r.goes.long lays_loc refl r.grows within (omega arith) (one_more at e.instrs i))
 
-  pub get_comes : {place : TermTree} {mono : MonoTree}
+  pub get_comes : {place : TermTree} (mono : MonoTree)
       → HasMono monos place m_loc
       → StandAt f.body at (read (emit_term g next place) (width mono)).instrs
       → (read (emit_term g next place) (width mono)).next ≤ length locals
       → ComesTo a.code n (Landing a at locals next (read (emit_term g next place) (width mono)) mono) (machine_at (around a h cs) at locals)
       (get_outcome mono (value_in vs place) h cs)
-  get_comes {place = place} {mono = mono} p stand within =
+  get_comes {place = place} mono p stand within =
       let e = emit_term g next place in
       let i = Get e.next e.place (width mono) in
       let r = emitted (around a h cs) f there g vs monos p at locals next hold (stand_first f.body at e.instrs (i ∷ []) stand) (omega (arith, within)) in
@@ -190,9 +192,9 @@ module _ (a : Around) (f : Function) (there : slice_get a.code.functions a.numbe
       let is = one r.after e.place (l.0) (r.holds.words ∙ ap encoding (l.1)) in
       let q = leads_on r.goes.leads (leads_one (s ∙ ap (λ k. at_block kind.Get k (h k) (width mono) go) is)) in
       subst (λ v. ComesTo a.code n (Landing a at locals next (read e (width mono)) mono) (machine_at (around a h cs) at locals) (get_outcome mono v h cs)) (sym (l.1))
-      (fetched a n h kind.Get (l.0) (h (l.0)) mono cs go q
+      (fetched a n (machine_at (around a h cs) at locals) (Landing a at locals next (read e (width mono)) mono) h kind.Get (l.0) (h (l.0)) mono cs go q
       (λ u block t encoded q.
-      lands_new a n e.next block q r.goes.keeps r.goes.long (typed_layout t) (sym encoded) r.grows within (omega arith) (one_more at e.instrs i)))
+      lands_new a n r.after e.next block q r.goes.keeps r.goes.long (typed_layout t) (sym encoded) r.grows within (omega arith) (one_more at e.instrs i)))
 
   pub set_comes : {place value : TermTree} {mono : MonoTree}
       → HasMono monos place m_loc
@@ -218,16 +220,16 @@ module _ (a : Around) (f : Function) (there : slice_get a.code.functions a.numbe
       (s ∙ (λ j. at_block kind.Set (is j) (h (is j)) (width mono) (λ block. go (with_block h (is j) (b.right.words j)))))) in
       subst (λ v. ComesTo a.code n (Landing a at locals next (written ep ev (width mono)) m_unit) (machine_at (around a h cs) at locals)
       (set_outcome mono v (value_in vs value) h cs)) (sym (l.1))
-      (as_wide a n h kind.Set (l.0) (h (l.0)) mono cs (with_block h (l.0) (encoding (value_in vs value))) (go (with_block h (l.0) (encoding (value_in vs value)))) q
-      (λ q. lands_same a n ev.next q b.goes.keeps b.goes.long (omega arith) (one_more at front i)))
+      (as_wide a n (machine_at (around a h cs) at locals) (Landing a at locals next (written ep ev (width mono)) m_unit) h kind.Set (l.0) (h (l.0)) mono cs (with_block h (l.0) (encoding (value_in vs value))) (go (with_block h (l.0) (encoding (value_in vs value)))) q
+      (λ q. lands_same a n b.after ev.next q b.goes.keeps b.goes.long (omega arith) (one_more at front i)))
 
-  pub free_comes : {place : TermTree} {mono : MonoTree}
+  pub free_comes : {place : TermTree} (mono : MonoTree)
       → HasMono monos place m_loc
       → StandAt f.body at (released (emit_term g next place) (width mono)).instrs
       → (released (emit_term g next place) (width mono)).next ≤ length locals
       → ComesTo a.code n (Landing a at locals next (released (emit_term g next place) (width mono)) m_unit) (machine_at (around a h cs) at locals)
       (free_outcome mono (value_in vs place) h cs)
-  free_comes {place = place} {mono = mono} p stand within =
+  free_comes {place = place} mono p stand within =
       let e = emit_term g next place in
       let i = Free e.place (width mono) in
       let r = emitted (around a h cs) f there g vs monos p at locals next hold (stand_first f.body at e.instrs (i ∷ []) stand) (omega (arith, within)) in
@@ -237,5 +239,5 @@ module _ (a : Around) (f : Function) (there : slice_get a.code.functions a.numbe
       let go : Heap → Machine = λ k. machine_at (around a k cs) (at + length e.instrs + 1) r.after in
       let q = leads_on r.goes.leads (leads_one (s ∙ ap (λ k. at_block kind.Free k (h k) (width mono) (λ block. go (without_block h k))) is)) in
       subst (λ v. ComesTo a.code n (Landing a at locals next (released e (width mono)) m_unit) (machine_at (around a h cs) at locals) (free_outcome mono v h cs)) (sym (l.1))
-      (as_wide a n h kind.Free (l.0) (h (l.0)) mono cs (without_block h (l.0)) (go (without_block h (l.0))) q
-      (λ q. lands_same a n e.next q r.goes.keeps r.goes.long (omega arith) (one_more at e.instrs i)))
+      (as_wide a n (machine_at (around a h cs) at locals) (Landing a at locals next (released e (width mono)) m_unit) h kind.Free (l.0) (h (l.0)) mono cs (without_block h (l.0)) (go (without_block h (l.0))) q
+      (λ q. lands_same a n r.after e.next q r.goes.keeps r.goes.long (omega arith) (one_more at e.instrs i)))

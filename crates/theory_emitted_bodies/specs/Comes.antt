@@ -12,12 +12,16 @@ use Rattle.word_loader_code.specs.Laws.{IsOver}
 use Rattle.theory_emitted_terms.specs.Layouts.{HasLayout, encodings}
 
 -- Where the outcome is an end, after some steps the machine is in a state for it. Where fuel runs out, the
--- machine still goes on after at least so many steps. Nothing is said where the outcome is wrong.
-abbrev pub ComesTo : Code → ℕ → (Value → Heap → List ℕ → Machine → Type 0) → Machine → Outcome → Type 0
-ComesTo code n Ends m (ended v h cs) = (steps : ℕ) × Ends v h cs (after_steps code m steps)
-ComesTo code n Ends m out_of_fuel = (steps : ℕ) × (n ≤ steps) × (IsOver (after_steps code m steps) → ⊥)
-ComesTo code n Ends m asking = (steps : ℕ) × (after_steps code m steps ≡ machine_asking)
-ComesTo code n Ends m wrong = Unit {0}
+-- machine still goes on after at least n steps. Nothing is said where the outcome is wrong.
+abbrev pub Meets : Code → ℕ → (Value → Heap → List ℕ → Machine → Type 0) → Machine → Outcome → Type 0
+Meets code n Ends m (ended v h cs) = (steps : ℕ) × Ends v h cs (after_steps code m steps)
+Meets code n Ends m out_of_fuel = (steps : ℕ) × (n ≤ steps) × (IsOver (after_steps code m steps) → ⊥)
+Meets code n Ends m asking = (steps : ℕ) × (after_steps code m steps ≡ machine_asking)
+Meets code n Ends m wrong = Unit {0}
+
+pub record ComesTo (code : Code) (n : ℕ) (Ends : Value → Heap → List ℕ → Machine → Type 0) (m : Machine)
+    (outcome : Outcome) : Type 0 where
+  pub meets : Meets code n Ends m outcome
 
 -- The words of a value of the monotype are returned to the stack.
 pub record Returns (stack : Stack) (mono : MonoTree) (v : Value) (h : Heap) (choices : List ℕ) (m : Machine) : Type 0 where
