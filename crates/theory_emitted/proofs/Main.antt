@@ -39,11 +39,11 @@ stays_over code h cs n k x p over less =
     let sum : n + (k - n) ≡ k = omega (arith, less) in
     subst IsOver (sym p ∙ sym (over_is_final_lem code h cs n (k - n) (subst IsOver (sym p) over)) ∙ ap (machine_after code h cs) sum) over
 
-words_of : Machine → List ℕ
+abbrev words_of : Machine → List ℕ
 words_of (halted words h) = words
 words_of m = []
 
-heap_of : Machine → Heap
+abbrev heap_of : Machine → Heap
 heap_of (halted words h) = h
 heap_of m = empty_heap
 

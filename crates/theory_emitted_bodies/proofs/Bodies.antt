@@ -52,7 +52,7 @@ finds_bound (step_has_free p) = refl
 finds_bound (step_has_if p q r) = refl
 
 -- a function of the code
-function_there : (instances : List Instance) (version : ℕ) (ending : Ending) (number : ℕ) (instance : Instance)
+pub function_there : (instances : List Instance) (version : ℕ) (ending : Ending) (number : ℕ) (instance : Instance)
     → slice_get instances number ≡ Some instance
     → slice_get (code_ended_by version ending instances).functions number ≡ Some (emit_instance instances ending instance)
 function_there instances version ending number instance q =
