@@ -16,7 +16,7 @@ use Rattle.theory_flat.specs.Reading.{flat_run}
 use Rattle.theory_emission.specs.Bodies.{Ending, width_of_monos, emit_instance}
 use Rattle.theory_emission.specs.Codes.{code_ended_by}
 use Rattle.theory_emitted_terms.specs.Layouts.{HaveLayouts, lay_none}
-use Rattle.theory_emitted_bodies.specs.Typed.{AreTyped}
+use Rattle.theory_flat_typed.specs.Typed.{AreTyped}
 use Rattle.theory_emitted_bodies.specs.Comes.{Meets, ComesTo, Returns, entered}
 use Rattle.theory_emitted_bodies.specs.Laws.{Leaves}
 use Rattle.theory_emitted_bodies.proofs.Bodies.{function_there, emitted_bodies}

@@ -10,7 +10,7 @@ use Rattle.theory_flat.specs.Flat.{Instance}
 use Rattle.theory_flat.specs.Reading.{flat_run}
 use Rattle.theory_emission.specs.Bodies.{Ending}
 use Rattle.theory_emission.specs.Codes.{code_ended_by}
-use Rattle.theory_emitted_bodies.specs.Typed.{AreTyped}
+use Rattle.theory_flat_typed.specs.Typed.{AreTyped}
 use Rattle.theory_emitted_bodies.specs.Laws.{Leaves}
 
 -- After some number of steps the code has halted with these words and this heap, or it asks.

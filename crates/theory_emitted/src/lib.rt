@@ -3,16 +3,10 @@
 #![tactic(auto)]
 
 ghost use Rattle.theory_emitted.specs.Laws.{MainIsEmitted};
-ghost use Rattle.theory_emitted.specs.Examples.{WorkedTyped};
 
 /// Where main's flat body goes wrong with no fuel, the code halts with given words and heap, or asks, for some
 /// number of steps exactly where the flat body ends with a value of these words and that heap, or asks, with
 /// some fuel. Where the code faults, the flat body goes wrong.
 pub fn main_is_emitted()
     ensures law { MainIsEmitted }
-{}
-
-/// The worked lists of instances have bodies of their monotypes.
-pub fn worked_instances_are_typed()
-    ensures examples { WorkedTyped }
 {}

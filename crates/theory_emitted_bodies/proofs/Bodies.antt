@@ -14,6 +14,7 @@ use Rattle.word_loader_code.specs.declared.code.Function.{Function}
 use Rattle.word_loader_code.specs.declared.code.Instr.{Instr}
 use Rattle.word_loader_code.specs.declared.code.Instr.TheVariants.{Mov, Jump, Jz, Call, Ret, Tail}
 use Rattle.word_loader_code.specs.Machine.{Stack, above, with_top, Machine, going, local_at, words_at, with_words, entered_frame, returned, step, after_steps}
+use Rattle.theory_machine.proofs.Standing.{All-slice_get}
 use Rattle.theory_flat.specs.Flat.{FlatTree, FlatStepTree, flat_ret, flat_step, flat_call, flat_alloc, flat_get, flat_set, flat_free, flat_if, Instance}
 use Rattle.theory_flat.specs.Reading.{Calling, value_in, flat_outcome, flat_step_outcome, body_outcome, calling}
 use Rattle.theory_emission.specs.Terms.{Held, Emitted, EmittedTerms, emit_term, emit_terms, moves, width_of_parts}
@@ -25,13 +26,13 @@ use Rattle.theory_emitted_words.specs.Frames.{Around, frame_at, machine_at, Lead
 use Rattle.theory_emitted_words.proofs.Words.{one, agree_less}
 use Rattle.theory_emitted_words.proofs.Steps.{leads_none, leads_one, leads_on, stand_first, stand_second, stands_itself, steps, returns}
 use Rattle.theory_emitted_terms.specs.Layouts.{HasLayout, lays_bool, HaveLayouts, encodings}
-use Rattle.theory_emitted_terms.specs.Typed.{HasMono, has_var, HaveMonos}
+use Rattle.theory_flat_typed.specs.Typed.{HasMonotype, typed_var, HaveMonotypes}
 use Rattle.theory_emitted_terms.specs.Held.{Holds, HoldAll, hold_more, Goes, Brings, BringsAll}
 use Rattle.theory_emitted_terms.proofs.Held.{hold_on, hold_all_on, goes_on, goes_to, end_of}
 use Rattle.theory_emitted_terms.proofs.Moves.{moved}
 use Rattle.theory_emitted_terms.proofs.Terms.{grows, all_grow, emitted, emitted_all}
-use Rattle.theory_emitted_bodies.specs.Typed.{FlatHasMono, flat_has_ret, flat_has_step, StepHasMono, step_has_call, step_has_alloc, step_has_get, step_has_set}
-use Rattle.theory_emitted_bodies.specs.Typed.{step_has_free, step_has_if, AreTyped}
+use Rattle.theory_flat_typed.specs.Typed.{IsTyped, typed_ret, typed_step, IsTypedStep, typed_call, typed_alloc, typed_get, typed_set}
+use Rattle.theory_flat_typed.specs.Typed.{typed_free, typed_if, IsTypedInstance, AreTyped}
 use Rattle.theory_emitted_bodies.specs.Comes.{ComesTo, Returns, entered}
 use Rattle.theory_emitted_bodies.specs.Laws.{Leaves, BodiesAreEmitted}
 use Rattle.theory_emitted_bodies.proofs.Grows.{flat_grows, step_grows, last_grows}
@@ -43,13 +44,13 @@ true_or_false : true ≡ false → ⊥
 true_or_false q = cc
 
 -- emission finds the monotype that a step binds
-finds_bound : {instances : List Instance} {monos : List MonoTree} {step : FlatStepTree} {mono : MonoTree} → StepHasMono instances monos step mono → flat_mono instances step ≡ mono
-finds_bound (step_has_call q p) = ap result_in q
-finds_bound (step_has_alloc p) = refl
-finds_bound (step_has_get p) = refl
-finds_bound (step_has_set p q) = refl
-finds_bound (step_has_free p) = refl
-finds_bound (step_has_if p q r) = refl
+finds_bound : {instances : List Instance} {monos : List MonoTree} {step : FlatStepTree} {mono : MonoTree} → IsTypedStep instances monos step mono → flat_mono instances step ≡ mono
+finds_bound (typed_call q p) = ap result_in q
+finds_bound (typed_alloc k p) = refl
+finds_bound (typed_get k p) = refl
+finds_bound (typed_set k p q) = refl
+finds_bound (typed_free k p) = refl
+finds_bound (typed_if k p q r) = refl
 
 -- a function of the code
 pub function_there : (instances : List Instance) (version : ℕ) (ending : Ending) (number : ℕ) (instance : Instance)
@@ -101,21 +102,21 @@ fits_leaving is_tail f mono q = q
 
 -- what gives back the result of a step has its monotype and its value
 gives_mono : {instances : List Instance} {monos : List MonoTree} {flat : FlatTree} {bound mono : MonoTree}
-    → FlatHasMono instances (bound ∷ monos) flat mono
+    → IsTyped instances (bound ∷ monos) flat mono
     → gives_back flat ≡ true
     → bound ≡ mono
-gives_mono {bound = bound} {mono = mono} (flat_has_ret (has_var {index = zero} q)) g = same_Some bound mono q
-gives_mono (flat_has_ret p) g = absurd (true_or_false (sym g))
-gives_mono (flat_has_step s r) g = absurd (true_or_false (sym g))
+gives_mono {bound = bound} {mono = mono} (typed_ret (typed_var {index = zero} q)) g = same_Some bound mono q
+gives_mono (typed_ret p) g = absurd (true_or_false (sym g))
+gives_mono (typed_step s r) g = absurd (true_or_false (sym g))
 
 gives_value : {instances : List Instance} {monos : List MonoTree} {flat : FlatTree} {mono : MonoTree} (call : Calling) (v : Value) (vs : List Value) (h : Heap) (cs : List ℕ)
-    → FlatHasMono instances monos flat mono
+    → IsTyped instances monos flat mono
     → gives_back flat ≡ true
     → flat_outcome call (v ∷ vs) flat h cs ≡ ended v h cs
 unfolding flat_outcome term_value
-gives_value call v vs h cs (flat_has_ret (has_var {index = zero} q)) g = refl
-gives_value call v vs h cs (flat_has_ret p) g = absurd (true_or_false (sym g))
-gives_value call v vs h cs (flat_has_step s r) g = absurd (true_or_false (sym g))
+gives_value call v vs h cs (typed_ret (typed_var {index = zero} q)) g = refl
+gives_value call v vs h cs (typed_ret p) g = absurd (true_or_false (sym g))
+gives_value call v vs h cs (typed_step s r) g = absurd (true_or_false (sym g))
 
 a_bool : {v : Value} → HasLayout v m_bool → (b : Bool) × (v ≡ v_bool b)
 a_bool (lays_bool {b = b}) = (b, refl)
@@ -172,7 +173,7 @@ module _ (instances : List Instance) (version : ℕ) (ending : Ending) where
 
     -- the end of a tree
     returned_comes : {term : TermTree} {mono : MonoTree} {monos : List MonoTree}
-        → HasMono monos term mono
+        → HasMonotype monos term mono
         → width mono ≡ f.result
         → (g : List Held) (vs : List Value) (at : ℕ) (locals : List ℕ) (next : ℕ) (h : Heap) (cs : List ℕ)
         → HoldAll locals next g vs monos
@@ -190,7 +191,7 @@ module _ (instances : List Instance) (version : ℕ) (ending : Ending) where
           there = ap (λ (l : List ℕ). returned h stack l cs) (ap (λ k. words_at r.after e.place k) (sym fits) ∙ r.holds.words);
         })
 
-    ret_comes : {term : TermTree} {mono : MonoTree} {monos : List MonoTree} → HasMono monos term mono → FlatComes (flat_ret term) monos mono
+    ret_comes : {term : TermTree} {mono : MonoTree} {monos : List MonoTree} → HasMonotype monos term mono → FlatComes (flat_ret term) monos mono
     unfolding emit_flat flat_outcome
     ret_comes {monos = monos} p is_held fits g vs at locals next h cs hold stand within =
         let r = emitted (here h cs) f there g vs monos p at locals next hold stand within in
@@ -207,7 +208,7 @@ module _ (instances : List Instance) (version : ℕ) (ending : Ending) where
       grows : next ≤ e.next
 
     passed : {params : List TermTree} {monos types : List MonoTree}
-        → HaveMonos monos params types
+        → HaveMonotypes monos params types
         → (g : List Held) (vs : List Value) (at : ℕ) (locals : List ℕ) (next : ℕ) (h : Heap) (cs : List ℕ)
         → HoldAll locals next g vs monos
         → StandAt f.body at ((emit_terms g next params).instrs ++ moves (emit_terms g next params).next (emit_terms g next params).parts)
@@ -230,7 +231,7 @@ module _ (instances : List Instance) (version : ℕ) (ending : Ending) where
 
     last_call : {monos : List MonoTree} (callee : ℕ) {params : List TermTree} {instance : Instance}
         → slice_get instances callee ≡ Some instance
-        → HaveMonos monos params instance.params
+        → HaveMonotypes monos params instance.params
         → LastComes (flat_call callee params) monos instance.result
     unfolding emit_flat flat_outcome
     last_call callee {params = params} {instance = instance} q p ends fits g vs at locals next h cs hold stand within =
@@ -248,7 +249,7 @@ module _ (instances : List Instance) (version : ℕ) (ending : Ending) where
 
     call_step : {monos : List MonoTree} (callee : ℕ) {params : List TermTree} {instance : Instance}
         → slice_get instances callee ≡ Some instance
-        → HaveMonos monos params instance.params
+        → HaveMonotypes monos params instance.params
         → StepComes (flat_call callee params) monos instance.result
     unfolding emit_flat flat_outcome
     call_step callee {params = params} {instance = instance} q p g vs at locals next h cs hold stand within =
@@ -284,7 +285,7 @@ module _ (instances : List Instance) (version : ℕ) (ending : Ending) where
       grows : next ≤ c.next
 
     test_goes : {test : TermTree} {monos : List MonoTree}
-        → HasMono monos test m_bool
+        → HasMonotype monos test m_bool
         → (g : List Held) (vs : List Value) (at : ℕ) (locals : List ℕ) (next : ℕ) (h : Heap) (cs : List ℕ) (target : ℕ)
         → HoldAll locals next g vs monos
         → StandAt f.body at (tested (emit_term g next test) target)
@@ -331,9 +332,9 @@ module _ (instances : List Instance) (version : ℕ) (ending : Ending) where
     stand_to at other is q s = subst (λ k. StandAt f.body k is) q s
 
     last_if : {monos : List MonoTree} {mono : MonoTree} {test : TermTree} {on_true on_false : FlatTree}
-        → HasMono monos test m_bool
-        → FlatHasMono instances monos on_true mono
-        → FlatHasMono instances monos on_false mono
+        → HasMonotype monos test m_bool
+        → IsTyped instances monos on_true mono
+        → IsTyped instances monos on_false mono
         → FlatComes on_true monos mono
         → FlatComes on_false monos mono
         → LastComes (flat_if mono test on_true on_false) monos mono
@@ -356,9 +357,9 @@ module _ (instances : List Instance) (version : ℕ) (ending : Ending) where
         (stand_to (first_branch at c + length a.instrs) target b.instrs (omega arith) (stand_second f.body (first_branch at c) a.instrs b.instrs both)) (omega (arith, within, t.long)))
 
     if_step : {monos : List MonoTree} {mono : MonoTree} {test : TermTree} {on_true on_false : FlatTree}
-        → HasMono monos test m_bool
-        → FlatHasMono instances monos on_true mono
-        → FlatHasMono instances monos on_false mono
+        → HasMonotype monos test m_bool
+        → IsTyped instances monos on_true mono
+        → IsTyped instances monos on_false mono
         → FlatComes on_true monos mono
         → FlatComes on_false monos mono
         → StepComes (flat_if mono test on_true on_false) monos mono
@@ -422,8 +423,8 @@ module _ (instances : List Instance) (version : ℕ) (ending : Ending) where
         (emit_flat instances e (record { place = first.place; mono = flat_mono instances step } ∷ g) first.next (at + length first.instrs) others)
 
     row_comes : {monos : List MonoTree} {step : FlatStepTree} {others : FlatTree} {bound mono : MonoTree}
-        → StepHasMono instances monos step bound
-        → FlatHasMono instances (bound ∷ monos) others mono
+        → IsTypedStep instances monos step bound
+        → IsTyped instances (bound ∷ monos) others mono
         → StepComes step monos bound
         → FlatComes others (bound ∷ monos) mono
         → (e : Ending)
@@ -451,8 +452,8 @@ module _ (instances : List Instance) (version : ℕ) (ending : Ending) where
         (omega (arith, within, z.long)))))
 
     step_then : {monos : List MonoTree} {step : FlatStepTree} {others : FlatTree} {bound mono : MonoTree}
-        → StepHasMono instances monos step bound
-        → FlatHasMono instances (bound ∷ monos) others mono
+        → IsTypedStep instances monos step bound
+        → IsTyped instances (bound ∷ monos) others mono
         → StepComes step monos bound
         → LastComes step monos bound
         → FlatComes others (bound ∷ monos) mono
@@ -483,29 +484,29 @@ module _ (instances : List Instance) (version : ℕ) (ending : Ending) where
     mutual
       unfolding emit_flat flat_outcome
 
-      flat_comes : {monos : List MonoTree} {flat : FlatTree} {mono : MonoTree} → FlatHasMono instances monos flat mono → FlatComes flat monos mono
-      flat_comes (flat_has_ret p) = ret_comes p
-      flat_comes (flat_has_step s r) = step_then s r (step_comes s) (last_comes s) (flat_comes r)
+      flat_comes : {monos : List MonoTree} {flat : FlatTree} {mono : MonoTree} → IsTyped instances monos flat mono → FlatComes flat monos mono
+      flat_comes (typed_ret p) = ret_comes p
+      flat_comes (typed_step s r) = step_then s r (step_comes s) (last_comes s) (flat_comes r)
 
-      step_comes : {monos : List MonoTree} {step : FlatStepTree} {mono : MonoTree} → StepHasMono instances monos step mono → StepComes step monos mono
-      step_comes (step_has_call {number = callee} q p) = call_step callee q p
-      step_comes {monos = monos} (step_has_alloc p) = λ g vs at locals next h cs hold stand within.
+      step_comes : {monos : List MonoTree} {step : FlatStepTree} {mono : MonoTree} → IsTypedStep instances monos step mono → StepComes step monos mono
+      step_comes (typed_call {number = callee} q p) = call_step callee q p
+      step_comes {monos = monos} (typed_alloc k p) = λ g vs at locals next h cs hold stand within.
           alloc_comes base f there g vs monos (suc n) at locals next h cs hold p stand within
-      step_comes {monos = monos} (step_has_get {mono = mono} p) = λ g vs at locals next h cs hold stand within.
+      step_comes {monos = monos} (typed_get {t = mono} k p) = λ g vs at locals next h cs hold stand within.
           get_comes base f there g vs monos (suc n) at locals next h cs hold mono p stand within
-      step_comes {monos = monos} (step_has_set p w) = λ g vs at locals next h cs hold stand within.
+      step_comes {monos = monos} (typed_set k p w) = λ g vs at locals next h cs hold stand within.
           set_comes base f there g vs monos (suc n) at locals next h cs hold p w stand within
-      step_comes {monos = monos} (step_has_free {mono = mono} p) = λ g vs at locals next h cs hold stand within.
+      step_comes {monos = monos} (typed_free {t = mono} k p) = λ g vs at locals next h cs hold stand within.
           free_comes base f there g vs monos (suc n) at locals next h cs hold mono p stand within
-      step_comes (step_has_if p q r) = if_step p q r (flat_comes q) (flat_comes r)
+      step_comes (typed_if k p q r) = if_step p q r (flat_comes q) (flat_comes r)
 
-      last_comes : {monos : List MonoTree} {step : FlatStepTree} {mono : MonoTree} → StepHasMono instances monos step mono → LastComes step monos mono
-      last_comes (step_has_call {number = callee} q p) = last_call callee q p
-      last_comes (step_has_alloc p) = λ ends. absurd (true_or_false (sym ends))
-      last_comes (step_has_get p) = λ ends. absurd (true_or_false (sym ends))
-      last_comes (step_has_set p w) = λ ends. absurd (true_or_false (sym ends))
-      last_comes (step_has_free p) = λ ends. absurd (true_or_false (sym ends))
-      last_comes (step_has_if p q r) = last_if p q r (flat_comes q) (flat_comes r)
+      last_comes : {monos : List MonoTree} {step : FlatStepTree} {mono : MonoTree} → IsTypedStep instances monos step mono → LastComes step monos mono
+      last_comes (typed_call {number = callee} q p) = last_call callee q p
+      last_comes (typed_alloc k p) = λ ends. absurd (true_or_false (sym ends))
+      last_comes (typed_get k p) = λ ends. absurd (true_or_false (sym ends))
+      last_comes (typed_set k p w) = λ ends. absurd (true_or_false (sym ends))
+      last_comes (typed_free k p) = λ ends. absurd (true_or_false (sym ends))
+      last_comes (typed_if k p q r) = last_if p q r (flat_comes q) (flat_comes r)
 
   -- the body of an instance, where calls come to what they are to
   body_comes : AreTyped instances
@@ -525,7 +526,7 @@ module _ (instances : List Instance) (version : ℕ) (ending : Ending) where
       comes_as (flat_outcome call (reverse vs) instance.body h cs)
       (λ v h' cs' m e. leaving ending leaves (base n call calls number k stack there) 0 (encodings vs ++ zeros) (width_of_monos instance.params)
       (emitted_body instances ending instance) instance.result v h' cs' m e)
-      (flat_comes n call calls number k stack there (typed.each number instance q) ending (fits_leaving ending k instance.result refl)
+      (flat_comes n call calls number k stack there ((All-slice_get (IsTypedInstance instances) instances number instance typed q).body) ending (fits_leaving ending k instance.result refl)
       (with_params [] 0 instance.params) (reverse vs) 0 (encodings vs ++ zeros) (width_of_monos instance.params) h cs (entry zeros l) (stands_itself k.body)
       (omega (arith, long, all_wide l, length-replicate {A = ℕ} (k.locals - k.params) 0)))
 

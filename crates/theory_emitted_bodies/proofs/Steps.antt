@@ -23,7 +23,7 @@ use Rattle.theory_emitted_words.proofs.Words.{one, before}
 use Rattle.theory_emitted_words.proofs.Words as words
 use Rattle.theory_emitted_words.proofs.Steps.{leads_one, leads_on, stand_first, stand_second, steps}
 use Rattle.theory_emitted_terms.specs.Layouts.{HasLayout, lays_bool, lays_loc, lays_unit}
-use Rattle.theory_emitted_terms.specs.Typed.{HasMono}
+use Rattle.theory_flat_typed.specs.Typed.{HasMonotype}
 use Rattle.theory_emitted_terms.specs.Held.{Holds, HoldAll, Goes, Brings}
 use Rattle.theory_emitted_terms.proofs.Values.{typed_layout, layout_width}
 use Rattle.theory_emitted_terms.proofs.Terms.{grows, emitted, two}
@@ -157,7 +157,7 @@ Landing a at locals next e mono = Lands a (at + length e.instrs) locals next e.n
 module _ (a : Around) (f : Function) (there : slice_get a.code.functions a.number ≡ Some f) (g : List Held) (vs : List Value) (monos : List MonoTree) (n : ℕ)
     (at : ℕ) (locals : List ℕ) (next : ℕ) (h : Heap) (cs : List ℕ) (hold : HoldAll locals next g vs monos) where
   pub alloc_comes : {value : TermTree} {mono : MonoTree}
-      → HasMono monos value mono
+      → HasMonotype monos value mono
       → StandAt f.body at (allocated (emit_term g next value) (width mono)).instrs
       → (allocated (emit_term g next value) (width mono)).next ≤ length locals
       → ComesTo a.code n (Landing a at locals next (allocated (emit_term g next value) (width mono)) m_loc) (machine_at (around a h cs) at locals)
@@ -177,7 +177,7 @@ module _ (a : Around) (f : Function) (there : slice_get a.code.functions a.numbe
       r.goes.keeps r.goes.long lays_loc refl r.grows within (omega arith) (one_more at e.instrs i))
 
   pub get_comes : {place : TermTree} (mono : MonoTree)
-      → HasMono monos place m_loc
+      → HasMonotype monos place m_loc
       → StandAt f.body at (read (emit_term g next place) (width mono)).instrs
       → (read (emit_term g next place) (width mono)).next ≤ length locals
       → ComesTo a.code n (Landing a at locals next (read (emit_term g next place) (width mono)) mono) (machine_at (around a h cs) at locals)
@@ -197,8 +197,8 @@ module _ (a : Around) (f : Function) (there : slice_get a.code.functions a.numbe
       lands_new a n r.after e.next block q r.goes.keeps r.goes.long (typed_layout t) (sym encoded) r.grows within (omega arith) (one_more at e.instrs i)))
 
   pub set_comes : {place value : TermTree} {mono : MonoTree}
-      → HasMono monos place m_loc
-      → HasMono monos value mono
+      → HasMonotype monos place m_loc
+      → HasMonotype monos value mono
       → StandAt f.body at (written (emit_term g next place) (emit_term g (emit_term g next place).next value) (width mono)).instrs
       → (written (emit_term g next place) (emit_term g (emit_term g next place).next value) (width mono)).next ≤ length locals
       → ComesTo a.code n (Landing a at locals next (written (emit_term g next place) (emit_term g (emit_term g next place).next value) (width mono)) m_unit)
@@ -224,7 +224,7 @@ module _ (a : Around) (f : Function) (there : slice_get a.code.functions a.numbe
       (λ q. lands_same a n b.after ev.next q b.goes.keeps b.goes.long (omega arith) (one_more at front i)))
 
   pub free_comes : {place : TermTree} (mono : MonoTree)
-      → HasMono monos place m_loc
+      → HasMonotype monos place m_loc
       → StandAt f.body at (released (emit_term g next place) (width mono)).instrs
       → (released (emit_term g next place) (width mono)).next ≤ length locals
       → ComesTo a.code n (Landing a at locals next (released (emit_term g next place) (width mono)) m_unit) (machine_at (around a h cs) at locals)

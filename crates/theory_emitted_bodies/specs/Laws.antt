@@ -8,7 +8,7 @@ use Rattle.theory_flat.specs.Reading.{flat_run}
 use Rattle.theory_emission.specs.Bodies.{Ending, is_held, emit_instance}
 use Rattle.theory_emission.specs.Codes.{code_ended_by}
 use Rattle.theory_emitted_terms.specs.Layouts.{HaveLayouts}
-use Rattle.theory_emitted_bodies.specs.Typed.{AreTyped}
+use Rattle.theory_flat_typed.specs.Typed.{AreTyped}
 use Rattle.theory_emitted_bodies.specs.Comes.{ComesTo, Returns, entered}
 
 -- A body that is ended so is left at its end.

@@ -17,8 +17,8 @@ use Rattle.theory_emission.specs.Bodies.{width_of_monos}
 use Rattle.theory_emitted_words.specs.Frames.{Around, machine_at, Leads, StandAt}
 use Rattle.theory_emitted_words.proofs.Steps.{stand_first, stand_second, steps}
 use Rattle.theory_emitted_terms.specs.Layouts.{HasLayout, lays_word, lays_bool, lays_loc, lays_unit, lays_pair, HaveLayouts, lay_none, lay_more, encodings}
-use Rattle.theory_emitted_terms.specs.Typed.{HasMono, has_var, has_word, has_bool, has_loc, has_unit, has_pair, has_fst, has_snd, has_not, has_bin, has_eq}
-use Rattle.theory_emitted_terms.specs.Typed.{has_sel, HaveMonos, have_none, have_more}
+use Rattle.theory_flat_typed.specs.Typed.{HasMonotype, typed_var, typed_word, typed_bool, typed_loc, typed_unit, typed_pair, typed_fst, typed_snd, typed_not, typed_bin, typed_eq}
+use Rattle.theory_flat_typed.specs.Typed.{typed_sel, HaveMonotypes, typed_none, typed_more}
 use Rattle.theory_emitted_terms.specs.Held.{Holds, HoldAll, HoldParts, part_none, part_more, Goes, Brings, BringsAll}
 use Rattle.theory_emitted_terms.specs.Laws.{TermsAreEmitted}
 use Rattle.theory_emitted_terms.proofs.Values.{typed_layout, layout_width, Computed, op_wide, op_done, eq_done, not_done, sel_done}
@@ -26,46 +26,46 @@ use Rattle.theory_emitted_terms.proofs.Held.{hold_on, hold_all_on, found, found_
 use Rattle.theory_emitted_terms.proofs.Moves.{moved}
 
 -- no local is given twice
-pub grows : {monos : List MonoTree} {term : TermTree} {mono : MonoTree} → HasMono monos term mono → (g : List Held) (next : ℕ) → next ≤ (emit_term g next term).next
+pub grows : {monos : List MonoTree} {term : TermTree} {mono : MonoTree} → HasMonotype monos term mono → (g : List Held) (next : ℕ) → next ≤ (emit_term g next term).next
 unfolding emit_term
-grows (has_var q) g next = omega arith
-grows has_word g next = omega arith
-grows (has_bool {truth = true}) g next = omega arith
-grows (has_bool {truth = false}) g next = omega arith
-grows has_loc g next = omega arith
-grows has_unit g next = omega arith
-grows (has_pair {left = left} p q) g next = omega (arith, grows p g next, grows q g (emit_term g next left).next)
-grows (has_fst p) g next = grows p g next
-grows (has_snd p) g next = grows p g next
-grows (has_not p) g next = omega (arith, grows p g next)
-grows (has_bin {left = left} p q) g next = omega (arith, grows p g next, grows q g (emit_term g next left).next)
-grows (has_eq {left = left} c p q) g next = omega (arith, grows p g next, grows q g (emit_term g next left).next)
-grows (has_sel {test = test} {on_true = on_true} p q r) g next =
+grows (typed_var q) g next = omega arith
+grows (typed_word l) g next = omega arith
+grows (typed_bool {truth = true}) g next = omega arith
+grows (typed_bool {truth = false}) g next = omega arith
+grows (typed_loc l) g next = omega arith
+grows typed_unit g next = omega arith
+grows (typed_pair {left = left} p q) g next = omega (arith, grows p g next, grows q g (emit_term g next left).next)
+grows (typed_fst p) g next = grows p g next
+grows (typed_snd p) g next = grows p g next
+grows (typed_not p) g next = omega (arith, grows p g next)
+grows (typed_bin {left = left} p q) g next = omega (arith, grows p g next, grows q g (emit_term g next left).next)
+grows (typed_eq {left = left} c p q) g next = omega (arith, grows p g next, grows q g (emit_term g next left).next)
+grows (typed_sel {test = test} {on_true = on_true} k p q r) g next =
     let c = emit_term g next test in
     omega (arith, grows p g next, grows q g c.next, grows r g (emit_term g c.next on_true).next)
 
-pub all_grow : {monos : List MonoTree} {terms : List TermTree} {params : List MonoTree} → HaveMonos monos terms params → (g : List Held) (next : ℕ) → next ≤ (emit_terms g next terms).next
+pub all_grow : {monos : List MonoTree} {terms : List TermTree} {params : List MonoTree} → HaveMonotypes monos terms params → (g : List Held) (next : ℕ) → next ≤ (emit_terms g next terms).next
 unfolding emit_terms
-all_grow have_none g next = omega arith
-all_grow (have_more {term = term} p r) g next = omega (arith, grows p g next, all_grow r g (emit_term g next term).next)
+all_grow typed_none g next = omega arith
+all_grow (typed_more {term = term} p r) g next = omega (arith, grows p g next, all_grow r g (emit_term g next term).next)
 
 -- emission finds the monotype
 pub finds : {locals : List ℕ} {next : ℕ} {g : List Held} {vs : List Value} {monos : List MonoTree} {term : TermTree} {mono : MonoTree}
     → HoldAll locals next g vs monos
-    → HasMono monos term mono
+    → HasMonotype monos term mono
     → mono_of_term g term ≡ mono
-finds h (has_var {index = index} q) = found_mono h index q
-finds h has_word = refl
-finds h has_bool = refl
-finds h has_loc = refl
-finds h has_unit = refl
-finds h (has_pair p q) = λ j. m_pair (finds h p j) (finds h q j)
-finds h (has_fst p) = ap first_of_pair (finds h p)
-finds h (has_snd p) = ap second_of_pair (finds h p)
-finds h (has_not p) = refl
-finds h (has_bin p q) = refl
-finds h (has_eq c p q) = refl
-finds h (has_sel p q r) = refl
+finds h (typed_var {index = index} q) = found_mono h index q
+finds h (typed_word l) = refl
+finds h typed_bool = refl
+finds h (typed_loc l) = refl
+finds h typed_unit = refl
+finds h (typed_pair p q) = λ j. m_pair (finds h p j) (finds h q j)
+finds h (typed_fst p) = ap first_of_pair (finds h p)
+finds h (typed_snd p) = ap second_of_pair (finds h p)
+finds h (typed_not p) = refl
+finds h (typed_bin p q) = refl
+finds h (typed_eq c p q) = refl
+finds h (typed_sel k p q r) = refl
 
 module _ (a : Around) (f : Function) (there : slice_get a.code.functions a.number ≡ Some f) (g : List Held) (vs : List Value) (monos : List MonoTree) where
   -- the code of a term of the monotype brings its value
@@ -93,7 +93,7 @@ module _ (a : Around) (f : Function) (there : slice_get a.code.functions a.numbe
       (steps a f (at + 0) locals (Const next word) there (last_stands at [] (Const next word) stand)) layout is wide (omega arith) within
 
   pub two : {t u : MonoTree} (left right : TermTree)
-      → HasMono monos right u
+      → HasMonotype monos right u
       → Emits left t
       → Emits right u
       → (at : ℕ) (locals : List ℕ) (next : ℕ)
@@ -151,28 +151,28 @@ module _ (a : Around) (f : Function) (there : slice_get a.code.functions a.numbe
         grows = omega (arith, b.grows);
       }
 
-  pub emitted : {term : TermTree} {mono : MonoTree} → HasMono monos term mono → Emits term mono
+  pub emitted : {term : TermTree} {mono : MonoTree} → HasMonotype monos term mono → Emits term mono
   unfolding emit_term term_value
-  emitted (has_var {index = index} q) at locals next h stand within =
+  emitted (typed_var {index = index} q) at locals next h stand within =
       record { after = locals; goes = goes_none (omega arith); holds = found h index q; grows = omega arith }
-  emitted (has_word {word = word}) at locals next h stand within = brings_constant word lays_word refl refl at locals next stand within
-  emitted (has_bool {truth = true}) at locals next h stand within = brings_constant 1 lays_bool refl refl at locals next stand within
-  emitted (has_bool {truth = false}) at locals next h stand within = brings_constant 0 lays_bool refl refl at locals next stand within
-  emitted (has_loc {place = place}) at locals next h stand within = brings_constant place lays_loc refl refl at locals next stand within
-  emitted has_unit at locals next h stand within =
+  emitted (typed_word {word = word} l) at locals next h stand within = brings_constant word lays_word refl refl at locals next stand within
+  emitted (typed_bool {truth = true}) at locals next h stand within = brings_constant 1 lays_bool refl refl at locals next stand within
+  emitted (typed_bool {truth = false}) at locals next h stand within = brings_constant 0 lays_bool refl refl at locals next stand within
+  emitted (typed_loc {place = place} l) at locals next h stand within = brings_constant place lays_loc refl refl at locals next stand within
+  emitted typed_unit at locals next h stand within =
       record {
         after = locals;
         goes = goes_none (omega arith);
         holds = record { layout = lays_unit; words = refl; below = omega arith };
         grows = omega arith;
       }
-  emitted (has_pair {left = left} {right = right} {t = t} {u = u} p q) at locals next h stand within =
+  emitted (typed_pair {left = left} {right = right} {t = t} {u = u} p q) at locals next h stand within =
       let ea = emit_term g next left in
       let eb = emit_term g ea.next right in
       let parts = moves eb.next ((ea.place, width_of_term g left) ∷ (eb.place, width_of_term g right) ∷ []) in
       let b = two left right q (emitted p) (emitted q) at locals next h (stand_first f.body at (ea.instrs ++ eb.instrs) parts stand) (omega (arith, within)) in
       brings_pair ea eb (width_of_term g left) (width_of_term g right) b (ap width (finds h p)) (ap width (finds h q)) stand within
-  emitted (has_fst {pair = pair} p) at locals next h stand within =
+  emitted (typed_fst {pair = pair} p) at locals next h stand within =
       let e = emit_term g next pair in
       let r = emitted p at locals next h stand within in
       record {
@@ -181,7 +181,7 @@ module _ (a : Around) (f : Function) (there : slice_get a.code.functions a.numbe
         holds = first_part r.holds.layout r.after e.next e.place r.holds.words r.holds.below;
         grows = r.grows;
       }
-  emitted (has_snd {pair = pair} {t = t} {u = u} p) at locals next h stand within =
+  emitted (typed_snd {pair = pair} {t = t} {u = u} p) at locals next h stand within =
       let e = emit_term g next pair in
       let r = emitted p at locals next h stand within in
       let wide : width t ≡ width (first_of_pair (mono_of_term g pair)) = sym (ap (λ m. width (first_of_pair m)) (finds h p)) in
@@ -192,28 +192,28 @@ module _ (a : Around) (f : Function) (there : slice_get a.code.functions a.numbe
             (second_part r.holds.layout r.after e.next e.place r.holds.words r.holds.below);
         grows = r.grows;
       }
-  emitted (has_not {term = term} p) at locals next h stand within =
+  emitted (typed_not {term = term} p) at locals next h stand within =
       let e = emit_term g next term in
       let i = Op e.next not_number e.place e.place in
       let r = emitted p at locals next h (stand_first f.body at e.instrs (i ∷ []) stand) (omega (arith, within)) in
       let c = not_done r.after e.place r.holds.layout r.holds.words in
       at_new e.instrs i e.next 1 (operation_result not_number (local_at r.after e.place) (local_at r.after e.place) ∷ []) r.goes
       (steps a f (at + length e.instrs) r.after i there (last_stands at e.instrs i stand)) c.layout c.words refl r.grows within
-  emitted (has_bin {op = op} {left = left} {right = right} p q) at locals next h stand within =
+  emitted (typed_bin {op = op} {left = left} {right = right} p q) at locals next h stand within =
       let ea = emit_term g next left in
       let eb = emit_term g ea.next right in
       let i = Op eb.next (number_of_op op) ea.place eb.place in
       let b = two left right q (emitted p) (emitted q) at locals next h (stand_first f.body at (ea.instrs ++ eb.instrs) (i ∷ []) stand) (omega (arith, within)) in
       brings_computed (number_of_op op) ea eb b
       (op_done b.after ea.place eb.place op b.left.layout b.right.layout b.left.words b.right.words) (op_wide op) stand within
-  emitted (has_eq {left = left} {right = right} c p q) at locals next h stand within =
+  emitted (typed_eq {left = left} {right = right} c p q) at locals next h stand within =
       let ea = emit_term g next left in
       let eb = emit_term g ea.next right in
       let i = Op eb.next eq_number ea.place eb.place in
       let b = two left right q (emitted p) (emitted q) at locals next h (stand_first f.body at (ea.instrs ++ eb.instrs) (i ∷ []) stand) (omega (arith, within)) in
       brings_computed eq_number ea eb b
       (eq_done b.after ea.place eb.place (map th_value vs) c b.left.layout b.right.layout b.left.words b.right.words) refl stand within
-  emitted (has_sel {mono = mono} {test = test} {on_true = on_true} {on_false = on_false} p q r) at locals next h stand within =
+  emitted (typed_sel {t = mono} {test = test} {on_true = on_true} {on_false = on_false} k p q r) at locals next h stand within =
       let ec = emit_term g next test in
       let ea = emit_term g ec.next on_true in
       let eb = emit_term g ea.next on_false in
@@ -236,16 +236,16 @@ module _ (a : Around) (f : Function) (there : slice_get a.code.functions a.numbe
       (omega (arith, c.grows, b.grows)) within
 
   pub emitted_all : {terms : List TermTree} {params : List MonoTree}
-      → HaveMonos monos terms params
+      → HaveMonotypes monos terms params
       → (at : ℕ) (locals : List ℕ) (next : ℕ)
       → HoldAll locals next g vs monos
       → StandAt f.body at (emit_terms g next terms).instrs
       → (emit_terms g next terms).next ≤ length locals
       → BringsAll a at locals next (emit_terms g next terms) (map (value_in vs) terms) params
   unfolding emit_terms
-  emitted_all have_none at locals next h stand within =
+  emitted_all typed_none at locals next h stand within =
       record { after = locals; goes = goes_none (omega arith); layouts = lay_none; parts = part_none; widths = refl; grows = omega arith }
-  emitted_all (have_more {term = term} {mono = mono} {terms = terms} p r) at locals next h stand within =
+  emitted_all (typed_more {term = term} {others = terms} {t = mono} p r) at locals next h stand within =
       let e = emit_term g next term in
       let es = emit_terms g e.next terms in
       let room = all_grow r g e.next in

@@ -7,7 +7,7 @@ use Rattle.theory_flat.specs.Reading.{value_in}
 use Rattle.theory_emission.specs.Terms.{Held, emit_term, emit_terms, mono_of_term}
 use Rattle.theory_emitted_words.specs.Frames.{Around, StandAt}
 use Rattle.theory_emitted_terms.specs.Layouts.{HasLayout}
-use Rattle.theory_emitted_terms.specs.Typed.{HasMono, HaveMonos}
+use Rattle.theory_flat_typed.specs.Typed.{HasMonotype, HaveMonotypes}
 use Rattle.theory_emitted_terms.specs.Held.{HoldAll, Brings, BringsAll}
 
 pub record TermsAreEmitted : Type 0 where
@@ -16,7 +16,7 @@ pub record TermsAreEmitted : Type 0 where
   pub terms : (a : Around) (f : Function) (g : List Held) (vs : List Value) (monos : List MonoTree)
       (term : TermTree) (mono : MonoTree) (at : ℕ) (locals : List ℕ) (next : ℕ)
       → slice_get a.code.functions a.number ≡ Some f
-      → HasMono monos term mono
+      → HasMonotype monos term mono
       → HoldAll locals next g vs monos
       → StandAt f.body at (emit_term g next term).instrs
       → (emit_term g next term).next ≤ length locals
@@ -24,7 +24,7 @@ pub record TermsAreEmitted : Type 0 where
   pub lists : (a : Around) (f : Function) (g : List Held) (vs : List Value) (monos : List MonoTree)
       (terms : List TermTree) (params : List MonoTree) (at : ℕ) (locals : List ℕ) (next : ℕ)
       → slice_get a.code.functions a.number ≡ Some f
-      → HaveMonos monos terms params
+      → HaveMonotypes monos terms params
       → HoldAll locals next g vs monos
       → StandAt f.body at (emit_terms g next terms).instrs
       → (emit_terms g next terms).next ≤ length locals

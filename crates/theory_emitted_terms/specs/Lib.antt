@@ -1,4 +1,3 @@
 pub mod Layouts
-pub mod Typed
 pub mod Held
 pub mod Laws
