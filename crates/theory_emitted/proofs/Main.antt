@@ -19,7 +19,8 @@ use Rattle.theory_emitted_terms.specs.Layouts.{HaveLayouts, lay_none}
 use Rattle.theory_flat_typed.specs.Typed.{AreTyped}
 use Rattle.theory_emitted_bodies.specs.Comes.{Meets, ComesTo, Returns, entered}
 use Rattle.theory_emitted_bodies.specs.Laws.{Leaves}
-use Rattle.theory_emitted_bodies.proofs.Bodies.{function_there, emitted_bodies}
+use Rattle.theory_emitted_bodies.proofs.Bodies.{emitted_bodies}
+use Rattle.theory_emitted_bodies.proofs.Endings.{function_there}
 use Rattle.theory_emitted.specs.Laws.{Halts, Asks, Ends, FlatAsks, NeverWrong, HasOutcomes, MainIsEmitted}
 
 -- an end is reached once
