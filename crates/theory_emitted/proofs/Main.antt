@@ -1,14 +1,12 @@
 -- From main on: a machine that is over comes to one outcome, and that of the flat body is the same.
-use Rattle.std.proofs.Common.{◌≡◌, ◌≢◌, ◌≤◌, ℕ, zero, suc, ◌+◌, ◌-◌, List, [], replicate, Option, Some, None, slice_get, refl, sym, ap, ◌∙◌, subst, arith}
-use Rattle.std.specs.Prelude.{◌↔◌}
-use Rattle.htt_syntax.specs.Trees.{MonoTree}
+use Rattle.std.proofs.Common.{◌≡◌, ◌≤◌, ℕ, suc, ◌+◌, ◌-◌, List, [], replicate, Option, Some, slice_get, refl, sym, ap, ◌∙◌, subst, arith}
 use Rattle.htt_syntax_words.specs.declared.words.Kind.{Kind}
 use Rattle.theory_values.specs.Values.{Value, encoding}
 use Rattle.theory_values.specs.Heaps.{Heap, empty_heap}
 use Rattle.theory_denotation.specs.Outcomes.{Outcome, ended, out_of_fuel, asking, wrong}
 use Rattle.word_loader_code.specs.declared.code.Code.{Code}
 use Rattle.word_loader_code.specs.declared.code.Function.{Function}
-use Rattle.word_loader_code.specs.Machine.{Frame, Stack, bottom, Machine, going, halted, faulted, asking as machine_asking, started, after_steps, machine_after}
+use Rattle.word_loader_code.specs.Machine.{Stack, bottom, Machine, going, halted, faulted, asking as machine_asking, started, machine_after}
 use Rattle.word_loader_code.specs.Laws.{IsOver}
 use Rattle.word_loader_code.proofs.Steps.{over_is_final_lem}
 use Rattle.theory_flat.specs.Flat.{Instance}

@@ -20,7 +20,6 @@ use Rattle.theory_emitted_words.proofs.Steps.{leads_none, stand_first, stand_sec
 use Rattle.theory_emitted_terms.specs.Layouts.{HaveLayouts, encodings}
 use Rattle.theory_emitted_terms.specs.Held.{HoldAll, hold_more}
 use Rattle.theory_emitted_terms.proofs.Held.{hold_all_on}
-use Rattle.theory_emitted_terms.proofs.Terms.{emitted}
 use Rattle.theory_flat_typed.specs.Typed.{IsTyped, typed_ret, typed_step, IsTypedStep, typed_call, typed_alloc, typed_get, typed_set}
 use Rattle.theory_flat_typed.specs.Typed.{typed_free, typed_if, IsTypedInstance, AreTyped}
 use Rattle.theory_emitted_bodies.specs.Comes.{ComesTo, Returns, entered}

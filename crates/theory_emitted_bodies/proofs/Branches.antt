@@ -19,7 +19,7 @@ use Rattle.theory_emitted_words.proofs.Steps.{leads_one, leads_on, stand_first, 
 use Rattle.theory_flat_typed.specs.Typed.{HasMonotype}
 use Rattle.theory_emitted_terms.specs.Held.{HoldAll}
 use Rattle.theory_emitted_terms.proofs.Held.{hold_all_on}
-use Rattle.theory_emitted_terms.proofs.Terms.{grows, emitted}
+use Rattle.theory_emitted_terms.proofs.Terms.{emitted}
 use Rattle.theory_flat_typed.specs.Typed.{IsTyped}
 use Rattle.theory_emitted_bodies.specs.Comes.{ComesTo}
 use Rattle.theory_emitted_bodies.proofs.Grows.{flat_grows}
@@ -169,4 +169,3 @@ module _ (own : Within) where
       (agree_less t.after z.after a.next next z.keeps (omega (arith, t.grows, ga)) ∙ t.keeps) (z.long ∙ t.long) z.holds.layout z.holds.words (omega (arith, t.grows))
       (omega (arith, ga, gb, within)) (omega (arith, ga, gb)) whole)) in
       branches t.truth t.is t.leads from_true from_false
-

@@ -20,7 +20,7 @@ use Rattle.theory_flat_typed.specs.Typed.{HasMonotype, HaveMonotypes}
 use Rattle.theory_emitted_terms.specs.Held.{HoldAll, Goes}
 use Rattle.theory_emitted_terms.proofs.Held.{goes_on, goes_to, end_of}
 use Rattle.theory_emitted_terms.proofs.Moves.{moved}
-use Rattle.theory_emitted_terms.proofs.Terms.{grows, emitted, emitted_all}
+use Rattle.theory_emitted_terms.proofs.Terms.{emitted, emitted_all}
 use Rattle.theory_emitted_bodies.specs.Comes.{ComesTo, Returns}
 use Rattle.theory_emitted_bodies.proofs.Comes.{comes_after, comes_step, comes_ended, comes_as}
 use Rattle.theory_emitted_bodies.proofs.Steps.{last_stands, one_more, new_lands}
@@ -130,4 +130,3 @@ module _ (own : Within) where
       new_lands (base own) r.after d (encoding v) (ret.there ∙ returns (here own h' cs') (entered_frame callee k (encodings us)) d end r.after (encoding v)) r.goes.keeps r.goes.long
       ret.layout refl (omega (arith, r.grows)) (omega (arith, within, wide)) (omega (arith, wide)) (one_more at front i))
       (comes_after r.goes.leads (comes_step goes (own.calls callee instance us h on cs q r.layouts)))
-

@@ -1,5 +1,5 @@
 -- What a machine comes to: after steps, one after the other, and as something weaker.
-use Rattle.std.proofs.Common.{◌≡◌, ◌≤◌, ℕ, zero, suc, ◌+◌, List, refl, sym, ap, ◌∙◌, subst, arith}
+use Rattle.std.proofs.Common.{◌≡◌, ◌≤◌, ℕ, suc, ◌+◌, List, refl, sym, ap, ◌∙◌, subst, arith}
 use Rattle.theory_values.specs.Values.{Value}
 use Rattle.theory_values.specs.Heaps.{Heap}
 use Rattle.theory_denotation.specs.Outcomes.{Outcome, ended, out_of_fuel, asking, wrong, then_outcome}

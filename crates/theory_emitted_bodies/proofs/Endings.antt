@@ -1,5 +1,5 @@
 -- How trees end, and what gives back the result of a step.
-use Rattle.std.proofs.Common.{◌≡◌, ◌≤◌, ℕ, zero, ◌+◌, List, ◌∷◌, length, take, Bool, true, false, if◌then◌else◌}
+use Rattle.std.proofs.Common.{◌≡◌, ◌≤◌, ℕ, zero, ◌+◌, List, ◌∷◌, length, take, Bool, true, false}
 use Rattle.std.proofs.Common.{Some, slice_get, refl, sym, ap, ◌∙◌}
 use Rattle.std.specs.Prelude.{option_map}
 use Rattle.std.proofs.lemmas.Option.{slice_get-map, same_Some}
@@ -9,7 +9,7 @@ use Rattle.theory_values.specs.Heaps.{Heap}
 use Rattle.theory_truth.specs.TermValue.{term_value}
 use Rattle.theory_denotation.specs.Outcomes.{ended}
 use Rattle.word_loader_code.specs.declared.code.Function.{Function}
-use Rattle.word_loader_code.specs.Machine.{Machine, returned, step}
+use Rattle.word_loader_code.specs.Machine.{Machine}
 use Rattle.theory_flat.specs.Flat.{FlatTree, FlatStepTree, Instance}
 use Rattle.theory_flat.specs.Reading.{Calling, flat_outcome}
 use Rattle.theory_emission.specs.Terms.{Emitted}
@@ -109,4 +109,3 @@ gives_value call v vs h cs (typed_step s r) g = absurd (true_or_false (sym g))
 
 pub a_bool : {v : Value} → HasLayout v m_bool → (b : Bool) × (v ≡ v_bool b)
 a_bool (lays_bool {b = b}) = (b, refl)
-

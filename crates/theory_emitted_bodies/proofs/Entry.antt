@@ -1,5 +1,5 @@
 -- The locals of a frame that is just entered hold the parameters.
-use Rattle.std.proofs.Common.{◌≡◌, ◌≤◌, ℕ, zero, suc, ◌+◌, List, [], ◌∷◌, ◌++◌, length, take, reverse, refl, sym, ap, ◌∙◌, subst, arith, length-append}
+use Rattle.std.proofs.Common.{◌≡◌, ℕ, ◌+◌, List, [], ◌∷◌, ◌++◌, length, reverse, refl, subst, arith, length-append}
 use Rattle.std.proofs.lemmas.List.{take_at}
 use mathlib.Core.List.{reverse_aux}
 use Rattle.htt_syntax.specs.Trees.{MonoTree}

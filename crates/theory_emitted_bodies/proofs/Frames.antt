@@ -16,7 +16,6 @@ use Rattle.theory_emission.specs.Bodies.{emit_flat, emit_last, emit_step}
 use Rattle.theory_emission.specs.Bodies.{emit_instance}
 use Rattle.theory_emission.specs.Codes.{code_ended_by}
 use Rattle.theory_emitted_words.specs.Frames.{Around, machine_at, StandAt}
-use Rattle.theory_emitted_words.proofs.Words.{one}
 use Rattle.theory_emitted_terms.specs.Layouts.{HaveLayouts}
 use Rattle.theory_emitted_terms.specs.Held.{HoldAll}
 use Rattle.theory_emitted_bodies.specs.Comes.{ComesTo, Returns, entered}

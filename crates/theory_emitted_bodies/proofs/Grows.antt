@@ -1,9 +1,9 @@
 -- No local is given twice in a body.
-use Rattle.std.proofs.Common.{◌≡◌, ◌≤◌, ℕ, ◌+◌, List, ◌∷◌, length, Bool, true, false, if◌then◌else◌, slice_get, arith}
+use Rattle.std.proofs.Common.{◌≤◌, ℕ, ◌+◌, List, ◌∷◌, length, Bool, true, false, if◌then◌else◌, arith}
 use Rattle.htt_syntax.specs.Trees.{MonoTree}
 use Rattle.theory_values.specs.Values.{width}
 use Rattle.theory_flat.specs.Flat.{FlatTree, FlatStepTree, Instance}
-use Rattle.theory_emission.specs.Terms.{Held, Emitted, emit_term, emit_terms, width_of_parts}
+use Rattle.theory_emission.specs.Terms.{Held, Emitted, emit_term}
 use Rattle.theory_emission.specs.Bodies.{Ending, is_held, is_returned, is_tail, in_tail_place, flat_mono, first_branch, second_branch, in_row, emit_flat, emit_last, emit_step}
 use Rattle.theory_emitted_terms.proofs.Terms.{grows, all_grow}
 use Rattle.theory_flat_typed.specs.Typed.{IsTyped, typed_ret, typed_step, IsTypedStep, typed_call, typed_alloc, typed_get, typed_set}

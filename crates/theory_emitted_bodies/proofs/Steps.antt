@@ -1,19 +1,19 @@
 -- Steps on a heap, and the test of an `if`.
-use Rattle.std.proofs.Common.{◌≡◌, ◌≤◌, ℕ, zero, suc, ◌+◌, List, [], ◌∷◌, ◌++◌, length, take, map, Bool, true, false, nat_eq, if◌then◌else◌, Option, Some, None}
+use Rattle.std.proofs.Common.{◌≡◌, ◌≤◌, ℕ, ◌+◌, List, [], ◌∷◌, ◌++◌, length, take, Bool, true, false, nat_eq, if◌then◌else◌, Option, Some, None}
 use Rattle.std.proofs.Common.{slice_get, refl, sym, ap, ◌∙◌, subst, arith, length-append}
 use Rattle.std.proofs.lemmas.Bool.Decides.{nat_tests}
-use Rattle.htt_syntax.specs.Trees.{MonoTree, TermTree, m_bool, m_loc, m_unit}
+use Rattle.htt_syntax.specs.Trees.{MonoTree, TermTree, m_loc, m_unit}
 use Rattle.htt_syntax_words.specs.declared.words.Kind.{Kind}
 use Rattle.htt_syntax_words.specs.declared.words.Kind.TheVariants as kind
-use Rattle.theory_values.specs.Values.{Value, v_bool, v_loc, v_unit, HasType, width, encoding, value_of_words}
+use Rattle.theory_values.specs.Values.{Value, v_loc, v_unit, HasType, width, encoding, value_of_words}
 use Rattle.theory_values.specs.Heaps.{Heap, Block, with_block, without_block}
 use Rattle.theory_values.proofs.Decoding.{decodes}
 use Rattle.theory_meaning.specs.Meaning.{block_value, is_as_wide}
-use Rattle.theory_denotation.specs.Outcomes.{Outcome, ended, asking, wrong, alloc_outcome, value_outcome, get_outcome, set_outcome, free_outcome}
+use Rattle.theory_denotation.specs.Outcomes.{ended, asking, wrong, alloc_outcome, value_outcome, get_outcome, set_outcome, free_outcome}
 use Rattle.word_loader_code.specs.declared.code.Function.{Function}
 use Rattle.word_loader_code.specs.declared.code.Instr.{Instr}
 use Rattle.word_loader_code.specs.declared.code.Instr.TheVariants.{Alloc, Get, Set, Free}
-use Rattle.word_loader_code.specs.Machine.{Machine, faulted, asking as machine_asking, is_fresh, local_at, words_at, with_words, with_choice, at_block, step}
+use Rattle.word_loader_code.specs.Machine.{Machine, faulted, asking as machine_asking, is_fresh, words_at, with_words, with_choice, at_block}
 use Rattle.theory_machine.proofs.Words.{length-with_words}
 use Rattle.theory_flat.specs.Reading.{value_in}
 use Rattle.theory_emission.specs.Terms.{Held, Emitted, emit_term}
@@ -22,11 +22,11 @@ use Rattle.theory_emitted_words.specs.Frames.{Around, machine_at, Leads, StandAt
 use Rattle.theory_emitted_words.proofs.Words.{one, before}
 use Rattle.theory_emitted_words.proofs.Words as words
 use Rattle.theory_emitted_words.proofs.Steps.{leads_one, leads_on, stand_first, stand_second, steps}
-use Rattle.theory_emitted_terms.specs.Layouts.{HasLayout, lays_bool, lays_loc, lays_unit}
+use Rattle.theory_emitted_terms.specs.Layouts.{HasLayout, lays_loc, lays_unit}
 use Rattle.theory_flat_typed.specs.Typed.{HasMonotype}
-use Rattle.theory_emitted_terms.specs.Held.{Holds, HoldAll, Goes, Brings}
+use Rattle.theory_emitted_terms.specs.Held.{Holds, HoldAll}
 use Rattle.theory_emitted_terms.proofs.Values.{typed_layout, layout_width}
-use Rattle.theory_emitted_terms.proofs.Terms.{grows, emitted, two}
+use Rattle.theory_emitted_terms.proofs.Terms.{emitted, two}
 use Rattle.theory_emitted_bodies.specs.Comes.{ComesTo}
 use Rattle.theory_emitted_bodies.proofs.Comes.{comes_ended, comes_asking, comes_wrong}
 

@@ -1,18 +1,17 @@
 -- What is held stays held where the locals below stay as they are.
-use Rattle.std.proofs.Common.{◌≡◌, ◌≤◌, ℕ, zero, suc, ◌+◌, List, [], ◌∷◌, ◌++◌, length, take, map, Option, Some, None, slice_get, refl, sym, ap, ◌∙◌, subst, arith, length-append}
+use Rattle.std.proofs.Common.{◌≡◌, ◌≤◌, ℕ, zero, suc, ◌+◌, List, [], ◌∷◌, ◌++◌, length, take, map, Some, None, slice_get, refl, ap, ◌∙◌, subst, arith, length-append}
 use Rattle.std.proofs.lemmas.Option.{same_Some}
-use Rattle.htt_syntax.specs.Trees.{MonoTree, TermTree, m_pair, t_fst}
-use Rattle.theory_values.specs.Values.{Value, v_pair, width, encoding, value_of_fst, value_of_snd}
+use Rattle.htt_syntax.specs.Trees.{MonoTree, m_pair}
+use Rattle.theory_values.specs.Values.{Value, width, encoding, value_of_fst, value_of_snd}
 use Rattle.theory_truth.specs.Worlds.{th_value, value_at}
 use Rattle.theory_truth.specs.TermValue.{value_or_unit}
-use Rattle.word_loader_code.specs.declared.code.Function.{Function}
 use Rattle.word_loader_code.specs.declared.code.Instr.{Instr}
 use Rattle.word_loader_code.specs.Machine.{words_at, with_words, step}
 use Rattle.theory_machine.proofs.Words.{length-with_words}
 use Rattle.theory_emission.specs.Terms.{Held, held_at, Emitted}
-use Rattle.theory_emitted_words.specs.Frames.{Around, machine_at, Leads}
+use Rattle.theory_emitted_words.specs.Frames.{Around, machine_at}
 use Rattle.theory_emitted_words.proofs.Words.{written, before, agree_less, agreeing, first, second}
-use Rattle.theory_emitted_words.proofs.Steps.{leads_none, leads_one, leads_on, leads_to}
+use Rattle.theory_emitted_words.proofs.Steps.{leads_none, leads_one, leads_on}
 use Rattle.theory_emitted_terms.specs.Layouts.{HasLayout, lays_pair}
 use Rattle.theory_emitted_terms.specs.Held.{Holds, HoldAll, hold_none, hold_more, HoldParts, part_none, part_more, Goes, Brings}
 use Rattle.theory_emitted_terms.proofs.Values.{layout_width}

@@ -1,11 +1,10 @@
 -- Moves bring parts side by side to a new place.
-use Rattle.std.proofs.Common.{◌≡◌, ◌≤◌, ℕ, zero, suc, ◌+◌, List, [], ◌∷◌, ◌++◌, length, take, Some, slice_get, refl, sym, ap, ◌∙◌, subst, arith}
+use Rattle.std.proofs.Common.{◌≡◌, ◌≤◌, ℕ, ◌+◌, List, ◌++◌, length, take, Some, slice_get, refl, ap, ◌∙◌, arith}
 use Rattle.word_loader_code.specs.declared.code.Function.{Function}
-use Rattle.word_loader_code.specs.declared.code.Instr.{Instr}
 use Rattle.word_loader_code.specs.declared.code.Instr.TheVariants.{Mov}
-use Rattle.word_loader_code.specs.Machine.{words_at, with_words, step}
+use Rattle.word_loader_code.specs.Machine.{words_at, with_words}
 use Rattle.theory_emission.specs.Terms.{moves, width_of_parts}
-use Rattle.theory_emitted_words.specs.Frames.{Around, machine_at, Leads, StandAt}
+use Rattle.theory_emitted_words.specs.Frames.{Around, StandAt}
 use Rattle.theory_emitted_words.proofs.Words.{written, agree_less, agreeing, side_by_side}
 use Rattle.theory_emitted_words.proofs.Steps.{steps}
 use Rattle.theory_emitted_terms.specs.Held.{HoldParts, part_none, part_more, Goes}

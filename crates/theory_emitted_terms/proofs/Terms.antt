@@ -1,8 +1,8 @@
 -- The emitted code of terms.
-use Rattle.std.proofs.Common.{◌≡◌, ◌≤◌, ℕ, zero, suc, ◌+◌, List, [], ◌∷◌, ◌++◌, length, take, map, true, false, Some, slice_get, refl, sym, ap, ◌∙◌, subst, arith}
-use Rattle.std.proofs.Common.{nat_eq, if◌then◌else◌, append-nil, length-append}
-use Rattle.htt_syntax.specs.Trees.{MonoTree, TermTree, m_word, m_bool, m_loc, m_unit, m_pair, t_snd}
-use Rattle.theory_values.specs.Values.{Value, v_word, v_bool, v_loc, v_unit, v_pair, width, encoding}
+use Rattle.std.proofs.Common.{◌≡◌, ◌≤◌, ℕ, ◌+◌, List, [], ◌∷◌, ◌++◌, length, map, true, false, Some, slice_get, refl, sym, ap, ◌∙◌, subst, arith}
+use Rattle.std.proofs.Common.{nat_eq, if◌then◌else◌, append-nil}
+use Rattle.htt_syntax.specs.Trees.{MonoTree, TermTree, m_pair, t_snd}
+use Rattle.theory_values.specs.Values.{Value, v_pair, width, encoding}
 use Rattle.theory_truth.specs.Worlds.{th_value}
 use Rattle.theory_truth.specs.TermValue.{term_value}
 use Rattle.word_loader_code.specs.declared.code.Function.{Function}
@@ -11,15 +11,14 @@ use Rattle.word_loader_code.specs.declared.code.Instr.TheVariants.{Const, Op, Se
 use Rattle.word_loader_code.specs.Machine.{words_at, local_at, operation_result}
 use Rattle.word_loader_code.specs.Valid.{not_number}
 use Rattle.theory_flat.specs.Reading.{value_in}
-use Rattle.theory_emission.specs.Terms.{Held, held_at, mono_of_term, width_of_term, first_of_pair, second_of_pair, number_of_op, eq_number, emit_term, emit_terms, Emitted, constant}
+use Rattle.theory_emission.specs.Terms.{Held, mono_of_term, width_of_term, first_of_pair, second_of_pair, number_of_op, eq_number, emit_term, emit_terms, Emitted, constant}
 use Rattle.theory_emission.specs.Terms.{moves, width_of_parts, operation, paired}
-use Rattle.theory_emission.specs.Bodies.{width_of_monos}
-use Rattle.theory_emitted_words.specs.Frames.{Around, machine_at, Leads, StandAt}
+use Rattle.theory_emitted_words.specs.Frames.{Around, StandAt}
 use Rattle.theory_emitted_words.proofs.Steps.{stand_first, stand_second, steps}
-use Rattle.theory_emitted_terms.specs.Layouts.{HasLayout, lays_word, lays_bool, lays_loc, lays_unit, lays_pair, HaveLayouts, lay_none, lay_more, encodings}
+use Rattle.theory_emitted_terms.specs.Layouts.{HasLayout, lays_word, lays_bool, lays_loc, lays_unit, lays_pair, lay_none, lay_more}
 use Rattle.theory_flat_typed.specs.Typed.{HasMonotype, typed_var, typed_word, typed_bool, typed_loc, typed_unit, typed_pair, typed_fst, typed_snd, typed_not, typed_bin, typed_eq}
 use Rattle.theory_flat_typed.specs.Typed.{typed_sel, HaveMonotypes, typed_none, typed_more}
-use Rattle.theory_emitted_terms.specs.Held.{Holds, HoldAll, HoldParts, part_none, part_more, Goes, Brings, BringsAll}
+use Rattle.theory_emitted_terms.specs.Held.{Holds, HoldAll, HoldParts, part_none, part_more, Brings, BringsAll}
 use Rattle.theory_emitted_terms.specs.Laws.{TermsAreEmitted}
 use Rattle.theory_emitted_terms.proofs.Values.{typed_layout, layout_width, Computed, op_wide, op_done, eq_done, not_done, sel_done}
 use Rattle.theory_emitted_terms.proofs.Held.{hold_on, hold_all_on, found, found_mono, first_part, second_part, goes_none, goes_on, goes_to, end_of, at_new, Both, both}

@@ -1,5 +1,5 @@
 -- What the operations of the machine give for the words of values.
-use Rattle.std.proofs.Common.{◌≡◌, ℕ, ◌+◌, List, [], ◌∷◌, ◌++◌, length, Bool, true, false, nat_eq, nat_lt, if◌then◌else◌, refl, sym, ap, ◌∙◌, arith, length-append}
+use Rattle.std.proofs.Common.{◌≡◌, ℕ, List, [], ◌∷◌, length, Bool, true, false, nat_eq, nat_lt, if◌then◌else◌, refl, ap, ◌∙◌, arith, length-append}
 use Rattle.htt_syntax.specs.declared.mono.Op.{Op}
 use Rattle.htt_syntax.specs.declared.mono.Op.TheVariants.{Add, Sub, Mul, And, Or, Xor, Shl, Shr, Lt}
 use Rattle.htt_syntax.specs.Trees.{MonoTree, m_word, m_bool}

@@ -42,11 +42,11 @@ pub record Goes (a : Around) (at : ℕ) (locals : List ℕ) (next end : ℕ) (af
 
 -- From the first instruction the frame goes on behind the last one, with the value at the place.
 pub record Brings (a : Around) (at : ℕ) (locals : List ℕ) (next : ℕ) (e : Emitted) (v : Value) (mono : MonoTree) : Type 0
-    where
-  pub after : List ℕ
-  pub goes : Goes a at locals next (at + length e.instrs) after
-  pub holds : Holds after e.next e.place v mono
-  pub grows : next ≤ e.next
+  where
+    pub after : List ℕ
+    pub goes : Goes a at locals next (at + length e.instrs) after
+    pub holds : Holds after e.next e.place v mono
+    pub grows : next ≤ e.next
 
 pub record BringsAll (a : Around) (at : ℕ) (locals : List ℕ) (next : ℕ) (e : EmittedTerms) (vs : List Value)
     (monos : List MonoTree) : Type 0 where

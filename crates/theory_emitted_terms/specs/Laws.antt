@@ -4,7 +4,7 @@ use Rattle.htt_syntax.specs.Trees.{MonoTree, TermTree}
 use Rattle.theory_values.specs.Values.{Value, HasType}
 use Rattle.word_loader_code.specs.declared.code.Function.{Function}
 use Rattle.theory_flat.specs.Reading.{value_in}
-use Rattle.theory_emission.specs.Terms.{Held, emit_term, emit_terms, mono_of_term}
+use Rattle.theory_emission.specs.Terms.{Held, emit_term, emit_terms}
 use Rattle.theory_emitted_words.specs.Frames.{Around, StandAt}
 use Rattle.theory_emitted_terms.specs.Layouts.{HasLayout}
 use Rattle.theory_flat_typed.specs.Typed.{HasMonotype, HaveMonotypes}

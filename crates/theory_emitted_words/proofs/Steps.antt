@@ -5,7 +5,7 @@ use Rattle.word_loader_code.specs.declared.code.Code.{Code}
 use Rattle.word_loader_code.specs.declared.code.Function.{Function}
 use Rattle.word_loader_code.specs.declared.code.Instr.{Instr}
 use Rattle.word_loader_code.specs.declared.code.Instr.TheVariants.{Const, Mov, Op, Sel, Alloc, Get, Set, Free, Jump, Jz, Call, Ret, Tail}
-use Rattle.word_loader_code.specs.Machine.{Frame, Stack, bottom, above, with_top, Machine, going, called, replaced, returned, effect, step, after_steps, with_words}
+use Rattle.word_loader_code.specs.Machine.{Frame, Stack, bottom, above, with_top, Machine, called, replaced, returned, effect, step, after_steps, with_words}
 use Rattle.theory_machine.proofs.Fitting.{step-at}
 use Rattle.theory_emitted_words.specs.Frames.{Around, frame_at, machine_at, Leads, StandAt, called_from, replaced_by, done_by, StepsInFrames}
 

@@ -1,5 +1,5 @@
 -- Reads and writes of locals.
-use Rattle.std.proofs.Common.{◌≡◌, ◌≤◌, ℕ, zero, suc, ◌+◌, List, [], ◌∷◌, ◌++◌, length, take, drop, refl, sym, ap, ◌∙◌, arith, append_assoc}
+use Rattle.std.proofs.Common.{◌≡◌, ◌≤◌, ℕ, zero, suc, ◌+◌, List, [], ◌∷◌, ◌++◌, length, take, drop, sym, ap, ◌∙◌, arith, append_assoc}
 use Rattle.std.proofs.lemmas.List.{length-take-le, take-take, take_at, take-append-le, drop_at, drop-drop, drop-take}
 use Rattle.word_loader_code.specs.Machine.{local_at, words_at, with_words}
 use Rattle.theory_emitted_words.specs.Laws.{WordsAreRead}
