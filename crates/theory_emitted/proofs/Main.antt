@@ -11,7 +11,8 @@ use Rattle.word_loader_code.specs.Laws.{IsOver}
 use Rattle.word_loader_code.proofs.Steps.{over_is_final_lem}
 use Rattle.theory_flat.specs.Flat.{Instance}
 use Rattle.theory_flat.specs.Reading.{flat_run}
-use Rattle.theory_emission.specs.Bodies.{Ending, width_of_monos, emit_instance}
+use Rattle.theory_flat_closed.proofs.Closed.{closed}
+use Rattle.theory_emission.specs.Bodies.{Ending, is_returned, is_tail, width_of_monos, emit_instance}
 use Rattle.theory_emission.specs.Codes.{code_ended_by}
 use Rattle.theory_emitted_terms.specs.Layouts.{HaveLayouts, lay_none}
 use Rattle.theory_flat_typed.specs.Typed.{AreTyped}
@@ -19,7 +20,7 @@ use Rattle.theory_emitted_bodies.specs.Comes.{Meets, ComesTo, Returns, entered}
 use Rattle.theory_emitted_bodies.specs.Laws.{Leaves}
 use Rattle.theory_emitted_bodies.proofs.Bodies.{emitted_bodies}
 use Rattle.theory_emitted_bodies.proofs.Endings.{function_there}
-use Rattle.theory_emitted.specs.Laws.{Halts, Asks, Ends, FlatAsks, NeverWrong, HasOutcomes, MainIsEmitted}
+use Rattle.theory_emitted.specs.Laws.{Halts, Asks, Ends, FlatAsks, NeverWrong, HasOutcomes, MainIsEmitted, ProgramsAreEmitted}
 
 -- an end is reached once
 agree : (code : Code) (h : Heap) (cs : List ℕ) (n k : ℕ) (x y : Machine)
@@ -143,3 +144,13 @@ module _ (instances : List Instance) (main : Instance) (version : ℕ) (ending :
 
 pub main_emitted : MainIsEmitted
 main_emitted instances main version ending typed first none leaves h cs = outcomes instances main version ending typed first none leaves h cs
+
+pub programs_emitted : ProgramsAreEmitted
+programs_emitted = record {
+  second = λ p instances h choices flat typed.
+      let main = closed.main_is_first p instances flat in
+      main_emitted instances (main.0) 2 is_tail typed (main.1) (main.2) tt h choices;
+  first = λ p instances h choices flat typed.
+      let main = closed.main_is_first p instances flat in
+      main_emitted instances (main.0) 1 is_returned typed (main.1) (main.2) tt h choices;
+}

@@ -6,10 +6,11 @@ use Rattle.theory_values.specs.Heaps.{Heap}
 use Rattle.theory_denotation.specs.Outcomes.{ended, wrong, asking}
 use Rattle.word_loader_code.specs.declared.code.Code.{Code}
 use Rattle.word_loader_code.specs.Machine.{machine_after, halted, faulted, asking as machine_asking}
-use Rattle.theory_flat.specs.Flat.{Instance}
+use Rattle.theory_instances.specs.Calls.{Program}
+use Rattle.theory_flat.specs.Flat.{Instance, HasFlatInstances}
 use Rattle.theory_flat.specs.Reading.{flat_run}
 use Rattle.theory_emission.specs.Bodies.{Ending}
-use Rattle.theory_emission.specs.Codes.{code_ended_by}
+use Rattle.theory_emission.specs.Codes.{code_ended_by, first_code, code_of}
 use Rattle.theory_flat_typed.specs.Typed.{AreTyped}
 use Rattle.theory_emitted_bodies.specs.Laws.{Leaves}
 
@@ -23,7 +24,9 @@ Asks code h choices = (steps : ℕ) × (machine_after code h choices steps ≡ m
 -- With some fuel main's flat body ends with a value of these words and this heap, or it asks.
 abbrev pub Ends : List Instance → Heap → List ℕ → List ℕ → Heap → Type 0
 Ends instances h choices words k =
-    (n : ℕ) × (v : Value) × (left : List ℕ) × (flat_run instances n 0 [] h choices ≡ ended v k left) × (words ≡ encoding v)
+    (n : ℕ) × (v : Value) × (left : List ℕ)
+    × (flat_run instances n 0 [] h choices ≡ ended v k left)
+    × (words ≡ encoding v)
 
 abbrev pub FlatAsks : List Instance → Heap → List ℕ → Type 0
 FlatAsks instances h choices = (n : ℕ) × (flat_run instances n 0 [] h choices ≡ asking)
@@ -32,6 +35,7 @@ FlatAsks instances h choices = (n : ℕ) × (flat_run instances n 0 [] h choices
 abbrev pub NeverWrong : List Instance → Heap → List ℕ → Type 0
 NeverWrong instances h choices = (n : ℕ) → flat_run instances n 0 [] h choices ≢ wrong
 
+-- From this heap with these choices the code has the outcomes of main's flat body.
 pub record HasOutcomes (instances : List Instance) (code : Code) (h : Heap) (choices : List ℕ) : Type 0 where
   pub halts : NeverWrong instances h choices
       → (words : List ℕ) (k : Heap)
@@ -56,3 +60,14 @@ MainIsEmitted =
     → Leaves ending
     → (h : Heap) (choices : List ℕ)
     → HasOutcomes instances (code_ended_by version ending instances) h choices
+
+-- The instances of a program, where they are typed.
+pub record ProgramsAreEmitted : Type 0 where
+  pub second : (p : Program) (instances : List Instance) (h : Heap) (choices : List ℕ)
+      → HasFlatInstances p instances
+      → AreTyped instances
+      → HasOutcomes instances (code_of instances) h choices
+  pub first : (p : Program) (instances : List Instance) (h : Heap) (choices : List ℕ)
+      → HasFlatInstances p instances
+      → AreTyped instances
+      → HasOutcomes instances (first_code instances) h choices

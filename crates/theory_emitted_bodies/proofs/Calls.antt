@@ -13,8 +13,8 @@ use Rattle.theory_emission.specs.Terms.{Held, EmittedTerms, emit_term, emit_term
 use Rattle.theory_emission.specs.Bodies.{is_held, is_returned, is_tail, result_in}
 use Rattle.theory_emission.specs.Bodies.{emit_flat}
 use Rattle.theory_emission.specs.Bodies.{width_of_monos, emit_instance}
-use Rattle.theory_emitted_words.specs.Frames.{frame_at, machine_at, StandAt, called_from, replaced_by}
-use Rattle.theory_emitted_words.proofs.Steps.{leads_one, leads_on, stand_first, stand_second, steps, returns}
+use Rattle.theory_emitted_words.specs.Frames.{frame_at, machine_at, StandAt}
+use Rattle.theory_emitted_words.proofs.Steps.{called_from, replaced_by, leads_one, leads_on, stand_first, stand_second, steps, returns}
 use Rattle.theory_emitted_terms.specs.Layouts.{HaveLayouts, encodings}
 use Rattle.theory_flat_typed.specs.Typed.{HasMonotype, HaveMonotypes}
 use Rattle.theory_emitted_terms.specs.Held.{HoldAll, Goes}

@@ -1,13 +1,15 @@
 -- What each instruction does in the top frame of a stack, and steps in a row.
-use Rattle.std.proofs.Common.{◌≡◌, ℕ, zero, suc, ◌+◌, List, [], ◌∷◌, ◌++◌, length, Option, Some, None, slice_get, refl, sym, ap, ◌∙◌, subst, arith}
-use Rattle.theory_values.specs.Heaps.{Heap}
+use Rattle.std.proofs.Common.{◌≡◌, ℕ, zero, suc, ◌+◌, List, [], ◌∷◌, ◌++◌, length, Option, Some, None, nat_eq, if◌then◌else◌, slice_get, refl, sym, ap, ◌∙◌, subst, arith}
+use Rattle.htt_syntax_words.specs.declared.words.Kind.TheVariants as kind
+use Rattle.theory_values.specs.Heaps.{Heap, with_block, without_block}
 use Rattle.word_loader_code.specs.declared.code.Code.{Code}
 use Rattle.word_loader_code.specs.declared.code.Function.{Function}
 use Rattle.word_loader_code.specs.declared.code.Instr.{Instr}
 use Rattle.word_loader_code.specs.declared.code.Instr.TheVariants.{Const, Mov, Op, Sel, Alloc, Get, Set, Free, Jump, Jz, Call, Ret, Tail}
-use Rattle.word_loader_code.specs.Machine.{Frame, Stack, bottom, above, with_top, Machine, called, replaced, returned, effect, step, after_steps, with_words}
+use Rattle.word_loader_code.specs.Machine.{Frame, Stack, bottom, above, with_top, Machine, going, asking, called, replaced, returned, effect, step, after_steps}
+use Rattle.word_loader_code.specs.Machine.{local_at, words_at, with_words, operation_result, entered_frame, with_choice, at_block}
 use Rattle.theory_machine.proofs.Fitting.{step-at}
-use Rattle.theory_emitted_words.specs.Frames.{Around, frame_at, machine_at, Leads, StandAt, called_from, replaced_by, done_by, StepsInFrames}
+use Rattle.theory_emitted_words.specs.Frames.{Around, frame_at, machine_at, Leads, StandAt}
 
 -- steps after steps
 pub more_steps : (code : Code) (m : Machine) (n k : ℕ) → after_steps code (after_steps code m n) k ≡ after_steps code m (n + k)
@@ -53,6 +55,47 @@ before_stands body x at (y ∷ xs) s =
 pub stands_itself : (body : List Instr) → StandAt body 0 body
 stands_itself [] = tt
 stands_itself (x ∷ body) = let q : suc 0 ≡ 0 + 1 = omega arith in (refl, subst (λ n. StandAt (x ∷ body) n body) q (before_stands body x 0 body (stands_itself body)))
+
+-- a call and a tail call from a frame, with the parameters from a place on
+abbrev pub called_from : Around → ℕ → List ℕ → Option Function → ℕ → ℕ → ℕ → Machine
+called_from a next locals None g from d = asking
+called_from a next locals (Some f) g from d =
+    going a.heap
+    (above (entered_frame g f (words_at locals from f.params)) d (with_top a.stack (frame_at a next locals))) a.choices
+
+abbrev pub replaced_by : Around → List ℕ → Option Function → ℕ → ℕ → Machine
+replaced_by a locals None g from = asking
+replaced_by a locals (Some f) g from =
+    going a.heap (with_top a.stack (entered_frame g f (words_at locals from f.params))) a.choices
+
+-- what an instruction of the function f comes to in the top frame, by the table of instructions
+abbrev pub done_by : Around → Function → ℕ → List ℕ → Instr → Machine
+done_by a f next locals (Const d v) = machine_at a (next + 1) (with_words locals d (v ∷ []))
+done_by a f next locals (Mov d s n) = machine_at a (next + 1) (with_words locals d (words_at locals s n))
+done_by a f next locals (Op d o x y) =
+    machine_at a (next + 1) (with_words locals d (operation_result o (local_at locals x) (local_at locals y) ∷ []))
+done_by a f next locals (Sel d c x y n) =
+    machine_at a (next + 1)
+    (with_words locals d (if nat_eq (local_at locals c) 0 then words_at locals y n else words_at locals x n))
+done_by a f next locals (Alloc d s n) =
+    with_choice a.heap a.choices (λ l left.
+    machine_at (record a { heap = with_block a.heap l (words_at locals s n); choices = left }) (next + 1)
+    (with_words locals d (l ∷ [])))
+done_by a f next locals (Get d p n) =
+    at_block kind.Get (local_at locals p) (a.heap (local_at locals p)) n
+    (λ block. machine_at a (next + 1) (with_words locals d block))
+done_by a f next locals (Set p s n) =
+    at_block kind.Set (local_at locals p) (a.heap (local_at locals p)) n
+    (λ block. machine_at (record a { heap = with_block a.heap (local_at locals p) (words_at locals s n) }) (next + 1) locals)
+done_by a f next locals (Free p n) =
+    at_block kind.Free (local_at locals p) (a.heap (local_at locals p)) n
+    (λ block. machine_at (record a { heap = without_block a.heap (local_at locals p) }) (next + 1) locals)
+done_by a f next locals (Jump target) = machine_at a target locals
+done_by a f next locals (Jz c target) =
+    if nat_eq (local_at locals c) 0 then machine_at a target locals else machine_at a (next + 1) locals
+done_by a f next locals (Call g from d) = called_from a (next + 1) locals (slice_get a.code.functions g) g from d
+done_by a f next locals (Ret s) = returned a.heap a.stack (words_at locals s f.result) a.choices
+done_by a f next locals (Tail g from) = replaced_by a locals (slice_get a.code.functions g) g from
 
 module _ (code : Code) (f : Function) (number : ℕ) (h : Heap) (choices : List ℕ) (next : ℕ) (locals : List ℕ) where
   abbrev around : Stack → Around
@@ -118,6 +161,3 @@ steps a f next locals i there q = step_is a.code f a.number a.heap a.choices nex
 pub returns : (a : Around) (callee : Frame) (d next : ℕ) (locals words : List ℕ)
     → returned a.heap (above callee d (with_top a.stack (frame_at a next locals))) words a.choices ≡ machine_at a next (with_words locals d words)
 returns a callee d next locals words = returned_is a.code (record { params = 0; locals = 0; result = 0; body = [] }) a.number a.heap a.choices next locals a.stack callee d words
-
-pub in_frames : StepsInFrames
-in_frames = record { steps = steps; returns = returns }
