@@ -16,11 +16,11 @@ use Rattle.theory_emission.specs.Bodies.{Ending, is_returned, is_tail, width_of_
 use Rattle.theory_emission.specs.Codes.{code_ended_by}
 use Rattle.theory_emitted_terms.specs.Layouts.{HaveLayouts, lay_none}
 use Rattle.theory_flat_typed.specs.Typed.{AreTyped}
-use Rattle.theory_emitted_bodies.specs.Comes.{Meets, ComesTo, Returns, entered}
-use Rattle.theory_emitted_bodies.specs.Laws.{Leaves}
+use Rattle.theory_emitted_bodies.specs.Comes.{Follows, ComesTo, Returns, entered_for}
+use Rattle.theory_emitted_bodies.specs.Laws.{LeavesFrame}
 use Rattle.theory_emitted_bodies.proofs.Bodies.{emitted_bodies}
 use Rattle.theory_emitted_bodies.proofs.Endings.{function_there}
-use Rattle.theory_emitted.specs.Laws.{Halts, Asks, Ends, FlatAsks, NeverWrong, HasOutcomes, MainIsEmitted, ProgramsAreEmitted}
+use Rattle.theory_emitted.specs.Laws.{CodeHalts, CodeAsks, FlatEnds, FlatAsks, NeverWrong, HasOutcomes, MainIsEmitted, ProgramsAreEmitted}
 
 -- an end is reached once
 agree : (code : Code) (h : Heap) (cs : List ℕ) (n k : ℕ) (x y : Machine)
@@ -57,7 +57,7 @@ IsAsking machine_asking = Unit {0}
 IsAsking m = ⊥
 
 module _ (instances : List Instance) (main : Instance) (version : ℕ) (ending : Ending) (typed : AreTyped instances) (first : slice_get instances 0 ≡ Some main)
-    (none : main.params ≡ []) (leaves : Leaves ending) (h : Heap) (cs : List ℕ) where
+    (none : main.params ≡ []) (leaves : LeavesFrame ending) (h : Heap) (cs : List ℕ) where
   abbrev code : Code
   code = code_ended_by version ending instances
 
@@ -65,7 +65,7 @@ module _ (instances : List Instance) (main : Instance) (version : ℕ) (ending :
   ground = bottom (record { function = 0; next = 0; locals = [] })
 
   -- the machine starts in a frame that is entered for main
-  starts : entered 0 (emit_instance instances ending main) [] h ground cs ≡ started (slice_get code.functions 0) h cs
+  starts : entered_for 0 (emit_instance instances ending main) [] h ground cs ≡ started (slice_get code.functions 0) h cs
   starts =
       let k = emit_instance instances ending main in
       let params : k.params ≡ 0 = ap width_of_monos none in
@@ -82,13 +82,13 @@ module _ (instances : List Instance) (main : Instance) (version : ℕ) (ending :
   to_halt : (n : ℕ) (o : Outcome) (v : Value) (k : Heap) (left : List ℕ)
       → flat_run instances n 0 [] h cs ≡ o
       → o ≡ ended v k left
-      → Halts code h cs (encoding v) k
+      → CodeHalts code h cs (encoding v) k
   to_halt n o v k left p q =
       let c = subst (ComesTo code (suc n) (Returns ground main.result) (started (slice_get code.functions 0) h cs)) (p ∙ q) (comes n) in
-      (c.meets.0, c.meets.1.there)
+      (c.follows.0, c.follows.1.there)
 
-  to_asking : (n : ℕ) → flat_run instances n 0 [] h cs ≡ asking → Asks code h cs
-  to_asking n p = (subst (ComesTo code (suc n) (Returns ground main.result) (started (slice_get code.functions 0) h cs)) p (comes n)).meets
+  to_asking : (n : ℕ) → flat_run instances n 0 [] h cs ≡ asking → CodeAsks code h cs
+  to_asking n p = (subst (ComesTo code (suc n) (Returns ground main.result) (started (slice_get code.functions 0) h cs)) p (comes n)).follows
 
   -- what a flat body comes to with as much fuel as the machine has taken steps
   data Over (n : ℕ) (m : Machine) : Type 0 where
@@ -97,23 +97,23 @@ module _ (instances : List Instance) (main : Instance) (version : ℕ) (ending :
     over_wrong : flat_run instances n 0 [] h cs ≡ wrong → Over n m
 
   over : (n : ℕ) (m : Machine) → machine_after code h cs n ≡ m → IsOver m → Over n m
-  over n m p o = by (flat_run instances n 0 [] h cs) refl ((comes n).meets)
+  over n m p o = by (flat_run instances n 0 [] h cs) refl ((comes n).follows)
     where
-      by : (x : Outcome) → flat_run instances n 0 [] h cs ≡ x → Meets code (suc n) (Returns ground main.result) (started (slice_get code.functions 0) h cs) x → Over n m
+      by : (x : Outcome) → flat_run instances n 0 [] h cs ≡ x → Follows code (suc n) (Returns ground main.result) (started (slice_get code.functions 0) h cs) x → Over n m
       by (ended v k left) q c = over_ended v k left q (agree code h cs n (c.0) m (halted (encoding v) k) p (c.1.there) o tt)
       by out_of_fuel q c = absurd (c.2 (stays_over code h cs n (c.0) m p o (omega (arith, c.1))))
       by asking q c = over_asking q (agree code h cs n (c.0) m machine_asking p (c.1) o tt)
       by wrong q c = over_wrong q
 
-  from_halt : NeverWrong instances h cs → (words : List ℕ) (k : Heap) → Halts code h cs words k → Ends instances h cs words k
+  from_halt : NeverWrong instances h cs → (words : List ℕ) (k : Heap) → CodeHalts code h cs words k → FlatEnds instances h cs words k
   from_halt never words k halts = by (over (halts.0) (halted words k) (halts.1) tt)
     where
-      by : Over (halts.0) (halted words k) → Ends instances h cs words k
+      by : Over (halts.0) (halted words k) → FlatEnds instances h cs words k
       by (over_ended v k' left p q) = (halts.0, v, left, p ∙ ap (λ g. ended v g left) (sym (ap heap_of q)), ap words_of q)
       by (over_asking p q) = absurd (subst HasHalted q tt)
       by (over_wrong p) = absurd (never (halts.0) p)
 
-  from_asking : NeverWrong instances h cs → Asks code h cs → FlatAsks instances h cs
+  from_asking : NeverWrong instances h cs → CodeAsks code h cs → FlatAsks instances h cs
   from_asking never asks = by (over (asks.0) machine_asking (asks.1) tt)
     where
       by : Over (asks.0) machine_asking → FlatAsks instances h cs
@@ -129,9 +129,9 @@ module _ (instances : List Instance) (main : Instance) (version : ℕ) (ending :
       by (over_asking p q) = absurd (subst IsAsking (sym q) tt)
       by (over_wrong p) = p
 
-  ends_halts : (words : List ℕ) (k : Heap) → Ends instances h cs words k → Halts code h cs words k
+  ends_halts : (words : List ℕ) (k : Heap) → FlatEnds instances h cs words k → CodeHalts code h cs words k
   ends_halts words k e =
-      subst (λ (l : List ℕ). Halts code h cs l k) (sym (e.4)) (to_halt (e.0) (ended (e.1) k (e.2)) (e.1) k (e.2) (e.3) refl)
+      subst (λ (l : List ℕ). CodeHalts code h cs l k) (sym (e.4)) (to_halt (e.0) (ended (e.1) k (e.2)) (e.1) k (e.2) (e.3) refl)
 
   outcomes : HasOutcomes instances code h cs
   outcomes = record {

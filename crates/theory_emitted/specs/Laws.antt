@@ -12,18 +12,18 @@ use Rattle.theory_flat.specs.Reading.{flat_run}
 use Rattle.theory_emission.specs.Bodies.{Ending}
 use Rattle.theory_emission.specs.Codes.{code_ended_by, first_code, code_of}
 use Rattle.theory_flat_typed.specs.Typed.{AreTyped}
-use Rattle.theory_emitted_bodies.specs.Laws.{Leaves}
+use Rattle.theory_emitted_bodies.specs.Laws.{LeavesFrame}
 
 -- After some number of steps the code has halted with these words and this heap, or it asks.
-abbrev pub Halts : Code → Heap → List ℕ → List ℕ → Heap → Type 0
-Halts code h choices words k = (steps : ℕ) × (machine_after code h choices steps ≡ halted words k)
+abbrev pub CodeHalts : Code → Heap → List ℕ → List ℕ → Heap → Type 0
+CodeHalts code h choices words k = (steps : ℕ) × (machine_after code h choices steps ≡ halted words k)
 
-abbrev pub Asks : Code → Heap → List ℕ → Type 0
-Asks code h choices = (steps : ℕ) × (machine_after code h choices steps ≡ machine_asking)
+abbrev pub CodeAsks : Code → Heap → List ℕ → Type 0
+CodeAsks code h choices = (steps : ℕ) × (machine_after code h choices steps ≡ machine_asking)
 
 -- With some fuel main's flat body ends with a value of these words and this heap, or it asks.
-abbrev pub Ends : List Instance → Heap → List ℕ → List ℕ → Heap → Type 0
-Ends instances h choices words k =
+abbrev pub FlatEnds : List Instance → Heap → List ℕ → List ℕ → Heap → Type 0
+FlatEnds instances h choices words k =
     (n : ℕ) × (v : Value) × (left : List ℕ)
     × (flat_run instances n 0 [] h choices ≡ ended v k left)
     × (words ≡ encoding v)
@@ -39,11 +39,11 @@ NeverWrong instances h choices = (n : ℕ) → flat_run instances n 0 [] h choic
 pub record HasOutcomes (instances : List Instance) (code : Code) (h : Heap) (choices : List ℕ) : Type 0 where
   pub halts : NeverWrong instances h choices
       → (words : List ℕ) (k : Heap)
-      → Halts code h choices words k ↔ Ends instances h choices words k
-  pub asks : NeverWrong instances h choices → Asks code h choices ↔ FlatAsks instances h choices
+      → CodeHalts code h choices words k ↔ FlatEnds instances h choices words k
+  pub asks : NeverWrong instances h choices → CodeAsks code h choices ↔ FlatAsks instances h choices
   -- whether it goes wrong elsewhere or not
-  pub ends : (words : List ℕ) (k : Heap) → Ends instances h choices words k → Halts code h choices words k
-  pub flat_asks : FlatAsks instances h choices → Asks code h choices
+  pub ends : (words : List ℕ) (k : Heap) → FlatEnds instances h choices words k → CodeHalts code h choices words k
+  pub flat_asks : FlatAsks instances h choices → CodeAsks code h choices
   -- with as much fuel as the code has taken steps
   pub faults : (steps : ℕ) (kind : Kind) (l : ℕ)
       → machine_after code h choices steps ≡ faulted kind l
@@ -57,7 +57,7 @@ MainIsEmitted =
     → AreTyped instances
     → slice_get instances 0 ≡ Some main
     → main.params ≡ []
-    → Leaves ending
+    → LeavesFrame ending
     → (h : Heap) (choices : List ℕ)
     → HasOutcomes instances (code_ended_by version ending instances) h choices
 

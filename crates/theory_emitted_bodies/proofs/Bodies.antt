@@ -15,15 +15,15 @@ use Rattle.theory_emission.specs.Codes.{code_ended_by}
 use Rattle.theory_emission.specs.Bodies.{Ending, is_held, is_returned, is_tail, gives_back, may_end, flat_mono}
 use Rattle.theory_emission.specs.Bodies.{in_row, emit_flat, emit_last, emit_step}
 use Rattle.theory_emission.specs.Bodies.{with_params, width_of_monos, emitted_body, emit_instance}
-use Rattle.theory_emitted_words.specs.Frames.{machine_at, StandAt}
+use Rattle.theory_emitted_words.specs.Frames.{machine_at, InstrsAt}
 use Rattle.theory_emitted_words.proofs.Steps.{leads_none, stand_first, stand_second, stands_itself}
 use Rattle.theory_emitted_terms.specs.Layouts.{HaveLayouts, encodings}
-use Rattle.theory_emitted_terms.specs.Held.{HoldAll, hold_more}
+use Rattle.theory_emitted_terms.specs.Held.{ValuesAt, values_more}
 use Rattle.theory_emitted_terms.proofs.Held.{hold_all_on}
 use Rattle.theory_flat_typed.specs.Typed.{IsTyped, typed_ret, typed_step, IsTypedStep, typed_call, typed_alloc, typed_get, typed_set}
 use Rattle.theory_flat_typed.specs.Typed.{typed_free, typed_if, IsTypedInstance, AreTyped}
-use Rattle.theory_emitted_bodies.specs.Comes.{ComesTo, Returns, entered}
-use Rattle.theory_emitted_bodies.specs.Laws.{Leaves, BodiesAreEmitted}
+use Rattle.theory_emitted_bodies.specs.Comes.{ComesTo, Returns, entered_for}
+use Rattle.theory_emitted_bodies.specs.Laws.{LeavesFrame, BodiesAreEmitted}
 use Rattle.theory_emitted_bodies.proofs.Grows.{flat_grows, step_grows}
 use Rattle.theory_emitted_bodies.proofs.Comes.{comes_ended, comes_then, comes_as}
 use Rattle.theory_emitted_bodies.proofs.Entry.{all_wide, entry}
@@ -49,8 +49,8 @@ module _ (own : Within) where
       → (e : Ending)
       → FitsResult e own.f mono
       → (g : List Held) (vs : List Value) (at : ℕ) (locals : List ℕ) (next : ℕ) (h : Heap) (cs : List ℕ)
-      → HoldAll locals next g vs monos
-      → StandAt own.f.body at (row e g next at step others).instrs
+      → ValuesAt locals next g vs monos
+      → InstrsAt own.f.body at (row e g next at step others).instrs
       → (row e g next at step others).next ≤ length locals
       → ComesTo (code own) (suc own.fuel) (EndsAs e (base own) at locals next (row e g next at step others) mono) (machine_at (here own h cs) at locals)
       (then_outcome (flat_step_outcome own.call vs step h cs) (λ v k ds. flat_outcome own.call (v ∷ vs) others k ds))
@@ -67,7 +67,7 @@ module _ (own : Within) where
       (comes_as (flat_outcome own.call (v ∷ vs) others k ds)
       (λ u k' ds' m' w. ends_on e (base own) at locals z.after next first rest mono u k' ds' m' z.keeps z.long less w)
       (y e fits (held ∷ g) (v ∷ vs) (at + length first.instrs) z.after first.next k ds
-      (hold_more (finds_bound s) z.holds (hold_all_on hold z.keeps less)) (stand_second own.f.body at first.instrs rest.instrs stand)
+      (values_more (finds_bound s) z.holds (hold_all_on hold z.keeps less)) (stand_second own.f.body at first.instrs rest.instrs stand)
       (omega (arith, within, z.long)))))
 
   step_then : {monos : List MonoTree} {step : FlatStepTree} {others : FlatTree} {bound mono : MonoTree}
@@ -87,7 +87,7 @@ module _ (own : Within) where
       by : (b c : Bool)
           → may_end step ≡ b
           → gives_back others ≡ c
-          → StandAt own.f.body at (if (if b then c else false) then emit_last own.instances g next at step else row is_tail g next at step others).instrs
+          → InstrsAt own.f.body at (if (if b then c else false) then emit_last own.instances g next at step else row is_tail g next at step others).instrs
           → (if (if b then c else false) then emit_last own.instances g next at step else row is_tail g next at step others).next ≤ length locals
           → ComesTo (code own) (suc own.fuel) (Returns own.stack mono) (machine_at (here own h cs) at locals)
           (then_outcome (flat_step_outcome own.call vs step h cs) (λ v k ds. flat_outcome own.call (v ∷ vs) others k ds))
@@ -130,13 +130,13 @@ module _ (own : Within) where
 module _ (instances : List Instance) (version : ℕ) (ending : Ending) where
   -- the body of an instance, where calls come to what they are to
   body_comes : AreTyped instances
-      → Leaves ending
+      → LeavesFrame ending
       → (n : ℕ) (call : Calling)
       → Calls instances version ending n call
       → (number : ℕ) (instance : Instance) (vs : List Value) (h : Heap) (stack : Stack) (cs : List ℕ)
       → slice_get instances number ≡ Some instance
       → HaveLayouts vs instance.params
-      → ComesTo (code_ended_by version ending instances) (suc n) (Returns stack instance.result) (entered number (emit_instance instances ending instance) vs h stack cs)
+      → ComesTo (code_ended_by version ending instances) (suc n) (Returns stack instance.result) (entered_for number (emit_instance instances ending instance) vs h stack cs)
       (flat_outcome call (reverse vs) instance.body h cs)
   body_comes typed leaves n call calls number instance vs h stack cs q l =
       let k = emit_instance instances ending instance in
@@ -161,16 +161,16 @@ module _ (instances : List Instance) (version : ℕ) (ending : Ending) where
       (with_params [] 0 instance.params) (reverse vs) 0 (encodings vs ++ zeros) (width_of_monos instance.params) h cs (entry zeros l) (stands_itself k.body)
       (omega (arith, long, all_wide l, length-replicate {A = ℕ} (k.locals - k.params) 0)))
 
-  calls_come : AreTyped instances → Leaves ending → (n : ℕ) → Calls instances version ending n (calling instances n)
+  calls_come : AreTyped instances → LeavesFrame ending → (n : ℕ) → Calls instances version ending n (calling instances n)
   unfolding calling after_steps
-  calls_come typed leaves zero number instance vs h stack cs q l = record { meets = (0, omega arith, λ o. o) }
+  calls_come typed leaves zero number instance vs h stack cs q l = record { follows = (0, omega arith, λ o. o) }
   calls_come typed leaves (suc n) number instance vs h stack cs q l =
-      subst (λ o. ComesTo (code_ended_by version ending instances) (suc n) (Returns stack instance.result) (entered number (emit_instance instances ending instance) vs h stack cs)
+      subst (λ o. ComesTo (code_ended_by version ending instances) (suc n) (Returns stack instance.result) (entered_for number (emit_instance instances ending instance) vs h stack cs)
       (body_outcome o (calling instances n) vs h cs)) (sym q)
       (body_comes typed leaves n (calling instances n) (calls_come typed leaves n) number instance vs h stack cs q l)
 
 pub emitted_bodies : BodiesAreEmitted
 emitted_bodies instances version ending typed leaves number instance vs q l n h stack cs =
     subst (λ o. ComesTo (code_ended_by version ending instances) (suc n) (Returns stack instance.result)
-    (entered number (emit_instance instances ending instance) vs h stack cs) (body_outcome o (calling instances n) vs h cs)) (sym q)
+    (entered_for number (emit_instance instances ending instance) vs h stack cs) (body_outcome o (calling instances n) vs h cs)) (sym q)
     (body_comes instances version ending typed leaves n (calling instances n) (calls_come instances version ending typed leaves n) number instance vs h stack cs q l)

@@ -13,11 +13,11 @@ use Rattle.theory_flat.specs.Reading.{value_in, flat_outcome}
 use Rattle.theory_emission.specs.Terms.{Held, Emitted, emit_term}
 use Rattle.theory_emission.specs.Bodies.{is_held, is_tail}
 use Rattle.theory_emission.specs.Bodies.{tested, first_branch, second_branch, step_end, joined, emit_flat}
-use Rattle.theory_emitted_words.specs.Frames.{machine_at, Leads, StandAt}
+use Rattle.theory_emitted_words.specs.Frames.{machine_at, Leads, InstrsAt}
 use Rattle.theory_emitted_words.proofs.Words.{one, agree_less}
 use Rattle.theory_emitted_words.proofs.Steps.{leads_one, leads_on, stand_first, stand_second, steps}
 use Rattle.theory_flat_typed.specs.Typed.{HasMonotype}
-use Rattle.theory_emitted_terms.specs.Held.{HoldAll}
+use Rattle.theory_emitted_terms.specs.Held.{ValuesAt}
 use Rattle.theory_emitted_terms.proofs.Held.{hold_all_on}
 use Rattle.theory_emitted_terms.proofs.Terms.{emitted}
 use Rattle.theory_flat_typed.specs.Typed.{IsTyped}
@@ -42,8 +42,8 @@ module _ (own : Within) where
   test_goes : {test : TermTree} {monos : List MonoTree}
       → HasMonotype monos test m_bool
       → (g : List Held) (vs : List Value) (at : ℕ) (locals : List ℕ) (next : ℕ) (h : Heap) (cs : List ℕ) (target : ℕ)
-      → HoldAll locals next g vs monos
-      → StandAt own.f.body at (tested (emit_term g next test) target)
+      → ValuesAt locals next g vs monos
+      → InstrsAt own.f.body at (tested (emit_term g next test) target)
       → (emit_term g next test).next ≤ length locals
       → Tested at locals next h cs (emit_term g next test) target (value_in vs test)
   test_goes {test = test} {monos = monos} p g vs at locals next h cs target hold stand within =
@@ -83,8 +83,8 @@ module _ (own : Within) where
   branches {Ends = Ends} {m = m} {o = o} {p = p} true q l c d = subst (λ v. ComesTo (code own) (suc own.fuel) Ends m (branch_outcome v o p)) (sym q) (comes_after l c)
   branches {Ends = Ends} {m = m} {o = o} {p = p} false q l c d = subst (λ v. ComesTo (code own) (suc own.fuel) Ends m (branch_outcome v o p)) (sym q) (comes_after l d)
 
-  stand_to : (at other : ℕ) (is : List Instr) → at ≡ other → StandAt own.f.body at is → StandAt own.f.body other is
-  stand_to at other is q s = subst (λ k. StandAt own.f.body k is) q s
+  stand_to : (at other : ℕ) (is : List Instr) → at ≡ other → InstrsAt own.f.body at is → InstrsAt own.f.body other is
+  stand_to at other is q s = subst (λ k. InstrsAt own.f.body k is) q s
 
   pub last_if : {monos : List MonoTree} {mono : MonoTree} {test : TermTree} {on_true on_false : FlatTree}
       → HasMonotype monos test m_bool

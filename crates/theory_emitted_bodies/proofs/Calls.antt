@@ -13,11 +13,11 @@ use Rattle.theory_emission.specs.Terms.{Held, EmittedTerms, emit_term, emit_term
 use Rattle.theory_emission.specs.Bodies.{is_held, is_returned, is_tail, result_in}
 use Rattle.theory_emission.specs.Bodies.{emit_flat}
 use Rattle.theory_emission.specs.Bodies.{width_of_monos, emit_instance}
-use Rattle.theory_emitted_words.specs.Frames.{frame_at, machine_at, StandAt}
+use Rattle.theory_emitted_words.specs.Frames.{frame_at, machine_at, InstrsAt}
 use Rattle.theory_emitted_words.proofs.Steps.{called_from, replaced_by, leads_one, leads_on, stand_first, stand_second, steps, returns}
 use Rattle.theory_emitted_terms.specs.Layouts.{HaveLayouts, encodings}
 use Rattle.theory_flat_typed.specs.Typed.{HasMonotype, HaveMonotypes}
-use Rattle.theory_emitted_terms.specs.Held.{HoldAll, Goes}
+use Rattle.theory_emitted_terms.specs.Held.{ValuesAt, Goes}
 use Rattle.theory_emitted_terms.proofs.Held.{goes_on, goes_to, end_of}
 use Rattle.theory_emitted_terms.proofs.Moves.{moved}
 use Rattle.theory_emitted_terms.proofs.Terms.{emitted, emitted_all}
@@ -33,8 +33,8 @@ module _ (own : Within) where
       → HasMonotype monos term mono
       → width mono ≡ own.f.result
       → (g : List Held) (vs : List Value) (at : ℕ) (locals : List ℕ) (next : ℕ) (h : Heap) (cs : List ℕ)
-      → HoldAll locals next g vs monos
-      → StandAt own.f.body at ((emit_term g next term).instrs ++ Ret (emit_term g next term).place ∷ [])
+      → ValuesAt locals next g vs monos
+      → InstrsAt own.f.body at ((emit_term g next term).instrs ++ Ret (emit_term g next term).place ∷ [])
       → (emit_term g next term).next ≤ length locals
       → ComesTo (code own) (suc own.fuel) (Returns own.stack mono) (machine_at (here own h cs) at locals) (ended (value_in vs term) h cs)
   returned_comes {term = term} {mono = mono} {monos = monos} p fits g vs at locals next h cs hold stand within =
@@ -67,8 +67,8 @@ module _ (own : Within) where
   passed : {params : List TermTree} {monos types : List MonoTree}
       → HaveMonotypes monos params types
       → (g : List Held) (vs : List Value) (at : ℕ) (locals : List ℕ) (next : ℕ) (h : Heap) (cs : List ℕ)
-      → HoldAll locals next g vs monos
-      → StandAt own.f.body at ((emit_terms g next params).instrs ++ moves (emit_terms g next params).next (emit_terms g next params).parts)
+      → ValuesAt locals next g vs monos
+      → InstrsAt own.f.body at ((emit_terms g next params).instrs ++ moves (emit_terms g next params).next (emit_terms g next params).parts)
       → (emit_terms g next params).next + width_of_parts (emit_terms g next params).parts ≤ length locals
       → Passed at locals next h cs (emit_terms g next params) (map (value_in vs) params) types
   passed {params = params} {monos = monos} {types = types} p g vs at locals next h cs hold stand within =

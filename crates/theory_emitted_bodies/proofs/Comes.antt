@@ -8,19 +8,19 @@ use Rattle.word_loader_code.specs.Machine.{Machine, asking as machine_asking, st
 use Rattle.word_loader_code.specs.Laws.{IsOver}
 use Rattle.theory_emitted_words.specs.Frames.{Leads}
 use Rattle.theory_emitted_words.proofs.Steps.{more_steps}
-use Rattle.theory_emitted_bodies.specs.Comes.{Meets, ComesTo}
+use Rattle.theory_emitted_bodies.specs.Comes.{Follows, ComesTo}
 
 -- some steps first, and so many are counted
 counted : {code : Code} {m k : Machine} {Ends : Value → Heap → List ℕ → Machine → Type 0} {more : ℕ} {o : Outcome} (n : ℕ) (l : Leads code m k)
     → n ≤ l.steps + more
     → ComesTo code more Ends k o
     → ComesTo code n Ends m o
-counted {code = code} {m = m} {k = k} {Ends = Ends} {more = more} {o = o} n l less c = record { meets = by o c.meets }
+counted {code = code} {m = m} {k = k} {Ends = Ends} {more = more} {o = o} n l less c = record { follows = by o c.follows }
   where
     later : (steps : ℕ) → after_steps code k steps ≡ after_steps code m (l.steps + steps)
     later steps = ap (λ x. after_steps code x steps) (sym l.there) ∙ more_steps code m l.steps steps
 
-    by : (o : Outcome) → Meets code more Ends k o → Meets code n Ends m o
+    by : (o : Outcome) → Follows code more Ends k o → Follows code n Ends m o
     by (ended v h cs) c = (l.steps + c.0, subst (Ends v h cs) (later (c.0)) (c.1))
     by out_of_fuel c = (l.steps + c.0, omega (arith, less, c.1), subst (λ x. IsOver x → ⊥) (later (c.0)) (c.2))
     by asking c = (l.steps + c.0, sym (later (c.0)) ∙ c.1)
@@ -44,13 +44,13 @@ pub comes_ended : {code : Code} {m k : Machine} {Ends : Value → Heap → List 
     → Leads code m k
     → Ends v h cs k
     → ComesTo code n Ends m (ended v h cs)
-comes_ended {Ends = Ends} {v = v} {h = h} {cs = cs} l e = record { meets = (l.steps, subst (Ends v h cs) (sym l.there) e) }
+comes_ended {Ends = Ends} {v = v} {h = h} {cs = cs} l e = record { follows = (l.steps, subst (Ends v h cs) (sym l.there) e) }
 
 pub comes_asking : {code : Code} {m : Machine} {Ends : Value → Heap → List ℕ → Machine → Type 0} {n : ℕ} → Leads code m machine_asking → ComesTo code n Ends m asking
-comes_asking l = record { meets = (l.steps, l.there) }
+comes_asking l = record { follows = (l.steps, l.there) }
 
 pub comes_wrong : {code : Code} {m : Machine} {Ends : Value → Heap → List ℕ → Machine → Type 0} {n : ℕ} → ComesTo code n Ends m wrong
-comes_wrong = record { meets = tt }
+comes_wrong = record { follows = tt }
 
 reached : (code : Code) (m : Machine) (steps : ℕ) → Leads code m (after_steps code m steps)
 reached code m steps = record { steps = steps; there = refl }
@@ -60,9 +60,9 @@ pub comes_then : {code : Code} {m : Machine} {Ends Then : Value → Heap → Lis
     → ((v : Value) (h : Heap) (cs : List ℕ) (k : Machine) → Ends v h cs k → ComesTo code n Then k (f v h cs))
     → ComesTo code n Then m (then_outcome o f)
 comes_then {code = code} {m = m} (ended v h cs) f c next =
-    comes_after (reached code m (c.meets.0)) (next v h cs (after_steps code m (c.meets.0)) (c.meets.1))
-comes_then out_of_fuel f c next = record { meets = c.meets }
-comes_then asking f c next = record { meets = c.meets }
+    comes_after (reached code m (c.follows.0)) (next v h cs (after_steps code m (c.follows.0)) (c.follows.1))
+comes_then out_of_fuel f c next = record { follows = c.follows }
+comes_then asking f c next = record { follows = c.follows }
 comes_then wrong f c next = comes_wrong
 
 -- the same outcome, after what is done with what it ends with
@@ -71,16 +71,16 @@ pub comes_through : {code : Code} {m : Machine} {Ends Then : Value → Heap → 
     → ((v : Value) (h : Heap) (cs : List ℕ) (k : Machine) → Ends v h cs k → ComesTo code n Then k (ended v h cs))
     → ComesTo code n Then m o
 comes_through {code = code} {m = m} (ended v h cs) c next =
-    comes_after (reached code m (c.meets.0)) (next v h cs (after_steps code m (c.meets.0)) (c.meets.1))
-comes_through out_of_fuel c next = record { meets = c.meets }
-comes_through asking c next = record { meets = c.meets }
+    comes_after (reached code m (c.follows.0)) (next v h cs (after_steps code m (c.follows.0)) (c.follows.1))
+comes_through out_of_fuel c next = record { follows = c.follows }
+comes_through asking c next = record { follows = c.follows }
 comes_through wrong c next = comes_wrong
 
 pub comes_as : {code : Code} {m : Machine} {Ends Then : Value → Heap → List ℕ → Machine → Type 0} {n : ℕ} (o : Outcome)
     → ((v : Value) (h : Heap) (cs : List ℕ) (k : Machine) → Ends v h cs k → Then v h cs k)
     → ComesTo code n Ends m o
     → ComesTo code n Then m o
-comes_as {code = code} {m = m} (ended v h cs) f c = record { meets = (c.meets.0, f v h cs (after_steps code m (c.meets.0)) (c.meets.1)) }
-comes_as out_of_fuel f c = record { meets = c.meets }
-comes_as asking f c = record { meets = c.meets }
+comes_as {code = code} {m = m} (ended v h cs) f c = record { follows = (c.follows.0, f v h cs (after_steps code m (c.follows.0)) (c.follows.1)) }
+comes_as out_of_fuel f c = record { follows = c.follows }
+comes_as asking f c = record { follows = c.follows }
 comes_as wrong f c = comes_wrong

@@ -17,7 +17,7 @@ use Rattle.theory_emission.specs.Bodies.{Ending, is_held, is_returned, is_tail, 
 use Rattle.theory_emission.specs.Bodies.{in_row}
 use Rattle.theory_emission.specs.Bodies.{emit_instance}
 use Rattle.theory_emission.specs.Codes.{code_ended_by}
-use Rattle.theory_emitted_words.specs.Frames.{Around, machine_at}
+use Rattle.theory_emitted_words.specs.Frames.{FrameSite, machine_at}
 use Rattle.theory_emitted_words.proofs.Words.{agree_less}
 use Rattle.theory_emitted_terms.specs.Layouts.{HasLayout, lays_bool}
 use Rattle.theory_flat_typed.specs.Typed.{typed_var}
@@ -26,7 +26,7 @@ use Rattle.theory_emitted_terms.proofs.Terms.{emitted}
 use Rattle.theory_flat_typed.specs.Typed.{IsTyped, typed_ret, typed_step, IsTypedStep, typed_call, typed_alloc, typed_get, typed_set}
 use Rattle.theory_flat_typed.specs.Typed.{typed_free, typed_if}
 use Rattle.theory_emitted_bodies.specs.Comes.{Returns}
-use Rattle.theory_emitted_bodies.specs.Laws.{Leaves}
+use Rattle.theory_emitted_bodies.specs.Laws.{LeavesFrame}
 use Rattle.theory_emitted_bodies.proofs.Steps.{around, Landing}
 
 pub true_or_false : true ≡ false → ⊥
@@ -49,7 +49,7 @@ function_there instances version ending number instance q =
     slice_get-map (emit_instance instances ending) instances number ∙ ap (option_map (emit_instance instances ending)) q
 
 -- how a tree ends: its value is held at the place, behind its instructions; or it is returned
-abbrev pub EndsAs : Ending → Around → ℕ → List ℕ → ℕ → Emitted → MonoTree → Value → Heap → List ℕ → Machine → Type 0
+abbrev pub EndsAs : Ending → FrameSite → ℕ → List ℕ → ℕ → Emitted → MonoTree → Value → Heap → List ℕ → Machine → Type 0
 EndsAs is_held a at locals next e mono = Landing a at locals next e mono
 EndsAs ending a at locals next e mono = Returns a.stack mono
 
@@ -59,7 +59,7 @@ FitsResult is_held f mono = Unit {0}
 FitsResult ending f mono = width mono ≡ f.result
 
 -- after a step, the rest ends as the whole does
-pub ends_on : (e : Ending) (a : Around) (at : ℕ) (locals between : List ℕ) (next : ℕ) (first rest : Emitted) (mono : MonoTree) (v : Value) (h : Heap) (cs : List ℕ) (m : Machine)
+pub ends_on : (e : Ending) (a : FrameSite) (at : ℕ) (locals between : List ℕ) (next : ℕ) (first rest : Emitted) (mono : MonoTree) (v : Value) (h : Heap) (cs : List ℕ) (m : Machine)
     → take next between ≡ take next locals
     → length between ≡ length locals
     → next ≤ first.next
@@ -77,7 +77,7 @@ ends_on is_returned a at locals between next first rest mono v h cs m keeps long
 ends_on is_tail a at locals between next first rest mono v h cs m keeps long less r = r
 
 -- a tree whose end is left
-pub leaving : (e : Ending) → Leaves e → (a : Around) (at : ℕ) (locals : List ℕ) (next : ℕ) (emitted : Emitted) (mono : MonoTree) (v : Value) (h : Heap) (cs : List ℕ) (m : Machine)
+pub leaving : (e : Ending) → LeavesFrame e → (a : FrameSite) (at : ℕ) (locals : List ℕ) (next : ℕ) (emitted : Emitted) (mono : MonoTree) (v : Value) (h : Heap) (cs : List ℕ) (m : Machine)
     → EndsAs e a at locals next emitted mono v h cs m
     → Returns a.stack mono v h cs m
 leaving is_held l a at locals next emitted mono v h cs m r = absurd l

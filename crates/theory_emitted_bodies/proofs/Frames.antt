@@ -15,10 +15,10 @@ use Rattle.theory_emission.specs.Bodies.{Ending, may_end}
 use Rattle.theory_emission.specs.Bodies.{emit_flat, emit_last, emit_step}
 use Rattle.theory_emission.specs.Bodies.{emit_instance}
 use Rattle.theory_emission.specs.Codes.{code_ended_by}
-use Rattle.theory_emitted_words.specs.Frames.{Around, machine_at, StandAt}
+use Rattle.theory_emitted_words.specs.Frames.{FrameSite, machine_at, InstrsAt}
 use Rattle.theory_emitted_terms.specs.Layouts.{HaveLayouts}
-use Rattle.theory_emitted_terms.specs.Held.{HoldAll}
-use Rattle.theory_emitted_bodies.specs.Comes.{ComesTo, Returns, entered}
+use Rattle.theory_emitted_terms.specs.Held.{ValuesAt}
+use Rattle.theory_emitted_bodies.specs.Comes.{ComesTo, Returns, entered_for}
 use Rattle.theory_emitted_bodies.proofs.Steps.{around, Landing}
 use Rattle.theory_emitted_bodies.proofs.Endings.{EndsAs, FitsResult}
 
@@ -29,7 +29,7 @@ Calls instances version ending n call =
     → slice_get instances number ≡ Some instance
     → HaveLayouts vs instance.params
     → ComesTo (code_ended_by version ending instances) n (Returns stack instance.result)
-    (entered number (emit_instance instances ending instance) vs h stack cs) (call number vs h cs)
+    (entered_for number (emit_instance instances ending instance) vs h stack cs) (call number vs h cs)
 
 -- the list and how its bodies end; the fuel and the calls; and the frame: its function with its number, and the stack
 pub record Within : Type 0 where
@@ -48,10 +48,10 @@ abbrev pub code : Within → Code
 code own = code_ended_by own.version own.ending own.instances
 
 -- what is around the frame, whose heap and choices change
-abbrev pub base : Within → Around
+abbrev pub base : Within → FrameSite
 base own = record { code = code own; number = own.number; heap = empty_heap; stack = own.stack; choices = [] }
 
-abbrev pub here : Within → Heap → List ℕ → Around
+abbrev pub here : Within → Heap → List ℕ → FrameSite
 here own h cs = around (base own) h cs
 
 abbrev pub FlatComes : Within → FlatTree → List MonoTree → MonoTree → Type 0
@@ -59,8 +59,8 @@ FlatComes own flat monos mono =
     (e : Ending)
     → FitsResult e own.f mono
     → (g : List Held) (vs : List Value) (at : ℕ) (locals : List ℕ) (next : ℕ) (h : Heap) (cs : List ℕ)
-    → HoldAll locals next g vs monos
-    → StandAt own.f.body at (emit_flat own.instances e g next at flat).instrs
+    → ValuesAt locals next g vs monos
+    → InstrsAt own.f.body at (emit_flat own.instances e g next at flat).instrs
     → (emit_flat own.instances e g next at flat).next ≤ length locals
     → ComesTo (code own) (suc own.fuel) (EndsAs e (base own) at locals next (emit_flat own.instances e g next at flat) mono) (machine_at (here own h cs) at locals)
     (flat_outcome own.call vs flat h cs)
@@ -68,8 +68,8 @@ FlatComes own flat monos mono =
 abbrev pub StepComes : Within → FlatStepTree → List MonoTree → MonoTree → Type 0
 StepComes own step monos mono =
     (g : List Held) (vs : List Value) (at : ℕ) (locals : List ℕ) (next : ℕ) (h : Heap) (cs : List ℕ)
-    → HoldAll locals next g vs monos
-    → StandAt own.f.body at (emit_step own.instances g next at step).instrs
+    → ValuesAt locals next g vs monos
+    → InstrsAt own.f.body at (emit_step own.instances g next at step).instrs
     → (emit_step own.instances g next at step).next ≤ length locals
     → ComesTo (code own) (suc own.fuel) (Landing (base own) at locals next (emit_step own.instances g next at step) mono) (machine_at (here own h cs) at locals)
     (flat_step_outcome own.call vs step h cs)
@@ -79,7 +79,7 @@ LastComes own step monos mono =
     may_end step ≡ true
     → width mono ≡ own.f.result
     → (g : List Held) (vs : List Value) (at : ℕ) (locals : List ℕ) (next : ℕ) (h : Heap) (cs : List ℕ)
-    → HoldAll locals next g vs monos
-    → StandAt own.f.body at (emit_last own.instances g next at step).instrs
+    → ValuesAt locals next g vs monos
+    → InstrsAt own.f.body at (emit_last own.instances g next at step).instrs
     → (emit_last own.instances g next at step).next ≤ length locals
     → ComesTo (code own) (suc own.fuel) (Returns own.stack mono) (machine_at (here own h cs) at locals) (flat_step_outcome own.call vs step h cs)

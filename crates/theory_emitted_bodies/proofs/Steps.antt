@@ -18,28 +18,28 @@ use Rattle.theory_machine.proofs.Words.{length-with_words}
 use Rattle.theory_flat.specs.Reading.{value_in}
 use Rattle.theory_emission.specs.Terms.{Held, Emitted, emit_term}
 use Rattle.theory_emission.specs.Bodies.{allocated, read, written, released}
-use Rattle.theory_emitted_words.specs.Frames.{Around, machine_at, Leads, StandAt}
+use Rattle.theory_emitted_words.specs.Frames.{FrameSite, machine_at, Leads, InstrsAt}
 use Rattle.theory_emitted_words.proofs.Words.{one, before}
 use Rattle.theory_emitted_words.proofs.Words as words
 use Rattle.theory_emitted_words.proofs.Steps.{leads_one, leads_on, stand_first, stand_second, steps}
 use Rattle.theory_emitted_terms.specs.Layouts.{HasLayout, lays_loc, lays_unit}
 use Rattle.theory_flat_typed.specs.Typed.{HasMonotype}
-use Rattle.theory_emitted_terms.specs.Held.{Holds, HoldAll}
+use Rattle.theory_emitted_terms.specs.Held.{ValueAt, ValuesAt}
 use Rattle.theory_emitted_terms.proofs.Values.{typed_layout, layout_width}
 use Rattle.theory_emitted_terms.proofs.Terms.{emitted, two}
 use Rattle.theory_emitted_bodies.specs.Comes.{ComesTo}
 use Rattle.theory_emitted_bodies.proofs.Comes.{comes_ended, comes_asking, comes_wrong}
 
-abbrev pub around : Around → Heap → List ℕ → Around
+abbrev pub around : FrameSite → Heap → List ℕ → FrameSite
 around a h choices = record { code = a.code; number = a.number; heap = h; stack = a.stack; choices = choices }
 
 -- the frame goes on at this place, and holds the value
-pub record Lands (a : Around) (end : ℕ) (locals : List ℕ) (next limit place : ℕ) (mono : MonoTree) (v : Value) (h : Heap) (choices : List ℕ) (m : Machine) : Type 0 where
+pub record Lands (a : FrameSite) (end : ℕ) (locals : List ℕ) (next limit place : ℕ) (mono : MonoTree) (v : Value) (h : Heap) (choices : List ℕ) (m : Machine) : Type 0 where
   pub after : List ℕ
   pub there : m ≡ machine_at (around a h choices) end after
   pub keeps : take next after ≡ take next locals
   pub long : length after ≡ length locals
-  pub holds : Holds after limit place v mono
+  pub holds : ValueAt after limit place v mono
 
 nat_same : (n k : ℕ) → n ≡ k → nat_eq n k ≡ true
 nat_same n k q = grind (arith, nat_tests)
@@ -47,13 +47,13 @@ nat_same n k q = grind (arith, nat_tests)
 pub a_loc : {v : Value} → HasLayout v m_loc → (l : ℕ) × (v ≡ v_loc l)
 a_loc (lays_loc {n = n}) = (n, refl)
 
-pub last_stands : (body : List Instr) (at : ℕ) (front : List Instr) (i : Instr) → StandAt body at (front ++ i ∷ []) → slice_get body (at + length front) ≡ Some i
+pub last_stands : (body : List Instr) (at : ℕ) (front : List Instr) (i : Instr) → InstrsAt body at (front ++ i ∷ []) → slice_get body (at + length front) ≡ Some i
 last_stands body at front i stand = (stand_second body at front (i ∷ []) stand).0
 
 pub one_more : (at : ℕ) (front : List Instr) (i : Instr) → at + length front + 1 ≡ at + length (front ++ i ∷ [])
 one_more at front i = let r = length-append front (i ∷ []) in omega (arith, r)
 
-module _ (a : Around) (n : ℕ) (m : Machine) (Ends : Value → Heap → List ℕ → Machine → Type 0) (h : Heap) where
+module _ (a : FrameSite) (n : ℕ) (m : Machine) (Ends : Value → Heap → List ℕ → Machine → Type 0) (h : Heap) where
   -- a choice
   chosen : (cs : List ℕ) (v : Value) (go : ℕ → List ℕ → Machine)
       → Leads a.code m (with_choice h cs go)
@@ -97,7 +97,7 @@ module _ (a : Around) (n : ℕ) (m : Machine) (Ends : Value → Heap → List �
       by false q = comes_wrong
 
 -- the words of a value, written at a new place
-pub new_lands : (a : Around) {m : Machine} {locals : List ℕ} {next limit end last : ℕ} {v : Value} {mono : MonoTree} {h : Heap} {cs : List ℕ} (between : List ℕ) (d : ℕ) (ws : List ℕ)
+pub new_lands : (a : FrameSite) {m : Machine} {locals : List ℕ} {next limit end last : ℕ} {v : Value} {mono : MonoTree} {h : Heap} {cs : List ℕ} (between : List ℕ) (d : ℕ) (ws : List ℕ)
     → m ≡ machine_at (around a h cs) end (with_words between d ws)
     → take next between ≡ take next locals
     → length between ≡ length locals
@@ -118,7 +118,7 @@ new_lands a {next = next} {last = last} {mono = mono} {h = h} {cs = cs} between 
       holds = record { layout = layout; words = words.written between d ws (width mono) wide (omega (arith, within, long)) ∙ is; below = below };
     }
 
-module _ (a : Around) (n : ℕ) where
+module _ (a : FrameSite) (n : ℕ) where
   pub lands_new : {m : Machine} {locals : List ℕ} {next limit end last : ℕ} {v : Value} {mono : MonoTree} {h : Heap} {cs : List ℕ} (between : List ℕ) (d : ℕ) (ws : List ℕ)
       → Leads a.code m (machine_at (around a h cs) end (with_words between d ws))
       → take next between ≡ take next locals
@@ -151,14 +151,14 @@ module _ (a : Around) (n : ℕ) where
       })
 
 -- where the value of emitted steps stands
-abbrev pub Landing : Around → ℕ → List ℕ → ℕ → Emitted → MonoTree → Value → Heap → List ℕ → Machine → Type 0
+abbrev pub Landing : FrameSite → ℕ → List ℕ → ℕ → Emitted → MonoTree → Value → Heap → List ℕ → Machine → Type 0
 Landing a at locals next e mono = Lands a (at + length e.instrs) locals next e.next e.place mono
 
-module _ (a : Around) (f : Function) (there : slice_get a.code.functions a.number ≡ Some f) (g : List Held) (vs : List Value) (monos : List MonoTree) (n : ℕ)
-    (at : ℕ) (locals : List ℕ) (next : ℕ) (h : Heap) (cs : List ℕ) (hold : HoldAll locals next g vs monos) where
+module _ (a : FrameSite) (f : Function) (there : slice_get a.code.functions a.number ≡ Some f) (g : List Held) (vs : List Value) (monos : List MonoTree) (n : ℕ)
+    (at : ℕ) (locals : List ℕ) (next : ℕ) (h : Heap) (cs : List ℕ) (hold : ValuesAt locals next g vs monos) where
   pub alloc_comes : {value : TermTree} {mono : MonoTree}
       → HasMonotype monos value mono
-      → StandAt f.body at (allocated (emit_term g next value) (width mono)).instrs
+      → InstrsAt f.body at (allocated (emit_term g next value) (width mono)).instrs
       → (allocated (emit_term g next value) (width mono)).next ≤ length locals
       → ComesTo a.code n (Landing a at locals next (allocated (emit_term g next value) (width mono)) m_loc) (machine_at (around a h cs) at locals)
       (alloc_outcome (value_in vs value) h cs)
@@ -178,7 +178,7 @@ module _ (a : Around) (f : Function) (there : slice_get a.code.functions a.numbe
 
   pub get_comes : {place : TermTree} (mono : MonoTree)
       → HasMonotype monos place m_loc
-      → StandAt f.body at (read (emit_term g next place) (width mono)).instrs
+      → InstrsAt f.body at (read (emit_term g next place) (width mono)).instrs
       → (read (emit_term g next place) (width mono)).next ≤ length locals
       → ComesTo a.code n (Landing a at locals next (read (emit_term g next place) (width mono)) mono) (machine_at (around a h cs) at locals)
       (get_outcome mono (value_in vs place) h cs)
@@ -199,7 +199,7 @@ module _ (a : Around) (f : Function) (there : slice_get a.code.functions a.numbe
   pub set_comes : {place value : TermTree} {mono : MonoTree}
       → HasMonotype monos place m_loc
       → HasMonotype monos value mono
-      → StandAt f.body at (written (emit_term g next place) (emit_term g (emit_term g next place).next value) (width mono)).instrs
+      → InstrsAt f.body at (written (emit_term g next place) (emit_term g (emit_term g next place).next value) (width mono)).instrs
       → (written (emit_term g next place) (emit_term g (emit_term g next place).next value) (width mono)).next ≤ length locals
       → ComesTo a.code n (Landing a at locals next (written (emit_term g next place) (emit_term g (emit_term g next place).next value) (width mono)) m_unit)
       (machine_at (around a h cs) at locals) (set_outcome mono (value_in vs place) (value_in vs value) h cs)
@@ -225,7 +225,7 @@ module _ (a : Around) (f : Function) (there : slice_get a.code.functions a.numbe
 
   pub free_comes : {place : TermTree} (mono : MonoTree)
       → HasMonotype monos place m_loc
-      → StandAt f.body at (released (emit_term g next place) (width mono)).instrs
+      → InstrsAt f.body at (released (emit_term g next place) (width mono)).instrs
       → (released (emit_term g next place) (width mono)).next ≤ length locals
       → ComesTo a.code n (Landing a at locals next (released (emit_term g next place) (width mono)) m_unit) (machine_at (around a h cs) at locals)
       (free_outcome mono (value_in vs place) h cs)

@@ -13,15 +13,15 @@ use Rattle.theory_emitted_terms.specs.Layouts.{HasLayout, encodings}
 
 -- Where the outcome is an end, after some steps the machine is in a state for it. Where fuel runs out, the
 -- machine still goes on after at least n steps. Nothing is said where the outcome is wrong.
-abbrev pub Meets : Code → ℕ → (Value → Heap → List ℕ → Machine → Type 0) → Machine → Outcome → Type 0
-Meets code n Ends m (ended v h cs) = (steps : ℕ) × Ends v h cs (after_steps code m steps)
-Meets code n Ends m out_of_fuel = (steps : ℕ) × (n ≤ steps) × (IsOver (after_steps code m steps) → ⊥)
-Meets code n Ends m asking = (steps : ℕ) × (after_steps code m steps ≡ machine_asking)
-Meets code n Ends m wrong = Unit {0}
+abbrev pub Follows : Code → ℕ → (Value → Heap → List ℕ → Machine → Type 0) → Machine → Outcome → Type 0
+Follows code n Ends m (ended v h cs) = (steps : ℕ) × Ends v h cs (after_steps code m steps)
+Follows code n Ends m out_of_fuel = (steps : ℕ) × (n ≤ steps) × (IsOver (after_steps code m steps) → ⊥)
+Follows code n Ends m asking = (steps : ℕ) × (after_steps code m steps ≡ machine_asking)
+Follows code n Ends m wrong = Unit {0}
 
 pub record ComesTo (code : Code) (n : ℕ) (Ends : Value → Heap → List ℕ → Machine → Type 0) (m : Machine)
     (outcome : Outcome) : Type 0 where
-  pub meets : Meets code n Ends m outcome
+  pub follows : Follows code n Ends m outcome
 
 -- The words of a value of the monotype are returned to the stack.
 pub record Returns (stack : Stack) (mono : MonoTree) (v : Value) (h : Heap) (choices : List ℕ) (m : Machine) : Type 0 where
@@ -29,5 +29,5 @@ pub record Returns (stack : Stack) (mono : MonoTree) (v : Value) (h : Heap) (cho
   pub there : m ≡ returned h stack (encoding v) choices
 
 -- A frame that is just entered, with the words of these values as parameters.
-abbrev pub entered : ℕ → Function → List Value → Heap → Stack → List ℕ → Machine
-entered number f vs h stack choices = going h (with_top stack (entered_frame number f (encodings vs))) choices
+abbrev pub entered_for : ℕ → Function → List Value → Heap → Stack → List ℕ → Machine
+entered_for number f vs h stack choices = going h (with_top stack (entered_frame number f (encodings vs))) choices

@@ -4,29 +4,29 @@ use Rattle.word_loader_code.specs.declared.code.Function.{Function}
 use Rattle.word_loader_code.specs.declared.code.Instr.TheVariants.{Mov}
 use Rattle.word_loader_code.specs.Machine.{words_at, with_words}
 use Rattle.theory_emission.specs.Terms.{moves, width_of_parts}
-use Rattle.theory_emitted_words.specs.Frames.{Around, StandAt}
+use Rattle.theory_emitted_words.specs.Frames.{FrameSite, InstrsAt}
 use Rattle.theory_emitted_words.proofs.Words.{written, agree_less, agreeing, side_by_side}
 use Rattle.theory_emitted_words.proofs.Steps.{steps}
-use Rattle.theory_emitted_terms.specs.Held.{HoldParts, part_none, part_more, Goes}
+use Rattle.theory_emitted_terms.specs.Held.{PartsAt, parts_none, parts_more, Goes}
 use Rattle.theory_emitted_terms.proofs.Held.{goes_none, goes_on, goes_to, goes_writing}
 
-pub record Moved (a : Around) (at : ℕ) (locals : List ℕ) (d : ℕ) (parts : List (ℕ × ℕ)) (words : List ℕ) : Type 0 where
+pub record Moved (a : FrameSite) (at : ℕ) (locals : List ℕ) (d : ℕ) (parts : List (ℕ × ℕ)) (words : List ℕ) : Type 0 where
   pub after : List ℕ
   pub goes : Goes a at locals d (at + length (moves d parts)) after
   pub holds : words_at after d (width_of_parts parts) ≡ words
 
-module _ (a : Around) (f : Function) (there : slice_get a.code.functions a.number ≡ Some f) (old : List ℕ) (next : ℕ) where
+module _ (a : FrameSite) (f : Function) (there : slice_get a.code.functions a.number ≡ Some f) (old : List ℕ) (next : ℕ) where
   -- from locals that agree with the old ones below the next free local
   pub moved : {parts : List (ℕ × ℕ)} {words : List ℕ}
-      → HoldParts old next parts words
+      → PartsAt old next parts words
       → (at d : ℕ) (locals : List ℕ)
       → take next locals ≡ take next old
       → next ≤ d
       → d + width_of_parts parts ≤ length locals
-      → StandAt f.body at (moves d parts)
+      → InstrsAt f.body at (moves d parts)
       → Moved a at locals d parts words
-  moved part_none at d locals same less within stand = record { after = locals; goes = goes_none (omega arith); holds = refl }
-  moved (part_more {part = part} {words = ws} {parts = parts} q n b p) at d locals same less within stand =
+  moved parts_none at d locals same less within stand = record { after = locals; goes = goes_none (omega arith); holds = refl }
+  moved (parts_more {part = part} {words = ws} {parts = parts} q n b p) at d locals same less within stand =
       let ms = words_at locals (part.0) (part.1) in
       let are : ms ≡ ws = agreeing old locals next (part.0) (part.1) same b ∙ q in
       let long : length ms ≡ part.1 = ap length are ∙ n in

@@ -13,12 +13,12 @@ use Rattle.word_loader_code.specs.Valid.{not_number}
 use Rattle.theory_flat.specs.Reading.{value_in}
 use Rattle.theory_emission.specs.Terms.{Held, mono_of_term, width_of_term, first_of_pair, second_of_pair, number_of_op, eq_number, emit_term, emit_terms, Emitted, constant}
 use Rattle.theory_emission.specs.Terms.{moves, width_of_parts, operation, paired}
-use Rattle.theory_emitted_words.specs.Frames.{Around, StandAt}
+use Rattle.theory_emitted_words.specs.Frames.{FrameSite, InstrsAt}
 use Rattle.theory_emitted_words.proofs.Steps.{stand_first, stand_second, steps}
 use Rattle.theory_emitted_terms.specs.Layouts.{HasLayout, lays_word, lays_bool, lays_loc, lays_unit, lays_pair, lay_none, lay_more}
 use Rattle.theory_flat_typed.specs.Typed.{HasMonotype, typed_var, typed_word, typed_bool, typed_loc, typed_unit, typed_pair, typed_fst, typed_snd, typed_not, typed_bin, typed_eq}
 use Rattle.theory_flat_typed.specs.Typed.{typed_sel, HaveMonotypes, typed_none, typed_more}
-use Rattle.theory_emitted_terms.specs.Held.{Holds, HoldAll, HoldParts, part_none, part_more, Brings, BringsAll}
+use Rattle.theory_emitted_terms.specs.Held.{ValueAt, ValuesAt, PartsAt, parts_none, parts_more, Brings, BringsAll}
 use Rattle.theory_emitted_terms.specs.Laws.{TermsAreEmitted}
 use Rattle.theory_emitted_terms.proofs.Values.{typed_layout, layout_width, Computed, op_wide, op_done, eq_done, not_done, sel_done}
 use Rattle.theory_emitted_terms.proofs.Held.{hold_on, hold_all_on, found, found_mono, first_part, second_part, goes_none, goes_on, goes_to, end_of, at_new, Both, both}
@@ -50,7 +50,7 @@ all_grow (typed_more {term = term} p r) g next = omega (arith, grows p g next, a
 
 -- emission finds the monotype
 pub finds : {locals : List ℕ} {next : ℕ} {g : List Held} {vs : List Value} {monos : List MonoTree} {term : TermTree} {mono : MonoTree}
-    → HoldAll locals next g vs monos
+    → ValuesAt locals next g vs monos
     → HasMonotype monos term mono
     → mono_of_term g term ≡ mono
 finds h (typed_var {index = index} q) = found_mono h index q
@@ -66,17 +66,17 @@ finds h (typed_bin p q) = refl
 finds h (typed_eq c p q) = refl
 finds h (typed_sel k p q r) = refl
 
-module _ (a : Around) (f : Function) (there : slice_get a.code.functions a.number ≡ Some f) (g : List Held) (vs : List Value) (monos : List MonoTree) where
+module _ (a : FrameSite) (f : Function) (there : slice_get a.code.functions a.number ≡ Some f) (g : List Held) (vs : List Value) (monos : List MonoTree) where
   -- the code of a term of the monotype brings its value
   abbrev Emits : TermTree → MonoTree → Type 0
   Emits term mono =
       (at : ℕ) (locals : List ℕ) (next : ℕ)
-      → HoldAll locals next g vs monos
-      → StandAt f.body at (emit_term g next term).instrs
+      → ValuesAt locals next g vs monos
+      → InstrsAt f.body at (emit_term g next term).instrs
       → (emit_term g next term).next ≤ length locals
       → Brings a at locals next (emit_term g next term) (value_in vs term) mono
 
-  last_stands : (at : ℕ) (front : List Instr) (i : Instr) → StandAt f.body at (front ++ i ∷ []) → slice_get f.body (at + length front) ≡ Some i
+  last_stands : (at : ℕ) (front : List Instr) (i : Instr) → InstrsAt f.body at (front ++ i ∷ []) → slice_get f.body (at + length front) ≡ Some i
   last_stands at front i stand = (stand_second f.body at front (i ∷ []) stand).0
 
   brings_constant : {v : Value} {mono : MonoTree} (word : ℕ)
@@ -84,7 +84,7 @@ module _ (a : Around) (f : Function) (there : slice_get a.code.functions a.numbe
       → word ∷ [] ≡ encoding v
       → width mono ≡ 1
       → (at : ℕ) (locals : List ℕ) (next : ℕ)
-      → StandAt f.body at (Const next word ∷ [])
+      → InstrsAt f.body at (Const next word ∷ [])
       → next + 1 ≤ length locals
       → Brings a at locals next (constant next word) v mono
   brings_constant word layout is wide at locals next stand within =
@@ -96,8 +96,8 @@ module _ (a : Around) (f : Function) (there : slice_get a.code.functions a.numbe
       → Emits left t
       → Emits right u
       → (at : ℕ) (locals : List ℕ) (next : ℕ)
-      → HoldAll locals next g vs monos
-      → StandAt f.body at ((emit_term g next left).instrs ++ (emit_term g (emit_term g next left).next right).instrs)
+      → ValuesAt locals next g vs monos
+      → InstrsAt f.body at ((emit_term g next left).instrs ++ (emit_term g (emit_term g next left).next right).instrs)
       → (emit_term g (emit_term g next left).next right).next ≤ length locals
       → Both a at locals next (emit_term g next left) (emit_term g (emit_term g next left).next right) (value_in vs left) (value_in vs right) t u
   two left right q l r at locals next h stand within =
@@ -112,7 +112,7 @@ module _ (a : Around) (f : Function) (there : slice_get a.code.functions a.numbe
       → (b : Both a at locals next ea eb x y t u)
       → Computed (operation_result number (local_at b.after ea.place) (local_at b.after eb.place)) v mono
       → width mono ≡ 1
-      → StandAt f.body at (operation number ea eb).instrs
+      → InstrsAt f.body at (operation number ea eb).instrs
       → eb.next + 1 ≤ length locals
       → Brings a at locals next (operation number ea eb) v mono
   brings_computed {at = at} number ea eb b c wide stand within =
@@ -125,16 +125,16 @@ module _ (a : Around) (f : Function) (there : slice_get a.code.functions a.numbe
       → Both a at locals next ea eb x y t u
       → m ≡ width t
       → n ≡ width u
-      → StandAt f.body at (paired ea m eb n).instrs
+      → InstrsAt f.body at (paired ea m eb n).instrs
       → eb.next + (m + n) ≤ length locals
       → Brings a at locals next (paired ea m eb n) (v_pair x y) (m_pair t u)
   brings_pair {at = at} {x = x} {y = y} {t = t} {u = u} ea eb m n b left right stand within =
       let parts : List (ℕ × ℕ) = (ea.place, m) ∷ (eb.place, n) ∷ [] in
       let front = ea.instrs ++ eb.instrs in
-      let held : HoldParts b.after eb.next parts (encoding x ++ (encoding y ++ [])) =
-      part_more (ap (λ k. words_at b.after ea.place k) left ∙ b.left.words) (layout_width b.left.layout ∙ sym left) (omega (arith, left, b.left.below))
-      (part_more (ap (λ k. words_at b.after eb.place k) right ∙ b.right.words) (layout_width b.right.layout ∙ sym right)
-      (omega (arith, right, b.right.below)) part_none) in
+      let held : PartsAt b.after eb.next parts (encoding x ++ (encoding y ++ [])) =
+      parts_more (ap (λ k. words_at b.after ea.place k) left ∙ b.left.words) (layout_width b.left.layout ∙ sym left) (omega (arith, left, b.left.below))
+      (parts_more (ap (λ k. words_at b.after eb.place k) right ∙ b.right.words) (layout_width b.right.layout ∙ sym right)
+      (omega (arith, right, b.right.below)) parts_none) in
       let wide : width_of_parts parts ≡ width t + width u = omega (arith, left, right) in
       let r =
       moved a f there b.after eb.next held (at + length front) eb.next b.after refl (omega arith) (omega (arith, within, b.goes.long))
@@ -187,7 +187,7 @@ module _ (a : Around) (f : Function) (there : slice_get a.code.functions a.numbe
       record {
         after = r.after;
         goes = r.goes;
-        holds = subst (λ n. Holds r.after e.next (e.place + n) (value_in vs (t_snd pair)) u) wide
+        holds = subst (λ n. ValueAt r.after e.next (e.place + n) (value_in vs (t_snd pair)) u) wide
             (second_part r.holds.layout r.after e.next e.place r.holds.words r.holds.below);
         grows = r.grows;
       }
@@ -237,13 +237,13 @@ module _ (a : Around) (f : Function) (there : slice_get a.code.functions a.numbe
   pub emitted_all : {terms : List TermTree} {params : List MonoTree}
       → HaveMonotypes monos terms params
       → (at : ℕ) (locals : List ℕ) (next : ℕ)
-      → HoldAll locals next g vs monos
-      → StandAt f.body at (emit_terms g next terms).instrs
+      → ValuesAt locals next g vs monos
+      → InstrsAt f.body at (emit_terms g next terms).instrs
       → (emit_terms g next terms).next ≤ length locals
       → BringsAll a at locals next (emit_terms g next terms) (map (value_in vs) terms) params
   unfolding emit_terms
   emitted_all typed_none at locals next h stand within =
-      record { after = locals; goes = goes_none (omega arith); layouts = lay_none; parts = part_none; widths = refl; grows = omega arith }
+      record { after = locals; goes = goes_none (omega arith); layouts = lay_none; parts = parts_none; widths = refl; grows = omega arith }
   emitted_all (typed_more {term = term} {others = terms} {t = mono} p r) at locals next h stand within =
       let e = emit_term g next term in
       let es = emit_terms g e.next terms in
@@ -258,7 +258,7 @@ module _ (a : Around) (f : Function) (there : slice_get a.code.functions a.numbe
         after = rest.after;
         goes = goes_to (end_of at e.instrs es.instrs) (goes_on first.goes rest.goes first.grows);
         layouts = lay_more first.holds.layout rest.layouts;
-        parts = part_more (ap (λ k. words_at rest.after e.place k) wide ∙ here.words) (layout_width here.layout ∙ sym wide)
+        parts = parts_more (ap (λ k. words_at rest.after e.place k) wide ∙ here.words) (layout_width here.layout ∙ sym wide)
             (omega (arith, wide, here.below)) rest.parts;
         widths = λ j. wide j + rest.widths j;
         grows = omega (arith, first.grows, rest.grows);

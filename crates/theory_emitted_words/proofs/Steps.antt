@@ -9,7 +9,7 @@ use Rattle.word_loader_code.specs.declared.code.Instr.TheVariants.{Const, Mov, O
 use Rattle.word_loader_code.specs.Machine.{Frame, Stack, bottom, above, with_top, Machine, going, asking, called, replaced, returned, effect, step, after_steps}
 use Rattle.word_loader_code.specs.Machine.{local_at, words_at, with_words, operation_result, entered_frame, with_choice, at_block}
 use Rattle.theory_machine.proofs.Fitting.{step-at}
-use Rattle.theory_emitted_words.specs.Frames.{Around, frame_at, machine_at, Leads, StandAt}
+use Rattle.theory_emitted_words.specs.Frames.{FrameSite, frame_at, machine_at, Leads, InstrsAt}
 
 -- steps after steps
 pub more_steps : (code : Code) (m : Machine) (n k : ℕ) → after_steps code (after_steps code m n) k ≡ after_steps code m (n + k)
@@ -30,46 +30,46 @@ leads_on {code = code} {m = m} p q =
     record { steps = p.steps + q.steps; there = sym (more_steps code m p.steps q.steps) ∙ ap (λ x. after_steps code x q.steps) p.there ∙ q.there }
 
 -- another number for the place at which the frame goes on
-pub leads_to : (a : Around) (m : Machine) (next other : ℕ) (locals : List ℕ)
+pub leads_to : (a : FrameSite) (m : Machine) (next other : ℕ) (locals : List ℕ)
     → next ≡ other
     → Leads a.code m (machine_at a next locals)
     → Leads a.code m (machine_at a other locals)
 leads_to a m next other locals q l = subst (λ n. Leads a.code m (machine_at a n locals)) q l
 
 -- the first and the second part of instructions that stand somewhere
-pub stand_first : (body : List Instr) (at : ℕ) (xs ys : List Instr) → StandAt body at (xs ++ ys) → StandAt body at xs
+pub stand_first : (body : List Instr) (at : ℕ) (xs ys : List Instr) → InstrsAt body at (xs ++ ys) → InstrsAt body at xs
 stand_first body at [] ys s = tt
 stand_first body at (x ∷ xs) ys s = (s.0, stand_first body (at + 1) xs ys s.1)
 
-pub stand_second : (body : List Instr) (at : ℕ) (xs ys : List Instr) → StandAt body at (xs ++ ys) → StandAt body (at + length xs) ys
-stand_second body at [] ys s = let q : at ≡ at + 0 = omega arith in subst (λ n. StandAt body n ys) q s
+pub stand_second : (body : List Instr) (at : ℕ) (xs ys : List Instr) → InstrsAt body at (xs ++ ys) → InstrsAt body (at + length xs) ys
+stand_second body at [] ys s = let q : at ≡ at + 0 = omega arith in subst (λ n. InstrsAt body n ys) q s
 stand_second body at (x ∷ xs) ys s =
-    let q : at + 1 + length xs ≡ at + suc (length xs) = omega arith in subst (λ n. StandAt body n ys) q (stand_second body (at + 1) xs ys s.1)
+    let q : at + 1 + length xs ≡ at + suc (length xs) = omega arith in subst (λ n. InstrsAt body n ys) q (stand_second body (at + 1) xs ys s.1)
 
 -- a body stands at its own start: in a body with instructions before them
-before_stands : (body : List Instr) (x : Instr) (at : ℕ) (xs : List Instr) → StandAt body at xs → StandAt (x ∷ body) (suc at) xs
+before_stands : (body : List Instr) (x : Instr) (at : ℕ) (xs : List Instr) → InstrsAt body at xs → InstrsAt (x ∷ body) (suc at) xs
 before_stands body x at [] s = tt
 before_stands body x at (y ∷ xs) s =
-    let q : suc (at + 1) ≡ suc at + 1 = omega arith in (s.0, subst (λ n. StandAt (x ∷ body) n xs) q (before_stands body x (at + 1) xs s.1))
+    let q : suc (at + 1) ≡ suc at + 1 = omega arith in (s.0, subst (λ n. InstrsAt (x ∷ body) n xs) q (before_stands body x (at + 1) xs s.1))
 
-pub stands_itself : (body : List Instr) → StandAt body 0 body
+pub stands_itself : (body : List Instr) → InstrsAt body 0 body
 stands_itself [] = tt
-stands_itself (x ∷ body) = let q : suc 0 ≡ 0 + 1 = omega arith in (refl, subst (λ n. StandAt (x ∷ body) n body) q (before_stands body x 0 body (stands_itself body)))
+stands_itself (x ∷ body) = let q : suc 0 ≡ 0 + 1 = omega arith in (refl, subst (λ n. InstrsAt (x ∷ body) n body) q (before_stands body x 0 body (stands_itself body)))
 
 -- a call and a tail call from a frame, with the parameters from a place on
-abbrev pub called_from : Around → ℕ → List ℕ → Option Function → ℕ → ℕ → ℕ → Machine
+abbrev pub called_from : FrameSite → ℕ → List ℕ → Option Function → ℕ → ℕ → ℕ → Machine
 called_from a next locals None g from d = asking
 called_from a next locals (Some f) g from d =
     going a.heap
     (above (entered_frame g f (words_at locals from f.params)) d (with_top a.stack (frame_at a next locals))) a.choices
 
-abbrev pub replaced_by : Around → List ℕ → Option Function → ℕ → ℕ → Machine
+abbrev pub replaced_by : FrameSite → List ℕ → Option Function → ℕ → ℕ → Machine
 replaced_by a locals None g from = asking
 replaced_by a locals (Some f) g from =
     going a.heap (with_top a.stack (entered_frame g f (words_at locals from f.params))) a.choices
 
 -- what an instruction of the function f comes to in the top frame, by the table of instructions
-abbrev pub done_by : Around → Function → ℕ → List ℕ → Instr → Machine
+abbrev pub done_by : FrameSite → Function → ℕ → List ℕ → Instr → Machine
 done_by a f next locals (Const d v) = machine_at a (next + 1) (with_words locals d (v ∷ []))
 done_by a f next locals (Mov d s n) = machine_at a (next + 1) (with_words locals d (words_at locals s n))
 done_by a f next locals (Op d o x y) =
@@ -98,7 +98,7 @@ done_by a f next locals (Ret s) = returned a.heap a.stack (words_at locals s f.r
 done_by a f next locals (Tail g from) = replaced_by a locals (slice_get a.code.functions g) g from
 
 module _ (code : Code) (f : Function) (number : ℕ) (h : Heap) (choices : List ℕ) (next : ℕ) (locals : List ℕ) where
-  abbrev around : Stack → Around
+  abbrev around : Stack → FrameSite
   around s = record { code = code; number = number; heap = h; stack = s; choices = choices }
 
   called_is : (s : Stack) (o : Option Function) (g from d : ℕ)
@@ -152,12 +152,12 @@ module _ (code : Code) (f : Function) (number : ℕ) (h : Heap) (choices : List 
   returned_is (bottom old) callee d words = refl
   returned_is (above old e below) callee d words = refl
 
-pub steps : (a : Around) (f : Function) (next : ℕ) (locals : List ℕ) (i : Instr)
+pub steps : (a : FrameSite) (f : Function) (next : ℕ) (locals : List ℕ) (i : Instr)
     → slice_get a.code.functions a.number ≡ Some f
     → slice_get f.body next ≡ Some i
     → step a.code (machine_at a next locals) ≡ done_by a f next locals i
 steps a f next locals i there q = step_is a.code f a.number a.heap a.choices next locals a.stack i there q
 
-pub returns : (a : Around) (callee : Frame) (d next : ℕ) (locals words : List ℕ)
+pub returns : (a : FrameSite) (callee : Frame) (d next : ℕ) (locals words : List ℕ)
     → returned a.heap (above callee d (with_top a.stack (frame_at a next locals))) words a.choices ≡ machine_at a next (with_words locals d words)
 returns a callee d next locals words = returned_is a.code (record { params = 0; locals = 0; result = 0; body = [] }) a.number a.heap a.choices next locals a.stack callee d words

@@ -7,18 +7,18 @@ use Rattle.word_loader_code.specs.Machine.{Frame, Stack, with_top, Machine, goin
 
 -- What stands around the locals of the top frame: the code, the number of the frame's function, the heap, the
 -- stack, whose own top frame doesn't count, and the choices that are left.
-pub record Around : Type 0 where
+pub record FrameSite : Type 0 where
   pub code : Code
   pub number : ℕ
   pub heap : Heap
   pub stack : Stack
   pub choices : List ℕ
 
-abbrev pub frame_at : Around → ℕ → List ℕ → Frame
+abbrev pub frame_at : FrameSite → ℕ → List ℕ → Frame
 frame_at a next locals = record { function = a.number; next = next; locals = locals }
 
 -- The machine whose top frame goes on at a place of its body, with these locals.
-abbrev pub machine_at : Around → ℕ → List ℕ → Machine
+abbrev pub machine_at : FrameSite → ℕ → List ℕ → Machine
 machine_at a next locals = going a.heap (with_top a.stack (frame_at a next locals)) a.choices
 
 -- After some number of steps the one machine is the other.
@@ -27,6 +27,6 @@ pub record Leads (code : Code) (before after : Machine) : Type 0 where
   pub there : after_steps code before steps ≡ after
 
 -- The instructions stand in a body from a place on.
-abbrev pub StandAt : List Instr → ℕ → List Instr → Type 0
-StandAt body at [] = Unit {0}
-StandAt body at (i ∷ others) = (slice_get body at ≡ Some i) × StandAt body (at + 1) others
+abbrev pub InstrsAt : List Instr → ℕ → List Instr → Type 0
+InstrsAt body at [] = Unit {0}
+InstrsAt body at (i ∷ others) = (slice_get body at ≡ Some i) × InstrsAt body (at + 1) others
