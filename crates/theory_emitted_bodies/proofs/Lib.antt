@@ -1,0 +1,9 @@
+pub mod Grows
+pub mod Comes
+pub mod Entry
+pub mod Steps
+pub mod Endings
+pub mod Frames
+pub mod Calls
+pub mod Branches
+pub mod Bodies
