@@ -41,12 +41,12 @@ pub record Goes (a : FrameSite) (at : ℕ) (locals : List ℕ) (next end : ℕ) 
   pub long : length after ≡ length locals
 
 -- From the first instruction the frame goes on behind the last one, with the value at the place.
-pub record Brings (a : FrameSite) (at : ℕ) (locals : List ℕ) (next : ℕ) (e : Emitted) (v : Value) (mono : MonoTree) : Type 0
-  where
-    pub after : List ℕ
-    pub goes : Goes a at locals next (at + length e.instrs) after
-    pub holds : ValueAt after e.next e.place v mono
-    pub grows : next ≤ e.next
+pub record Brings (a : FrameSite) (at : ℕ) (locals : List ℕ) (next : ℕ) (e : Emitted) (v : Value)
+    (mono : MonoTree) : Type 0 where
+  pub after : List ℕ
+  pub goes : Goes a at locals next (at + length e.instrs) after
+  pub holds : ValueAt after e.next e.place v mono
+  pub grows : next ≤ e.next
 
 pub record BringsAll (a : FrameSite) (at : ℕ) (locals : List ℕ) (next : ℕ) (e : EmittedTerms) (vs : List Value)
     (monos : List MonoTree) : Type 0 where
