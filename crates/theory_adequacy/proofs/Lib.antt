@@ -1,0 +1,5 @@
+pub mod Fuel
+pub mod Reindexed
+pub mod Matching
+pub mod Recursions
+pub mod Valued

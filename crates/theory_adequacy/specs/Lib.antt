@@ -1,0 +1,2 @@
+pub mod Adequacy
+pub mod Laws
