@@ -3,3 +3,4 @@ pub mod Reindexed
 pub mod Matching
 pub mod Recursions
 pub mod Valued
+pub mod Examples

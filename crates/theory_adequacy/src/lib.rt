@@ -3,6 +3,7 @@
 //! round, and has no bound on fuel. A function without a body states a law by its contract.
 #![tactic(auto)]
 
+ghost use Rattle.theory_adequacy.specs.Examples.{WorkedExamples};
 ghost use Rattle.theory_adequacy.specs.Laws.{RealisationReindexes, RecursionIsRealised};
 
 /// Renaming and substitution in a type are reindexing of the valuation, and positions say nothing.
@@ -13,4 +14,9 @@ pub fn realisation_reindexes()
 /// A recursive function of the text realises what the recursion denotes.
 pub fn recursion_is_realised()
     ensures law { RecursionIsRealised }
+{}
+
+/// Values of the text that realise denotations, and some that don't.
+pub fn worked_examples()
+    ensures law { WorkedExamples }
 {}

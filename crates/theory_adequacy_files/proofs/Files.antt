@@ -17,7 +17,7 @@ use Rattle.theory_denotation.specs.Laws.{run_result}
 use Rattle.theory_denotation_heads.proofs.Files.{denote}
 use Rattle.theory_meaning_simulation.specs.Simulation.{AlikeOutcomes, Does, ValDoes}
 use Rattle.theory_meaning_simulation.proofs.Results.{alike_with}
-use Rattle.theory_file_derived.specs.Derived.{texts_of}
+use Rattle.theory_file_derived.specs.Derived.{val_terms, def_terms, texts_of}
 use Rattle.theory_instances.specs.Calls.{ProgramVal}
 use Rattle.theory_extraction.specs.Extraction.{HasVals}
 use Rattle.theory_adequacy.specs.Adequacy.{EventuallyGives, Reaches, Realises, ValRealises}
@@ -25,7 +25,7 @@ use Rattle.theory_adequacy.proofs.Fuel.{reaches_with, reaches_then, reaches_end}
 use Rattle.theory_adequacy_terms.proofs.Same.{same_outcomes}
 use Rattle.theory_adequacy_files.specs.Laws.{trees_of, entries_of, FilesAreAdequate}
 use Rattle.theory_adequacy_files.proofs.Growing.{nothing_holds}
-use Rattle.theory_adequacy_files.proofs.Values.{are_vals, ValHolds, values_hold}
+use Rattle.theory_adequacy_files.proofs.Values.{continues_all, are_vals, ValHolds, values_hold}
 
 -- a run and then its result is the run
 alike_end : (t : MonoTree) (r : RunResult) (o : Outcome) → AlikeOutcomes t r o → AlikeOutcomes t (then_run r (λ v k ds. done v k ds)) o
@@ -83,7 +83,8 @@ file_values : (items : List ItemTree) (vals : List ProgramVal)
 file_values items vals d number v q =
     subst (λ n. ValHolds (texts_of items) (entries_of vals) n v) (omega arith)
     (values_hold (texts_of items) (trees_of vals) (entries_of vals) (denote (trees_of vals) (are_vals d items_keep_sound.empty)) d
-    (nothing_holds (texts_of items) (entries_of vals)) refl refl refl number v q)
+    (nothing_holds (texts_of items) (entries_of vals)) (continues_all (trees_of vals)) (continues_all (val_terms items))
+    (continues_all (def_terms items)) number v q)
 
 running_is : (e : HeadEntries) (number : ℕ) (v : ProgramVal) (ty : TyTree) (spec : TripleTree)
     → ty ≡ y_hoare spec

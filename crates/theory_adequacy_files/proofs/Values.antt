@@ -19,31 +19,29 @@ use Rattle.theory_denotation_relations.specs.Files.{AreVals, vals_end, vals_more
 use Rattle.theory_logic_unfoldings_satisfied.proofs.Bodies.{ends_run}
 use Rattle.theory_meaning_simulation.specs.Simulation.{ValDoes}
 use Rattle.theory_file_derived.specs.Derived.{val_terms, def_terms}
-use Rattle.theory_file_sound.proofs.Holding.{Follows, EntriesDenote}
 use Rattle.theory_instances.specs.Calls.{ProgramVal}
 use Rattle.theory_extraction.specs.Extraction.{HasVals, vals_none, vals_next}
 use Rattle.theory_adequacy.specs.Adequacy.{ValRealises}
 use Rattle.theory_adequacy_files.specs.Laws.{trees_of}
 use Rattle.theory_adequacy_files.proofs.Growing.{Holding, val_holds, def_holds, rec_holds}
 
-follows_get : {A : Type 0} (whole : List A) (k : ℕ) (x : A) (rest : List A) → Follows whole k (x ∷ rest) → slice_get whole k ≡ Some x
-follows_get whole zero x rest f = ap (λ l. slice_get l zero) f
-follows_get [] (suc k) x rest f = absurd f
-follows_get (y ∷ whole) (suc k) x rest f = follows_get whole k x rest f
+-- The second list stands in the first from this number on.
+abbrev pub Continues : {A : Type 0} → List A → ℕ → List A → Type 0
+Continues {A = A} whole k rest = (n : ℕ) (x : A) → slice_get rest n ≡ Some x → slice_get whole (k + n) ≡ Some x
 
-rest_of : {A : Type 0} (whole : List A) (x : A) (rest : List A) → whole ≡ x ∷ rest → Follows whole (suc zero) rest
-rest_of [] x rest q = cc
-rest_of (y ∷ whole) x rest q = cc
+pub continues_all : {A : Type 0} (whole : List A) → Continues whole zero whole
+continues_all whole n x q = subst (λ m. slice_get whole m ≡ Some x) (omega arith) q
 
-follows_next : {A : Type 0} (whole : List A) (k : ℕ) (x : A) (rest : List A) → Follows whole k (x ∷ rest) → Follows whole (suc k) rest
-follows_next whole zero x rest f = rest_of whole x rest f
-follows_next [] (suc k) x rest f = absurd f
-follows_next (y ∷ whole) (suc k) x rest f = follows_next whole k x rest f
+first_of_rest : {A : Type 0} (whole : List A) (k : ℕ) (x : A) (rest : List A) → Continues whole k (x ∷ rest) → slice_get whole k ≡ Some x
+first_of_rest whole k x rest c = subst (λ m. slice_get whole m ≡ Some x) (omega arith) (c zero x refl)
 
-follows_more : {A B : Type 0} (whole : List A) (known : List B) (y : B) (x : A) (rest : List A)
-    → Follows whole (length known) (x ∷ rest)
-    → Follows whole (length (known ++ y ∷ [])) rest
-follows_more whole known y x rest f = subst (λ (n : ℕ). Follows whole n rest) (sym (more_length known y)) (follows_next whole (length known) x rest f)
+further : {A : Type 0} (known : List A) (x : A) (n : ℕ) → length known + suc n ≡ length (known ++ x ∷ []) + n
+further known x n = let q = more_length known x in omega (arith, q)
+
+continues_next : {A B : Type 0} (whole : List A) (known : List B) (y : B) (x : A) (rest : List A)
+    → Continues whole (length known) (x ∷ rest)
+    → Continues whole (length (known ++ y ∷ [])) rest
+continues_next whole known y x rest c n z q = subst (λ m. slice_get whole m ≡ Some z) (further known y n) (c (suc n) z q)
 
 -- the canonical terms of the values are canonical, each under those before it
 pub are_vals : {env : Environment} {items : List ItemTree} {vals : List ProgramVal}
@@ -72,46 +70,42 @@ at_end : {A : Type 0} (xs : List A) (x : A) → slice_get (xs ++ x ∷ []) (leng
 at_end [] x = refl
 at_end (y ∷ xs) x = at_end xs x
 
-further : {A : Type 0} (known : List A) (x : A) (n : ℕ) → length (known ++ x ∷ []) + n ≡ length known + suc n
-further known x n = let q = more_length known x in omega (arith, q)
-
-module _ (texts : Items) (vs : List ValTree) (e : HeadEntries) (entries : EntriesDenote vs e) where
+module _ (texts : Items) (vs : List ValTree) (e : HeadEntries)
+    (entries : (n : ℕ) (v : ValTree) → slice_get vs n ≡ Some v → e.vals n ≡ den_term v.skeleton (term_den e [] v.term v.skeleton)) where
   -- each of the values, counted from those before
   pub values_hold : {env : Environment} {items : List ItemTree} {vals : List ProgramVal}
       → HasVals env items vals
       → Holding texts env e
-      → Follows vs (length env.vals) (trees_of vals)
-      → Follows texts.vals (length env.vals) (val_terms items)
-      → Follows texts.defs (length env.defs) (def_terms items)
+      → Continues vs (length env.vals) (trees_of vals)
+      → Continues texts.vals (length env.vals) (val_terms items)
+      → Continues texts.defs (length env.defs) (def_terms items)
       → (n : ℕ) (v : ProgramVal)
       → slice_get vals n ≡ Some v
       → ValHolds texts e (length env.vals + n) v
   values_hold vals_none h f a t n v q = absurd (no_element q)
-  values_hold (vals_next {env = env} {items = items} {vals = vals} (derives_val {ty = ty} {ty' = ty'} {term = term} {term' = term'} d ends b) rest)
-      h f a t zero v q =
+  values_hold (vals_next {env = env} {items = items} {vals = vals} (derives_val {ty' = ty'} {term = term} {term' = term'} d ends b) rest) h f a t zero v q =
       let value : ProgramVal = record { ty = ty'; term = term' } in
       let tree : ValTree = record { term = term'; skeleton = skeleton ty' } in
       let at = length env.vals in
-      let is = entries at tree (follows_get vs at tree (trees_of vals) f) in
-      let next = val_holds texts env e h d ends b (follows_get texts.vals at term (val_terms items) a) is in
+      let is = entries at tree (first_of_rest vs at tree (trees_of vals) f) in
+      let next = val_holds texts env e h d ends b (first_of_rest texts.vals at term (val_terms items) a) is in
       subst (λ x. ValHolds texts e (at + zero) x) (same_Some value v q)
       (subst (λ m. ValHolds texts e m value) (omega arith) (record {
         does = next.does.vals at ty' (at_end env.vals ty');
         realises = next.realise.vals at ty' (at_end env.vals ty');
         denotes = is;
       }))
-  values_hold (vals_next {env = env} {items = items} {vals = vals} (derives_val {ty = ty} {ty' = ty'} {term = term} {term' = term'} d ends b) rest)
-      h f a t (suc n) v q =
+  values_hold (vals_next {env = env} {items = items} {vals = vals} (derives_val {ty' = ty'} {term = term} {term' = term'} d ends b) rest) h f a t (suc n) v q =
       let tree : ValTree = record { term = term'; skeleton = skeleton ty' } in
       let at = length env.vals in
-      let is = entries at tree (follows_get vs at tree (trees_of vals) f) in
-      let next = val_holds texts env e h d ends b (follows_get texts.vals at term (val_terms items) a) is in
-      subst (λ m. ValHolds texts e m v) (further env.vals ty' n)
-      (values_hold rest next (follows_more vs env.vals ty' tree (trees_of vals) f) (follows_more texts.vals env.vals ty' term (val_terms items) a)
-      t n v q)
-  values_hold (vals_next {env = env} {items = items} (derives_def {ty = ty} {ty' = ty'} {term = term} {term' = term'} d b) rest) h f a t n v q =
-      values_hold rest (def_holds texts env e h d b (follows_get texts.defs (length env.defs) term (def_terms items) t)) f a
-      (follows_more texts.defs env.defs (ty', term') term (def_terms items) t) n v q
+      let is = entries at tree (first_of_rest vs at tree (trees_of vals) f) in
+      let next = val_holds texts env e h d ends b (first_of_rest texts.vals at term (val_terms items) a) is in
+      subst (λ m. ValHolds texts e m v) (sym (further env.vals ty' n))
+      (values_hold rest next (continues_next vs env.vals ty' tree (trees_of vals) f)
+      (continues_next texts.vals env.vals ty' term (val_terms items) a) t n v q)
+  values_hold (vals_next {env = env} {items = items} (derives_def {ty' = ty'} {term = term} {term' = term'} d b) rest) h f a t n v q =
+      values_hold rest (def_holds texts env e h d b (first_of_rest texts.defs (length env.defs) term (def_terms items) t)) f a
+      (continues_next texts.defs env.defs (ty', term') term (def_terms items) t) n v q
   values_hold (vals_next (derives_rec c b i j) rest) h f a t n v q = values_hold rest (rec_holds h (derives_rec c b i j)) f a t n v q
   values_hold (vals_next (derives_abbreviation b) rest) h f a t n v q = values_hold rest h f a t n v q
   values_hold (vals_next (derives_pred b c) rest) h f a t n v q = values_hold rest h f a t n v q
