@@ -43,7 +43,7 @@ adds_one : (x : RunValue) (d : Value)
     (λ y. Realises no_items (den_term sk_o d ∷ []) (y_mono m_word) sk_o y (term_den no_heads (den_term sk_o d ∷ []) one_more sk_o))
 unfolding Realises term_den
 adds_one x (v_word n) q s =
-    let P = λ y. Realises no_items (den_term sk_o (v_word n) ∷ []) (y_mono m_word) sk_o y (term_den no_heads (den_term sk_o (v_word n) ∷ []) one_more sk_o) in
+    let P = λ (y : RunValue). Realises no_items (den_term sk_o (v_word n) ∷ []) (y_mono m_word) sk_o y (term_den no_heads (den_term sk_o (v_word n) ∷ []) one_more sk_o) in
     eventually_entered no_items P (with_value x nothing) one_more
     (two_given (value_of_op Add) (v_word n) (v_word 1) x (base (v_word 1)) P q refl (refl, tt))
 adds_one x (v_bool b) q s = absurd s
