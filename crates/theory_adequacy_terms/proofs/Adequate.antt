@@ -1,5 +1,5 @@
 -- A term or computation of the text realises what its canonical form denotes: by the derivation.
-use Rattle.std.proofs.Common.{◌≡◌, ℕ, zero, suc, List, ◌∷◌, true, false, Some, slice_get, refl, sym, ap, ◌∙◌, subst}
+use Rattle.std.proofs.Common.{◌≡◌, ℕ, zero, suc, List, [], ◌∷◌, true, false, Some, slice_get, refl, sym, ap, ◌∙◌, subst}
 use Rattle.htt_syntax.specs.Trees.{MonoTree, TyTree, TripleTree, TermTree, FixTree, CompTree, StepTree, FormulaTree, m_word, m_bool, m_loc, m_unit, m_pair}
 use Rattle.htt_syntax.specs.Trees.{y_mono, y_fun, y_all, y_hoare, triple, t_var, t_val, t_lam, t_lam_t, t_do, t_fix, t_fst, t_snd, t_not, t_bin, t_eq, t_sel}
 use Rattle.theory_values.specs.Values.{v_unit, v_pair, op_mono, value_of_op, value_of_not, value_of_eq, value_of_sel, value_of_fst, value_of_snd}
