@@ -1,5 +1,5 @@
 -- The texts of a file's values and their canonical terms come to the same.
-use Rattle.std.proofs.Common.{◌≡◌, ◌≢◌, ◌<◌, ◌≤◌, ◌↔◌, ℕ, zero, suc, List, [], Some, slice_get, refl, sym, ap, ◌∙◌, subst, arith}
+use Rattle.std.proofs.Common.{◌≡◌, ◌≢◌, ◌<◌, ◌≤◌, ◌↔◌, ℕ, suc, List, [], Some, slice_get, refl, sym, ap, ◌∙◌, subst, arith}
 use Rattle.htt_syntax.specs.Trees.{MonoTree, TyTree, TripleTree, y_hoare}
 use Rattle.theory_values.specs.Heaps.{Heap}
 use Rattle.theory_meaning.specs.Closures.{RunValue, RunResult, done, no_fuel, asks, fault, Items}
@@ -10,7 +10,7 @@ use Rattle.theory_typing.specs.Laws.{none}
 use Rattle.theory_items.specs.Items.{ItemTree}
 use Rattle.theory_items_sound.proofs.Kept.{items_keep_sound}
 use Rattle.theory_denotation.specs.Outcomes.{Outcome, Running, ended, out_of_fuel, asking, wrong, then_outcome}
-use Rattle.theory_denotation.specs.Valuations.{Domain, ValuationEntry, den_term, running_of_entry, HeadEntries}
+use Rattle.theory_denotation.specs.Valuations.{den_term, running_of_entry, HeadEntries}
 use Rattle.theory_denotation.specs.Denotation.{term_den}
 use Rattle.theory_denotation.specs.Satisfaction.{answer_mono}
 use Rattle.theory_denotation.specs.Laws.{run_result}
@@ -20,7 +20,7 @@ use Rattle.theory_meaning_simulation.proofs.Results.{alike_with}
 use Rattle.theory_file_derived.specs.Derived.{val_terms, def_terms, texts_of}
 use Rattle.theory_instances.specs.Calls.{ProgramVal}
 use Rattle.theory_extraction.specs.Extraction.{HasVals}
-use Rattle.theory_adequacy.specs.Adequacy.{EventuallyGives, Reaches, Realises, ValRealises}
+use Rattle.theory_adequacy.specs.Adequacy.{Reaches, Realises, ValRealises}
 use Rattle.theory_adequacy.proofs.Fuel.{reaches_with, reaches_then, reaches_end}
 use Rattle.theory_adequacy_terms.proofs.Same.{same_outcomes}
 use Rattle.theory_adequacy_files.specs.Laws.{trees_of, entries_of, FilesAreAdequate}

@@ -1,15 +1,14 @@
 -- The values of a file, one after the other: each does and realises what its canonical term denotes.
-use Rattle.std.proofs.Common.{◌≡◌, ℕ, zero, suc, ◌+◌, List, [], ◌∷◌, ◌++◌, length, map, Some, slice_get, refl, sym, ap, ◌∙◌, subst, arith}
+use Rattle.std.proofs.Common.{◌≡◌, ℕ, zero, suc, ◌+◌, List, [], ◌∷◌, ◌++◌, length, map, Some, slice_get, refl, sym, ◌∙◌, subst, arith}
 use Rattle.std.proofs.lemmas.List.{map-append}
 use Rattle.std.proofs.lemmas.Option.{same_Some}
 use Rattle.theory_items.proofs.Lists.{no_element}
-use Rattle.htt_syntax.specs.Trees.{TyTree, TermTree}
 use Rattle.theory_meaning.specs.Closures.{Items}
 use Rattle.theory_canonical.specs.Skeletons.{Skeleton, skeleton}
-use Rattle.theory_typing.specs.Contexts.{Environment, Obligation}
+use Rattle.theory_typing.specs.Contexts.{Environment}
 use Rattle.theory_typing_canonical.specs.Environments.{no_entry}
 use Rattle.theory_typing_canonical.proofs.Typed.{formed_ty, fitted}
-use Rattle.theory_items.specs.Items.{ItemTree, Added, derives_abbreviation, derives_pred, derives_def, derives_val, derives_rec}
+use Rattle.theory_items.specs.Items.{ItemTree, derives_abbreviation, derives_pred, derives_def, derives_val, derives_rec}
 use Rattle.theory_items_sound.specs.Environments.{SoundEnvironment}
 use Rattle.theory_items_sound.proofs.Kept.{items_keep_sound}
 use Rattle.theory_items_sound.proofs.Founded.{more_length}

@@ -1,11 +1,11 @@
 -- A term or computation of the text realises what its canonical form denotes: by the derivation.
 use Rattle.std.proofs.Common.{◌≡◌, ℕ, zero, suc, List, [], ◌∷◌, true, false, Some, slice_get, refl, sym, ap, ◌∙◌, subst}
 use Rattle.htt_syntax.specs.Trees.{MonoTree, TyTree, TripleTree, TermTree, FixTree, CompTree, StepTree, FormulaTree, m_word, m_bool, m_loc, m_unit, m_pair}
-use Rattle.htt_syntax.specs.Trees.{y_mono, y_fun, y_all, y_hoare, triple, t_var, t_val, t_lam, t_lam_t, t_do, t_fix, t_fst, t_snd, t_not, t_bin, t_eq, t_sel}
-use Rattle.theory_values.specs.Values.{v_unit, v_pair, op_mono, value_of_op, value_of_not, value_of_eq, value_of_sel, value_of_fst, value_of_snd}
+use Rattle.htt_syntax.specs.Trees.{y_mono, y_fun, y_all, y_hoare, triple, t_var, t_val, t_lam, t_lam_t, t_do, t_fix, t_fst, t_snd, t_not, t_bin, t_eq, t_sel, c_step}
+use Rattle.theory_values.specs.Values.{v_word, v_bool, v_loc, v_unit, v_pair, op_mono, value_of_op, value_of_not, value_of_eq, value_of_sel, value_of_fst, value_of_snd}
 use Rattle.theory_values.specs.Heaps.{Heap}
 use Rattle.theory_meaning.specs.Closures.{RunValue, base, fix_of, Env, with_mono, with_value, PureResult, RunResult, done, Items}
-use Rattle.theory_meaning.specs.Meaning.{base_or_fault, of_eq, item_result, application_result, instance_result, term_result, inner_result, run_with, then_run}
+use Rattle.theory_meaning.specs.Meaning.{base_or_fault, of_eq, item_result, application_result, instance_result, term_result, inner_result, run_with}
 use Rattle.theory_meaning.specs.Meaning.{start_result, alloc_result, get_result, set_result, free_result, branch_result, comp_result, step_result, runner_of}
 use Rattle.theory_canonical.specs.Skeletons.{Skeleton, sk_o, sk_c, skeleton}
 use Rattle.theory_canonical.specs.Contexts.{as_term}

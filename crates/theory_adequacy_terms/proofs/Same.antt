@@ -1,7 +1,6 @@
 -- A run of the text and its denotation have the same outcomes.
-use Rattle.std.proofs.Common.{◌≡◌, ◌≢◌, ◌<◌, ◌≤◌, ◌↔◌, ℕ, suc, List, [], refl, sym, ◌∙◌, subst, arith}
+use Rattle.std.proofs.Common.{◌≡◌, ◌≢◌, ◌<◌, ◌≤◌, ◌↔◌, ℕ, [], refl, sym, ◌∙◌, subst, arith}
 use Rattle.htt_syntax.specs.Trees.{MonoTree}
-use Rattle.theory_values.specs.Heaps.{Heap}
 use Rattle.theory_meaning.specs.Closures.{RunResult}
 use Rattle.theory_typing_canonical.specs.Environments.{no_entry}
 use Rattle.theory_denotation.specs.Outcomes.{Outcome, ended, out_of_fuel, asking, wrong}
