@@ -1,5 +1,5 @@
 -- The texts of a file's values and their canonical terms come to the same.
-use Rattle.std.proofs.Common.{◌≡◌, ◌≢◌, ◌<◌, ◌≤◌, ◌↔◌, ℕ, suc, List, [], Some, slice_get, refl, sym, ap, ◌∙◌, subst, arith}
+use Rattle.std.proofs.Common.{◌≡◌, ◌≢◌, ◌<◌, ◌≤◌, ◌↔◌, ℕ, zero, suc, ◌+◌, List, [], Some, slice_get, refl, sym, ap, ◌∙◌, subst, arith}
 use Rattle.htt_syntax.specs.Trees.{MonoTree, TyTree, TripleTree, y_hoare}
 use Rattle.theory_values.specs.Heaps.{Heap}
 use Rattle.theory_meaning.specs.Closures.{RunValue, RunResult, done, no_fuel, asks, fault, Items}
@@ -81,7 +81,8 @@ file_values : (items : List ItemTree) (vals : List ProgramVal)
     → slice_get vals number ≡ Some v
     → ValHolds (texts_of items) (entries_of vals) number v
 file_values items vals d number v q =
-    subst (λ n. ValHolds (texts_of items) (entries_of vals) n v) (omega arith)
+    let e : zero + number ≡ number = omega arith in
+    subst (λ n. ValHolds (texts_of items) (entries_of vals) n v) e
     (values_hold (texts_of items) (trees_of vals) (entries_of vals) (denote (trees_of vals) (are_vals d items_keep_sound.empty)) d
     (nothing_holds (texts_of items) (entries_of vals)) (continues_all (trees_of vals)) (continues_all (val_terms items))
     (continues_all (def_terms items)) number v q)

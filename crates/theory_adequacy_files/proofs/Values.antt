@@ -29,10 +29,10 @@ abbrev pub Continues : {A : Type 0} → List A → ℕ → List A → Type 0
 Continues {A = A} whole k rest = (n : ℕ) (x : A) → slice_get rest n ≡ Some x → slice_get whole (k + n) ≡ Some x
 
 pub continues_all : {A : Type 0} (whole : List A) → Continues whole zero whole
-continues_all whole n x q = subst (λ m. slice_get whole m ≡ Some x) (omega arith) q
+continues_all whole n x q = let e : n ≡ zero + n = omega arith in subst (λ m. slice_get whole m ≡ Some x) e q
 
 first_of_rest : {A : Type 0} (whole : List A) (k : ℕ) (x : A) (rest : List A) → Continues whole k (x ∷ rest) → slice_get whole k ≡ Some x
-first_of_rest whole k x rest c = subst (λ m. slice_get whole m ≡ Some x) (omega arith) (c zero x refl)
+first_of_rest whole k x rest c = let e : k + zero ≡ k = omega arith in subst (λ m. slice_get whole m ≡ Some x) e (c zero x refl)
 
 further : {A : Type 0} (known : List A) (x : A) (n : ℕ) → length known + suc n ≡ length (known ++ x ∷ []) + n
 further known x n = let q = more_length known x in omega (arith, q)
@@ -88,8 +88,9 @@ module _ (texts : Items) (vs : List ValTree) (e : HeadEntries)
       let at = length env.vals in
       let is = entries at tree (first_of_rest vs at tree (trees_of vals) f) in
       let next = val_holds texts env e h d ends b (first_of_rest texts.vals at term (val_terms items) a) is in
+      let there : at ≡ at + zero = omega arith in
       subst (λ x. ValHolds texts e (at + zero) x) (same_Some value v q)
-      (subst (λ m. ValHolds texts e m value) (omega arith) (record {
+      (subst (λ m. ValHolds texts e m value) there (record {
         does = next.does.vals at ty' (at_end env.vals ty');
         realises = next.realise.vals at ty' (at_end env.vals ty');
         denotes = is;
