@@ -1,0 +1,5 @@
+pub mod Contexts
+pub mod More
+pub mod Sites
+pub mod Bodies
+pub mod Taken
