@@ -129,7 +129,7 @@ body_canonical {p = p} all {key = key} {results = results} {comp = comp} program
     let keeps = past_keeps (passed_count s) m k (omega arith) in (
       k,
       do_comp (put_canonical (subst (λ (x : ProgramVal). Puts x.term (skeleton x.ty) (arguments_within (skeleton x.ty) key) results (t_do comp)) same puts)
-          (closed_within (values_context k) (term_more (first_more p all) (val_canonical program n v found)))
+          (closed_within (values_context k) (term_more (first_more p all) (val_canonical p program n v found)))
           (all_canonical k (fixed_renamed (past_passed s) fixed keeps) (omega arith))),
     )
 body_canonical all {number = number} {key = key} {results = results} {comp = comp} program there

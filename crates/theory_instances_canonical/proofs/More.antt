@@ -23,18 +23,18 @@ none_or_some q = cc
 
 -- the skeletons of a list, of some of its first elements, and of a longer list
 module _ {X : Type 0} (f : X → Skeleton) where
-  front_stays : {n : ℕ} {s : Skeleton} (xs ys : List X) → HasSkeleton (map f xs) n s → HasSkeleton (map f (xs ++ ys)) n s
+  front_stays : (xs ys : List X) {n : ℕ} {s : Skeleton} → HasSkeleton (map f xs) n s → HasSkeleton (map f (xs ++ ys)) n s
   front_stays [] ys d = elim d [ ]
   front_stays (x ∷ xs) ys first_head = first_head
   front_stays (x ∷ xs) ys (later_head d) = later_head (front_stays xs ys d)
 
-  taken_stays : {n : ℕ} {s : Skeleton} (i : ℕ) (xs : List X) → HasSkeleton (map f (take i xs)) n s → HasSkeleton (map f xs) n s
+  taken_stays : (i : ℕ) (xs : List X) {n : ℕ} {s : Skeleton} → HasSkeleton (map f (take i xs)) n s → HasSkeleton (map f xs) n s
   taken_stays zero xs d = elim d [ ]
   taken_stays (suc i) [] d = elim d [ ]
   taken_stays (suc i) (x ∷ xs) first_head = first_head
   taken_stays (suc i) (x ∷ xs) (later_head d) = later_head (taken_stays i xs d)
 
-  taken_further : {n : ℕ} {s : Skeleton} (i j : ℕ) (xs : List X)
+  taken_further : (i j : ℕ) (xs : List X) {n : ℕ} {s : Skeleton}
       → i ≤ j
       → HasSkeleton (map f (take i xs)) n s
       → HasSkeleton (map f (take j xs)) n s
@@ -44,7 +44,7 @@ module _ {X : Type 0} (f : X → Skeleton) where
   taken_further (suc i) (suc j) (x ∷ xs) l first_head = first_head
   taken_further (suc i) (suc j) (x ∷ xs) l (later_head d) = later_head (taken_further i j xs (omega (arith, l)) d)
 
-  taken_in_front : {n : ℕ} {s : Skeleton} (i : ℕ) (xs ys : List X)
+  taken_in_front : (i : ℕ) (xs ys : List X) {n : ℕ} {s : Skeleton}
       → HasSkeleton (map f (take i xs)) n s
       → HasSkeleton (map f (take i (xs ++ ys))) n s
   taken_in_front zero xs ys d = elim d [ ]
@@ -130,11 +130,11 @@ tree_there [] n v q = absurd (none_or_some q)
 tree_there (u ∷ vals) zero v q = ap (λ (x : ProgramVal). Some (val_tree x)) (same_Some u v q)
 tree_there (u ∷ vals) (suc n) v q = tree_there vals n v q
 
-pub val_canonical : {p : Program}
+pub val_canonical : (p : Program)
     → IsCanonicalProgram p
     → (n : ℕ) (v : ProgramVal)
     → slice_get p.vals n ≡ Some v
     → IsCanonical (heads_with p []) [] v.term (skeleton v.ty)
-val_canonical {p = p} a n v q =
+val_canonical p a n v q =
     subst (λ (ss : List Skeleton). IsCanonical (heads_of_skeletons ss) [] v.term (skeleton v.ty)) (after_is [] p.vals)
     (canonical_at a n (val_tree v) (tree_there p.vals n v q))

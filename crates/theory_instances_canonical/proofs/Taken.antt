@@ -5,7 +5,7 @@ use Rattle.std.proofs.lemmas.List.{take_at, take-append-le}
 use Rattle.std.proofs.lemmas.Option.{same_Some, slice_get_within}
 use Rattle.htt_syntax.specs.Trees.{TyTree, FixTree, CompTree, t_fix}
 use Rattle.theory_canonical.specs.Skeletons.{Skeleton, sk_c, skeleton}
-use Rattle.theory_canonical.specs.Contexts.{HasSkeleton}
+use Rattle.theory_canonical.specs.Contexts.{Heads, HasSkeleton}
 use Rattle.theory_canonical.specs.Canonical.{IsCanonicalComp}
 use Rattle.theory_items.proofs.MoreHeads.{HasHeads}
 use Rattle.theory_instances.specs.Calls.{ProgramVal, Program, fix_ty, head_ty, sites_of}
@@ -36,9 +36,7 @@ taken_there [] n x q = absurd (none_or_some q)
 taken_there (y ∷ xs) zero x q = q
 taken_there (y ∷ xs) (suc n) x q = taken_there xs n x q
 
-each_more : (p : Program) {few more : List Key} → HasHeads (heads_with p few) (heads_with p more) → (keys : List Key)
-    → EachKeyOf (heads_with p few) p keys
-    → EachKeyOf (heads_with p more) p keys
+each_more : (p : Program) {few more : Heads} → HasHeads few more → (keys : List Key) → EachKeyOf few p keys → EachKeyOf more p keys
 each_more p m [] a = tt
 each_more p m (key ∷ keys) a = (key_more m (a.0), each_more p m keys (a.1))
 
@@ -78,12 +76,12 @@ module _ (p : Program) (program : IsCanonicalProgram p) where
   abbrev Body : List Key → ℕ → Taken → Type 0
   Body keys number taken = (m : ℕ) × IsCanonicalComp (heads_with p (take (suc number) keys)) (values_context m) taken.body
 
-  taken_body : {keys : List Key} {number : ℕ} {key : Key} {taken : Taken}
+  taken_body : (keys : List Key) (number : ℕ) (key : Key) {taken : Taken}
       → slice_get keys number ≡ Some key
       → IsCanonicalKey (heads_with p (take number keys)) p key
       → TakesUp p number key taken
       → Body keys number taken
-  taken_body {keys = keys} {number = number} {key = key} here c u =
+  taken_body keys number key here c u =
       let few : List Key = take (suc number) keys in
       body_canonical few program
       (λ s at fix q r. subst (λ (t : Skeleton). HasSkeleton (map (λ (k : Key). skeleton (head_ty p k.head)) few) number t)
@@ -94,25 +92,25 @@ module _ (p : Program) (program : IsCanonicalProgram p) where
   abbrev Bodies : List Key → ℕ → List Taken → Type 0
   Bodies final number rows = (n : ℕ) (taken : Taken) → slice_get rows n ≡ Some taken → Body final (number + n) taken
 
-  one_more_body : {final : List Key} {number : ℕ} {taken : Taken} {others : List Taken}
+  one_more_body : (final : List Key) (number : ℕ) (taken : Taken) (others : List Taken)
       → Body final number taken
       → Bodies final (suc number) others
       → Bodies final number (taken ∷ others)
-  one_more_body {final = final} {number = number} {taken = taken} b rest zero other q =
+  one_more_body final number taken others b rest zero other q =
       let e : number ≡ number + 0 = omega arith in
       subst (λ n. Body final n other) e (subst (Body final number) (same_Some taken other q) b)
-  one_more_body {final = final} {number = number} b rest (suc n) other q =
+  one_more_body final number taken others b rest (suc n) other q =
       let e : suc number + n ≡ number + suc n = omega arith in subst (λ k. Body final k other) e (rest n other q)
 
   all_bodies : {keys final : List Key} {number : ℕ} {rows : List Taken} → TakesAll p keys number rows final → Known keys → Known final × Bodies final number rows
   all_bodies (takes_end q) a = (a, λ n taken r. absurd (none_or_some r))
-  all_bodies {keys = keys} {number = number} (takes_next {key = key} {taken = taken} q u m rest) a =
-      let body : Body keys number taken = taken_body q (a number key q) u in
+  all_bodies {keys = keys} {final = final} {number = number} (takes_next {key = key} {taken = taken} {others = others} q u m rest) a =
+      let body : Body keys number taken = taken_body keys number key q (a number key q) u in
       let there = comp_more (taken_more p (suc number) keys) (body.1) in
       let sites = sites_canonical (body.0) taken.params there refl in
       let r = all_bodies rest (met_known m a (keys_canonical p keys (sites_of taken.params taken.body) sites)) in
       let stays = comp_more (all_more p (suc number) (takes_next q u m rest)) (body.1) in
-      (r.0, one_more_body (body.0, stays) (r.1))
+      (r.0, one_more_body final number taken others (body.0, stays) (r.1))
 
   main_known : {number : ℕ} → IsMain p number → Known (main_key number ∷ [])
   unfolding skeleton
