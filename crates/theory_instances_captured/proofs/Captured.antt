@@ -8,6 +8,7 @@ use Rattle.htt_syntax.specs.Trees.{MonoTree, TermTree, t_val, t_fix}
 use Rattle.theory_canonical.specs.Skeletons.{skeleton}
 use Rattle.theory_instances.specs.Calls.{Program, Argument, head_of, arguments_of, fixed_of, head_ty, Site, sites_of}
 use Rattle.theory_instances.specs.Keys.{Key, is_among, met_after, variables_met, captured_of, number_in, mono_at, key_of, keys_of_head, keys_of_site}
+use Rattle.theory_instances.specs.Occurrences.{met_in_term}
 use Rattle.theory_instances.specs.Lists.{Meets, meets_none, meets_known, meets_new, Taken, TakesAll, takes_end, takes_next, HasInstances, main_key}
 use Rattle.theory_instances_captured.specs.Laws.{MeetsOnlyCaptured, KeysMeetOnlyCaptured}
 use Rattle.theory_instances_captured.proofs.Moved.{key_moved}
@@ -32,19 +33,26 @@ more_numbered n m known l = by (nat_eq n m)
 
 known_numbered : (n : ℕ) (known : List ℕ) → is_among n known ≡ true → Numbered known n
 known_numbered n [] q = absurd (cc)
-known_numbered n (m ∷ known) q = by (nat_eq n m) q
+known_numbered n (m ∷ known) q = by (nat_eq n m) q (λ r. known_numbered n known r)
   where
-    by : (b : Bool) → (if b then true else is_among n known) ≡ true → (if b then zero else suc (number_in known n)) < suc (length known)
-    by true r = omega arith
-    by false r = let l = known_numbered n known r in omega (arith, l)
+    by : (b : Bool)
+        → (if b then true else is_among n known) ≡ true
+        → (is_among n known ≡ true → Numbered known n)
+        → (if b then zero else suc (number_in known n)) < suc (length known)
+    by true r go = omega arith
+    by false r go = let l = go r in omega (arith, l)
 
 stays_numbered : (n : ℕ) (known others : List ℕ) → Numbered known n → Numbered (met_after known others) n
 stays_numbered n known [] l = l
-stays_numbered n known (m ∷ others) l = by (is_among m known)
+stays_numbered n known (m ∷ others) l =
+    by (is_among m known) (stays_numbered n known others l) (stays_numbered n (m ∷ known) others (more_numbered n m known l))
   where
-    by : (b : Bool) → Numbered (met_after (if b then known else m ∷ known) others) n
-    by true = stays_numbered n known others l
-    by false = stays_numbered n (m ∷ known) others (more_numbered n m known l)
+    by : (b : Bool)
+        → Numbered (met_after known others) n
+        → Numbered (met_after (m ∷ known) others) n
+        → Numbered (met_after (if b then known else m ∷ known) others) n
+    by true x y = x
+    by false x y = y
 
 all_numbered : (known others : List ℕ) → All (Numbered (met_after known others)) others
 all_numbered known [] = All-nil (Numbered known)
@@ -105,6 +113,7 @@ all_keys_numbered {p = p} (takes_next {taken = taken} q u m rest) a =
     all_keys_numbered rest (met_numbered m a (sites_numbered p (sites_of taken.params taken.body)))
 
 main_numbered : (number : ℕ) → MeetsOnlyCaptured (main_key number)
+unfolding met_in_term
 main_numbered number = All-nil (λ (n : ℕ). n < zero)
 
 none_or_some : {A : Type 0} {x : A} → None ≡ Some x → ⊥

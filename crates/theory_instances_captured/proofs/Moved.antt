@@ -51,16 +51,23 @@ module _ (m : Map) where
     term_moved (t_lam_t body) d xs ys = term_moved body (suc d) [] []
     term_moved (t_do comp) d xs ys = comp_moved comp d
     term_moved (t_fix at fix) d xs ys = fix_moved fix d
-    term_moved (t_pair left right) d xs ys = two_moved left right d
+    term_moved (t_pair left right) d xs ys =
+        moved_both (met_in_term d [] left) (met_in_term d [] right) (met_in_term d [] (rename_term (lifts d m) left))
+        (met_in_term d [] (rename_term (lifts d m) right)) (term_moved left d [] []) (term_moved right d [] [])
     term_moved (t_fst pair) d xs ys = term_moved pair d [] []
     term_moved (t_snd pair) d xs ys = term_moved pair d [] []
     term_moved (t_not term) d xs ys = term_moved term d [] []
-    term_moved (t_bin op left right) d xs ys = two_moved left right d
-    term_moved (t_eq mono left right) d xs ys = two_moved left right d
+    term_moved (t_bin op left right) d xs ys =
+        moved_both (met_in_term d [] left) (met_in_term d [] right) (met_in_term d [] (rename_term (lifts d m) left))
+        (met_in_term d [] (rename_term (lifts d m) right)) (term_moved left d [] []) (term_moved right d [] [])
+    term_moved (t_eq mono left right) d xs ys =
+        moved_both (met_in_term d [] left) (met_in_term d [] right) (met_in_term d [] (rename_term (lifts d m) left))
+        (met_in_term d [] (rename_term (lifts d m) right)) (term_moved left d [] []) (term_moved right d [] [])
     term_moved (t_sel mono test on_true on_false) d xs ys =
         moved_both (met_in_term d [] test) (met_in_term d [] on_true ++ met_in_term d [] on_false) (met_in_term d [] (rename_term (lifts d m) test))
         (met_in_term d [] (rename_term (lifts d m) on_true) ++ met_in_term d [] (rename_term (lifts d m) on_false)) (term_moved test d [] [])
-        (two_moved on_true on_false d)
+        (moved_both (met_in_term d [] on_true) (met_in_term d [] on_false) (met_in_term d [] (rename_term (lifts d m) on_true))
+        (met_in_term d [] (rename_term (lifts d m) on_false)) (term_moved on_true d [] []) (term_moved on_false d [] []))
     term_moved (t_ann term ty) d xs ys =
         moved_both (met_in_term d [] term) (met_in_ty d ty) (met_in_term d [] (rename_term (lifts d m) term)) (met_in_ty d (rename_ty (lifts d m) ty))
         (term_moved term d [] []) (ty_moved ty d)
@@ -72,13 +79,6 @@ module _ (m : Map) where
     term_moved (t_bool truth) d xs ys = refl
     term_moved (t_loc place) d xs ys = refl
     term_moved t_unit d xs ys = refl
-
-    two_moved : (left right : TermTree) (d : ℕ)
-        → Moved (met_in_term d [] left ++ met_in_term d [] right)
-        (met_in_term d [] (rename_term (lifts d m) left) ++ met_in_term d [] (rename_term (lifts d m) right))
-    two_moved left right d =
-        moved_both (met_in_term d [] left) (met_in_term d [] right) (met_in_term d [] (rename_term (lifts d m) left))
-        (met_in_term d [] (rename_term (lifts d m) right)) (term_moved left d [] []) (term_moved right d [] [])
 
     terms_moved : (terms : TermTrees) (d : ℕ) → Moved (met_in_terms d terms) (met_in_terms d (rename_terms (lifts d m) terms))
     terms_moved no_terms d = refl
@@ -104,7 +104,9 @@ module _ (m : Map) where
     step_moved (s_run term mono) d = term_moved term d [] []
     step_moved (s_alloc mono value) d = term_moved value d [] []
     step_moved (s_get mono place) d = term_moved place d [] []
-    step_moved (s_set mono place value) d = two_moved place value d
+    step_moved (s_set mono place value) d =
+        moved_both (met_in_term d [] place) (met_in_term d [] value) (met_in_term d [] (rename_term (lifts d m) place))
+        (met_in_term d [] (rename_term (lifts d m) value)) (term_moved place d [] []) (term_moved value d [] [])
     step_moved (s_free mono place) d = term_moved place d [] []
     step_moved (s_if mono test on_true on_false) d =
         moved_both (met_in_term d [] test) (met_in_comp d on_true ++ met_in_comp d on_false) (met_in_term d [] (rename_term (lifts d m) test))
@@ -129,24 +131,27 @@ module _ (m : Map) where
         (met_in_formula (suc (suc (suc d))) (rename_formula (lifts (suc (suc (suc d))) m) post)) (formula_moved pre (suc d))
         (formula_moved post (suc (suc (suc d))))
 
-    formulas_moved : (left right : FormulaTree) (d : ℕ)
-        → Moved (met_in_formula d left ++ met_in_formula d right)
-        (met_in_formula d (rename_formula (lifts d m) left) ++ met_in_formula d (rename_formula (lifts d m) right))
-    formulas_moved left right d =
+    formula_moved : (formula : FormulaTree) (d : ℕ) → Moved (met_in_formula d formula) (met_in_formula d (rename_formula (lifts d m) formula))
+    formula_moved (f_and left right) d =
         moved_both (met_in_formula d left) (met_in_formula d right) (met_in_formula d (rename_formula (lifts d m) left))
         (met_in_formula d (rename_formula (lifts d m) right)) (formula_moved left d) (formula_moved right d)
-
-    formula_moved : (formula : FormulaTree) (d : ℕ) → Moved (met_in_formula d formula) (met_in_formula d (rename_formula (lifts d m) formula))
-    formula_moved (f_and left right) d = formulas_moved left right d
-    formula_moved (f_or left right) d = formulas_moved left right d
-    formula_moved (f_imp left right) d = formulas_moved left right d
+    formula_moved (f_or left right) d =
+        moved_both (met_in_formula d left) (met_in_formula d right) (met_in_formula d (rename_formula (lifts d m) left))
+        (met_in_formula d (rename_formula (lifts d m) right)) (formula_moved left d) (formula_moved right d)
+    formula_moved (f_imp left right) d =
+        moved_both (met_in_formula d left) (met_in_formula d right) (met_in_formula d (rename_formula (lifts d m) left))
+        (met_in_formula d (rename_formula (lifts d m) right)) (formula_moved left d) (formula_moved right d)
     formula_moved (f_all_t mono body) d = formula_moved body (suc d)
     formula_moved (f_ex_t mono body) d = formula_moved body (suc d)
     formula_moved (f_all_h body) d = formula_moved body (suc d)
     formula_moved (f_ex_h body) d = formula_moved body (suc d)
-    formula_moved (f_cell mono heap place value) d = two_moved place value d
+    formula_moved (f_cell mono heap place value) d =
+        moved_both (met_in_term d [] place) (met_in_term d [] value) (met_in_term d [] (rename_term (lifts d m) place))
+        (met_in_term d [] (rename_term (lifts d m) value)) (term_moved place d [] []) (term_moved value d [] [])
     formula_moved (f_block mono heap place) d = term_moved place d [] []
-    formula_moved (f_eq mono left right) d = two_moved left right d
+    formula_moved (f_eq mono left right) d =
+        moved_both (met_in_term d [] left) (met_in_term d [] right) (met_in_term d [] (rename_term (lifts d m) left))
+        (met_in_term d [] (rename_term (lifts d m) right)) (term_moved left d [] []) (term_moved right d [] [])
     formula_moved (f_at at formula) d = formula_moved formula d
     formula_moved (f_rec number heap place arguments) d =
         moved_both (met_in_term d [] place) (met_in_terms d arguments) (met_in_term d [] (rename_term (lifts d m) place))
