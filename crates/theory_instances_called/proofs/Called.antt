@@ -25,26 +25,14 @@ use Rattle.theory_instances_denoted.proofs.Bodies.{vals_denote}
 use Rattle.theory_instances_keys.specs.Laws.{value_entry, with_values, captured_values}
 use Rattle.theory_instances_keys.proofs.Keys.{keys}
 use Rattle.theory_instances_canonical.specs.Keys.{values_context, CanonicalFixed}
-use Rattle.theory_instances_canonical.proofs.Contexts.{stands_is, keeps_values, number_within, closed_within}
+use Rattle.theory_instances_canonical.specs.Counted.{counted_entry}
+use Rattle.theory_instances_canonical.proofs.Contexts.{keeps_values, number_within, closed_within}
+use Rattle.theory_instances_canonical.proofs.Values.{values_valued}
 use Rattle.theory_instances_canonical.proofs.Sites.{Spine, spine_of, fixed_canonical, fixed_renamed}
 use Rattle.theory_instances_canonical.proofs.Bodies.{all_canonical, past_keeps}
-use Rattle.theory_instances_called.specs.Laws.{IsCounted, passed_values, parameter_values, CallsOfValuesDenote}
+use Rattle.theory_instances_called.specs.Laws.{passed_values, parameter_values, CallsOfValuesDenote}
 use Rattle.theory_instances_called.proofs.Closed.{closed_same}
 use Rattle.theory_instances_called.proofs.Given.{call_applies, entered_applies, agreed_applies, arguments_agree}
-
--- an entry of values alone
-entry_of_values : (vs : List Value) (n : ℕ) → IsOf sk_o (entry_at (with_values vs) n)
-entry_of_values [] n = record { of = v_unit; is = refl }
-entry_of_values (v ∷ vs) zero = record { of = v; is = refl }
-entry_of_values (v ∷ vs) (suc n) = entry_of_values vs n
-
-term_skeleton : {s t : Skeleton} → as_term s ≡ as_term t → s ≡ t
-term_skeleton q = cc
-
-values_valued : (m : ℕ) (vs : List Value) → ContextValued (values_context m) (with_values vs)
-values_valued m vs = record {
-  at = λ n s d. subst (λ (t : Skeleton). IsOf t (entry_at (with_values vs) n)) (term_skeleton (sym ((stands_is m n (as_term s) d).0))) (entry_of_values vs n);
-}
 
 -- values that stand before others
 past_front : (front rest : List Value) (n : ℕ) → entry_at (with_values (front ++ rest)) (n + length front) ≡ entry_at (with_values rest) n
@@ -53,7 +41,7 @@ past_front (v ∷ front) rest n =
     let q : n + suc (length front) ≡ suc (n + length front) = omega arith in
     ap (entry_at (with_values (v ∷ front ++ rest))) q ∙ past_front front rest n
 
-past_along : (front rest : List Value) (r : ℕ) → length front ≡ r → AgreeAlong (shifting zero r) (with_values rest) (with_values (front ++ rest))
+pub past_along : (front rest : List Value) (r : ℕ) → length front ≡ r → AgreeAlong (shifting zero r) (with_values rest) (with_values (front ++ rest))
 unfolding lifts
 past_along front rest r q = record {
   at = λ n. subst (λ k. entry_at (with_values (front ++ rest)) (n + k) ≡ entry_at (with_values rest) n) q (past_front front rest n);
@@ -64,7 +52,7 @@ at_front : (front : List Value) (v : Value) (rest : List Value) → entry_at (wi
 at_front [] v rest = refl
 at_front (u ∷ front) v rest = at_front front v rest
 
-variables_pass : (e : HeadEntries) (passed rest : List Value)
+pub variables_pass : (e : HeadEntries) (passed rest : List Value)
     → map (λ (x : TermTree). term_den e (with_values (reverse passed ++ rest)) x sk_o) (variables (length passed)) ≡ passed
 unfolding term_den
 variables_pass e [] rest = refl
@@ -77,7 +65,7 @@ variables_pass e (v ∷ passed) rest =
     first : entry_at (with_values (reverse passed ++ (v ∷ rest))) (length passed) ≡ value_entry v
     first = subst (λ n. entry_at (with_values (reverse passed ++ (v ∷ rest))) n ≡ value_entry v) (length-reverse passed) (at_front (reverse passed) v rest)
 
-given_past : (e : HeadEntries) (front rest : List Value) (r : ℕ)
+pub given_past : (e : HeadEntries) (front rest : List Value) (r : ℕ)
     → length front ≡ r
     → (fixed : List Argument)
     → map (given e (with_values (front ++ rest))) (map (rename_argument (shifting zero r)) fixed) ≡ map (given e (with_values rest)) fixed
@@ -96,7 +84,7 @@ arrow_count sk_c t term others q = q
 arrow_count (sk_arrow r s) t term others q = q
 arrow_count (sk_all s) t term others q = q
 
-count_passed : {heads : Heads} {g : List Standing} {s : Skeleton} {arguments : List Argument}
+pub count_passed : {heads : Heads} {g : List Standing} {s : Skeleton} {arguments : List Argument}
     → CanonicalArguments heads g s arguments sk_c
     → length (passed_of s arguments) ≡ passed_count s
 count_passed arguments_none = refl
@@ -107,7 +95,7 @@ abbrev skeleton_of_entry : ValuationEntry → Skeleton
 skeleton_of_entry (den_term s d) = s
 skeleton_of_entry x = sk_o
 
-one_skeleton : {s t : Skeleton} {x : ValuationEntry} {d : Domain t} → IsOf s x → x ≡ den_term t d → s ≡ t
+pub one_skeleton : {s t : Skeleton} {x : ValuationEntry} {d : Domain t} → IsOf s x → x ≡ den_term t d → s ≡ t
 one_skeleton o q = ap skeleton_of_entry (sym o.is ∙ q)
 
 -- the key of a call at a skeleton of its head
@@ -118,7 +106,7 @@ key_at vs site s =
 module _ {heads : Heads} {e : HeadEntries} (h : HeadsValued heads e) (p : Program) (n m number : ℕ) (val : ProgramVal) (vs : List Value) (site : Site) where
   called_at : (results : List TermTree) (comp : CompTree)
       → slice_get p.vals n ≡ Some val
-      → IsCounted e n val
+      → e.vals n ≡ counted_entry e val
       → IsCanonical heads [] val.term (skeleton val.ty)
       → head_of site.call ≡ t_val n
       → CanonicalArguments heads (values_context m) (skeleton val.ty) (arguments_of site.call) sk_c

@@ -7,7 +7,7 @@ use Rattle.theory_canonical.specs.Skeletons.{Skeleton, sk_o, sk_c, skeleton}
 use Rattle.theory_canonical.specs.Contexts.{Standing, Heads}
 use Rattle.theory_canonical.specs.Canonical.{IsCanonical, IsNeutral}
 use Rattle.theory_denotation.specs.Valuations.{den_term, HeadEntries}
-use Rattle.theory_denotation.specs.Recursion.{entered, entered_running}
+use Rattle.theory_denotation.specs.Recursion.{entered_running}
 use Rattle.theory_denotation.specs.Denotation.{term_den, head_den, comp_den}
 use Rattle.theory_denotation.specs.Valued.{HeadsValued}
 use Rattle.theory_instances.specs.Calls.{ProgramVal, Program, head_of, arguments_of, fixed_of, passed_of, Site}
@@ -15,11 +15,7 @@ use Rattle.theory_instances.specs.Keys.{key_of_site}
 use Rattle.theory_instances.specs.Bodies.{HasBody}
 use Rattle.theory_instances_keys.specs.Laws.{with_values, captured_values}
 use Rattle.theory_instances_canonical.specs.Keys.{values_context}
-
--- The entry of a value, where each use of it takes one unit of fuel.
-abbrev pub IsCounted : HeadEntries → ℕ → ProgramVal → Type 0
-IsCounted e n val =
-    e.vals n ≡ den_term (skeleton val.ty) (entered (skeleton val.ty) (term_den e [] val.term (skeleton val.ty)))
+use Rattle.theory_instances_canonical.specs.Counted.{counted_entry}
 
 -- The values of what a call passes, in order, and those of all parameters, the innermost first.
 abbrev pub passed_values : HeadEntries → List Value → Skeleton → TermTree → List Value
@@ -36,7 +32,7 @@ CallsOfValuesDenote =
     → (p : Program) (n m number : ℕ) (val : ProgramVal) (vs : List Value) (site : Site)
     (results : List TermTree) (comp : CompTree)
     → slice_get p.vals n ≡ Some val
-    → IsCounted e n val
+    → e.vals n ≡ counted_entry e val
     → IsCanonical heads [] val.term (skeleton val.ty)
     → head_of site.call ≡ t_val n
     → IsNeutral heads (values_context m) site.call sk_c

@@ -60,7 +60,7 @@ fixed_count sk_c t i = refl
 fixed_count (sk_arrow r s) t i = refl
 fixed_count (sk_all s) t i = refl
 
-all_canonical : {heads : Heads} (m : ℕ) {s : Skeleton} {fixed : List Argument}
+pub all_canonical : {heads : Heads} (m : ℕ) {s : Skeleton} {fixed : List Argument}
     → CanonicalFixed heads (values_context m) s fixed
     → passed_count s ≤ m
     → CanonicalArguments heads (values_context m) s (all_arguments s fixed (variables (passed_count s))) sk_c
@@ -70,14 +70,14 @@ all_canonical m (fixed_term {s = s} {t = t} {fixed = fixed} i c f) l =
     let q = fixed_count s t i in fixed_first m s t fixed i c (all_canonical m f (omega (arith, l, q)))
 all_canonical m (fixed_mono c f) l = arguments_mono c (all_canonical m f l)
 
-captured_canonical : {heads : Heads} (m r k : ℕ)
+pub captured_canonical : {heads : Heads} (m r k : ℕ)
     → k + r ≤ m
     → IsCanonicalTerms heads (values_context m) (terms_from (map (rename_term (shifting zero r)) (variables k)))
 unfolding rename_term lifts
 captured_canonical m r zero l = n_no_terms
 captured_canonical m r (suc k) l = n_more_terms (variable_canonical m (k + r) (omega (arith, l))) (captured_canonical m r k (omega (arith, l)))
 
-past_keeps : (r m k : ℕ) → m + r ≤ k → KeepsStandings (shifting zero r) (values_context m) (values_context k)
+pub past_keeps : (r m k : ℕ) → m + r ≤ k → KeepsStandings (shifting zero r) (values_context m) (values_context k)
 unfolding lifts
 past_keeps r m k l = keeps_values (shifting zero r) m k (λ n q. omega (arith, l, q))
 

@@ -1,4 +1,5 @@
 pub mod Contexts
+pub mod Values
 pub mod More
 pub mod Sites
 pub mod Bodies

@@ -113,7 +113,7 @@ mutual
       each_append (RunsThere heads) (sites_of g on_true) (sites_of g on_false) (sites_canonical k g b q) (sites_canonical k g c q)
 
 -- the value of a number is where its skeleton is
-val_there : (vals : List ProgramVal) (n : ℕ) (s : Skeleton)
+pub val_there : (vals : List ProgramVal) (n : ℕ) (s : Skeleton)
     → HasSkeleton (map (λ (v : ProgramVal). skeleton v.ty) vals) n s
     → (v : ProgramVal) × (slice_get vals n ≡ Some v) × (skeleton v.ty ≡ s)
 val_there [] n s d = elim d [ ]

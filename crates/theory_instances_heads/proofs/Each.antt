@@ -13,12 +13,12 @@ pub data Each {X : Type 0} (P : Skeleton → X → Type 0) : List Skeleton → L
   each_none : Each P [] []
   each_more : {s : Skeleton} {ss : List Skeleton} {x : X} {xs : List X} → P s x → Each P ss xs → Each P (s ∷ ss) (x ∷ xs)
 
-pub one_more : {X : Type 0} {P : Skeleton → X → Type 0} {s : Skeleton} {ss : List Skeleton} {x : X} {xs : List X}
+pub one_more : {X : Type 0} {P : Skeleton → X → Type 0} {ss : List Skeleton} {xs : List X} (s : Skeleton) (x : X)
     → Each P ss xs
     → P s x
     → Each P (ss ++ (s ∷ [])) (xs ++ (x ∷ []))
-one_more each_none o = each_more o each_none
-one_more (each_more p k) o = each_more p (one_more k o)
+one_more s x each_none o = each_more o each_none
+one_more s x (each_more p k) o = each_more p (one_more s x k o)
 
 -- The element at an index.
 pub record Found {X : Type 0} (P : Skeleton → X → Type 0) (xs : List X) (n : ℕ) (s : Skeleton) : Type 0 where
@@ -54,14 +54,14 @@ SteadyEntry s x = (bound : ℕ) → EntriesAgree bound s x x
 abbrev pub SteadyMade : Skeleton → MadeFunction → Type 0
 SteadyMade s f = (values : List Value) → SteadyEntry s (f values)
 
-pub is_of : {s : Skeleton} {x : ValuationEntry} → SteadyEntry s x → IsOf s x
-is_of a = let o = a zero in record { of = o.left; is = o.is_left }
+pub is_of : (s : Skeleton) (x : ValuationEntry) → SteadyEntry s x → IsOf s x
+is_of s x a = let o = a zero in record { of = o.left; is = o.is_left }
 
 module _ {vals made : List Skeleton} {xs : List ValuationEntry} {fs : List MadeFunction} (k : Each SteadyEntry vals xs) (m : Each SteadyMade made fs) where
   pub from_valued : HeadsValued (record { vals = vals; made = made }) (heads_from xs fs)
   from_valued = record {
-    vals = λ n s d. let r = found k d in subst (IsOf s) (sym (ap entry_or_none r.there)) (is_of r.holds);
-    made = λ n s values d. let r = found m d in subst (λ (f : MadeFunction). IsOf s (f values)) (sym (ap function_or_none r.there)) (is_of (r.holds values));
+    vals = λ n s d. let r = found k d in subst (IsOf s) (sym (ap entry_or_none r.there)) (is_of s r.it r.holds);
+    made = λ n s values d. let r = found m d in subst (λ (f : MadeFunction). IsOf s (f values)) (sym (ap function_or_none r.there)) (is_of s (r.it values) (r.holds values));
   }
 
   pub from_steady : SteadyHeads (record { vals = vals; made = made }) (heads_from xs fs)

@@ -4,10 +4,10 @@ use Rattle.std.proofs.lemmas.List.{append-nil, append_assoc, take_at, length-app
 use Rattle.std.proofs.lemmas.Option.{same_Some}
 use Rattle.htt_syntax.specs.Trees.{TermTree, FixTree, t_val, t_fix}
 use Rattle.theory_values.specs.Values.{Value}
-use Rattle.theory_canonical.specs.Skeletons.{Skeleton, skeleton}
-use Rattle.theory_canonical.specs.Contexts.{Standing, Heads, HasSkeleton}
+use Rattle.theory_canonical.specs.Skeletons.{Skeleton, sk_o, skeleton}
+use Rattle.theory_canonical.specs.Contexts.{Standing, as_term, Heads, HasSkeleton}
 use Rattle.theory_canonical.specs.Canonical.{IsCanonical, IsNeutral, e_val, e_fix}
-use Rattle.theory_denotation.specs.Valuations.{ValuationEntry, den_term, Valuation, HeadEntries}
+use Rattle.theory_denotation.specs.Valuations.{ValuationEntry, den_term, Valuation, entry_at, HeadEntries}
 use Rattle.theory_denotation.specs.Denotation.{head_den, entry_or_none}
 use Rattle.theory_denotation.specs.Valued.{IsOf, ContextValued, HeadsValued}
 use Rattle.theory_denotation.proofs.HeadsDenote.{head_is_of}
@@ -22,14 +22,26 @@ use Rattle.theory_instances_denoted.proofs.Put.{fix_ty_skeleton}
 use Rattle.theory_instances_keys.specs.Laws.{with_values}
 use Rattle.theory_instances_canonical.specs.Keys.{values_context, heads_with, val_tree, IsCanonicalProgram, CanonicalFixed, IsCanonicalKey, canonical_val}
 use Rattle.theory_instances_canonical.specs.Keys.{canonical_fix}
-use Rattle.theory_instances_canonical.proofs.Contexts.{skeleton_there, values_valued, values_steady}
-use Rattle.theory_instances_canonical.proofs.Taken as instances
+use Rattle.theory_instances_canonical.proofs.Contexts.{stands_is, skeleton_there}
+use Rattle.theory_instances_canonical.proofs.Values.{entry_of_values, term_skeleton, values_valued}
+use Rattle.theory_instances_canonical.proofs.Taken as taken
 use Rattle.theory_instances_heads.specs.Heads.{MadeFunction, function_or_none, made_entry, AreInstanceHeads, heads_from, counted_entries, made_functions}
 use Rattle.theory_instances_heads.specs.Heads.{heads_of_instances}
 use Rattle.theory_instances_heads.specs.Laws.{InstancesHaveHeads}
 use Rattle.theory_instances_heads.proofs.Each.{Each, each_none, one_more, found, in_front, at_end, longer, SteadyEntry, SteadyMade, from_valued, from_steady}
 use Rattle.theory_instances_heads.proofs.Pinned.{entry_agrees, entry_same}
 use Rattle.theory_instances_heads.proofs.Vals.{all_steady, vals_counted}
+
+-- values are steady
+value_steady : (bound : ℕ) {x : ValuationEntry} → IsOf sk_o x → EntriesAgree bound sk_o x x
+value_steady bound o = record { left = o.of; right = o.of; is_left = o.is; is_right = o.is; agree = refl }
+
+pub values_steady : (m : ℕ) (vs : List Value) → SteadyValuation (values_context m) (with_values vs)
+values_steady m vs bound = record {
+  terms = λ n s d. subst (λ (t : Skeleton). EntriesAgree bound t (entry_at (with_values vs) n) (entry_at (with_values vs) n))
+      (term_skeleton (sym ((stands_is m n (as_term s) d).0))) (value_steady bound (entry_of_values vs n));
+  monos = λ n d. refl;
+}
 
 abbrev skeleton_of_val : ProgramVal → Skeleton
 skeleton_of_val v = skeleton v.ty
@@ -43,8 +55,8 @@ pub record KeyParts (heads : Heads) (p : Program) (key : Key) : Type 0 where
   pub head : IsNeutral heads (values_context m) key.head (skeleton_of_key p key)
   pub fixed : CanonicalFixed heads (values_context m) (skeleton_of_key p key) key.fixed
 
-pub key_parts : {p : Program} {keys : List Key} {key : Key} → IsCanonicalKey (heads_with p keys) p key → KeyParts (heads_with p keys) p key
-key_parts {p = p} {keys = keys} {key = key} (canonical_val m {n = n} {v = v} q found_at f) =
+pub key_parts : {p : Program} {key : Key} (keys : List Key) → IsCanonicalKey (heads_with p keys) p key → KeyParts (heads_with p keys) p key
+key_parts {p = p} {key = key} keys (canonical_val m {n = n} {v = v} q found_at f) =
     let same : skeleton_of_key p key ≡ skeleton v.ty = ap (λ h. skeleton (head_ty p h)) q ∙ ap (λ o. skeleton (ty_of_val o)) found_at in record {
       m = m;
       head =
@@ -53,7 +65,7 @@ key_parts {p = p} {keys = keys} {key = key} (canonical_val m {n = n} {v = v} q f
           (e_val (skeleton_there skeleton_of_val p.vals n v found_at)));
       fixed = subst (λ (s : Skeleton). CanonicalFixed (heads_with p keys) (values_context m) s key.fixed) (sym same) f;
     }
-key_parts {p = p} {keys = keys} {key = key} (canonical_fix m {at = at} {fix = fix} {s = s} q c f) =
+key_parts {p = p} {key = key} keys (canonical_fix m {at = at} {fix = fix} {s = s} q c f) =
     let same : skeleton_of_key p key ≡ s = ap (λ h. skeleton (head_ty p h)) q ∙ fix_ty_skeleton c in record {
       m = m;
       head =
@@ -71,12 +83,12 @@ module _ (p : Program) (xs : List ValuationEntry) (k : Each SteadyEntry (map ske
   abbrev KnownMade : List Key → List MadeFunction → Type 0
   KnownMade keys fs = Each SteadyMade (map (skeleton_of_key p) keys) fs
 
-  made_steady : {before : List Key} {fs : List MadeFunction} (key : Key)
+  made_steady : (before : List Key) {fs : List MadeFunction} (key : Key)
       → KnownMade before fs
       → IsCanonicalKey (heads_with p before) p key
       → SteadyMade (skeleton_of_key p key) (made_entry (heads_from xs fs) key)
-  made_steady {before = before} {fs = fs} key known c values bound =
-      let parts = key_parts c in
+  made_steady before {fs = fs} key known c values bound =
+      let parts = key_parts before c in
       let heads : SteadyHeads (heads_with p before) (heads_from xs fs) = from_steady k known in
       let w = values_steady parts.m (reverse values) in
       entry_agrees bound parts.fixed (heads bound) (w bound) (head_agrees bound parts.head (heads bound) (w bound))
@@ -92,13 +104,13 @@ module _ (p : Program) (xs : List ValuationEntry) (k : Each SteadyEntry (map ske
   skeletons_after [] key = refl
   skeletons_after (x ∷ before) key = λ j. skeleton_of_key p x ∷ skeletons_after before key j
 
-  one_made : {before : List Key} {fs : List MadeFunction} (key : Key)
+  one_made : (before : List Key) {fs : List MadeFunction} (key : Key)
       → KnownMade before fs
       → IsCanonicalKey (heads_with p before) p key
       → KnownMade (before ++ (key ∷ [])) (fs ++ (made_entry (heads_from xs fs) key ∷ []))
-  one_made {before = before} {fs = fs} key known c =
+  one_made before {fs = fs} key known c =
       subst (λ (l : List Skeleton). Each SteadyMade l (fs ++ (made_entry (heads_from xs fs) key ∷ []))) (sym (skeletons_after before key))
-      (one_more known (made_steady key known c))
+      (one_more (skeleton_of_key p key) (made_entry (heads_from xs fs) key) known (made_steady before key known c))
 
   all_made : (before keys : List Key) (fs : List MadeFunction)
       → KnownMade before fs
@@ -107,33 +119,33 @@ module _ (p : Program) (xs : List ValuationEntry) (k : Each SteadyEntry (map ske
   all_made before [] fs known a = subst (λ (l : List Key). KnownMade l fs) (sym (append-nil before)) known
   all_made before (key ∷ keys) fs known a =
       subst (λ (l : List Key). KnownMade l (made_functions xs fs (key ∷ keys))) (append_assoc before (key ∷ []) keys)
-      (all_made (before ++ (key ∷ [])) keys (fs ++ (made_entry (heads_from xs fs) key ∷ [])) (one_made key known (a.0)) (a.1))
+      (all_made (before ++ (key ∷ [])) keys (fs ++ (made_entry (heads_from xs fs) key ∷ [])) (one_made before key known (a.0)) (a.1))
 
   module _ (all : List MadeFunction) where
     abbrev e : HeadEntries
     e = heads_from xs all
 
-    before_agrees : {before : List Key} {fs : List MadeFunction}
+    before_agrees : (before : List Key) {fs : List MadeFunction}
         → KnownMade before fs
         → ((n : ℕ) (f : MadeFunction) → slice_get fs n ≡ Some f → slice_get all n ≡ Some f)
         → HeadsAgree (heads_with p before) (heads_from xs fs) e
-    before_agrees known stays = record {
+    before_agrees before known stays = record {
       vals = λ n s d. refl;
       made = λ n s values d. let r = found known d in
           ap (λ o. function_or_none o values) (stays n r.it r.there) ∙ ap (λ o. function_or_none o values) (sym r.there);
     }
 
     -- the made function of a key, for all heads
-    made_same : {before : List Key} {fs : List MadeFunction} (key : Key)
+    made_same : (before : List Key) {fs : List MadeFunction} (key : Key)
         → KnownMade before fs
         → IsCanonicalKey (heads_with p before) p key
         → ((n : ℕ) (f : MadeFunction) → slice_get fs n ≡ Some f → slice_get all n ≡ Some f)
         → (values : List Value)
         → made_entry e key values ≡ made_entry (heads_from xs fs) key values
-    made_same {before = before} {fs = fs} key known c stays values =
-        let parts = key_parts c in
+    made_same before {fs = fs} key known c stays values =
+        let parts = key_parts before c in
         let h : HeadsValued (heads_with p before) (heads_from xs fs) = from_valued k known in
-        let a = before_agrees known stays in
+        let a = before_agrees before known stays in
         let z = values_valued parts.m (reverse values) in
         let o = head_is_of h z parts.head in
         entry_same h a o.of parts.fixed z (heads_agreed.head_agrees (heads_with p before) (heads_from xs fs) e h a parts.head z) o.is
@@ -155,13 +167,13 @@ module _ (p : Program) (xs : List ValuationEntry) (k : Each SteadyEntry (map ske
         subst (λ n. e.made n values ≡ made_entry e key values) i
         (subst (λ (y : Key). e.made (length fs) values ≡ made_entry e y values) (same_Some x key there)
         (ap (λ o. function_or_none o values) (stays (length fs) f (at_end fs f))
-        ∙ sym (made_same x known (a.0) (λ n g r. stays n g (in_front fs (f ∷ []) n g r)) values)))
+        ∙ sym (made_same before x known (a.0) (λ n g r. stays n g (in_front fs (f ∷ []) n g r)) values)))
     each_is before (x ∷ keys) fs known a q (suc j) key there values =
         let f = made_entry (heads_from xs fs) x in
         let l = longer fs f in
         let i : length (fs ++ (f ∷ [])) + j ≡ length fs + suc j = omega (arith, l) in
         subst (λ n. e.made n values ≡ made_entry e key values) i
-        (each_is (before ++ (x ∷ [])) keys (fs ++ (f ∷ [])) (one_made x known (a.0)) (a.1) q j key there values)
+        (each_is (before ++ (x ∷ [])) keys (fs ++ (f ∷ [])) (one_made before x known (a.0)) (a.1) q j key there values)
 
 at_middle : (before : List Key) (key : Key) (keys : List Key) → slice_get (before ++ (key ∷ keys)) (length before) ≡ Some key
 at_middle [] key keys = refl
@@ -185,7 +197,7 @@ have_heads p instances keys program h =
     let xs = counted_entries [] p.vals in
     let fs = made_functions xs [] keys in
     let k : Each SteadyEntry (map skeleton_of_val p.vals) xs = all_steady p.vals each_none program in
-    let a : InOrder p [] keys = in_order p [] keys (instances.canonical.keys p instances keys program h) in
+    let a : InOrder p [] keys = in_order p [] keys (taken.canonical.keys p instances keys program h) in
     let m : Each SteadyMade (map (skeleton_of_key p) keys) fs = all_made p xs k [] keys [] each_none a in record {
       valued = from_valued k m;
       steady = from_steady k m;

@@ -69,8 +69,8 @@ module _ {heads : Heads} {e e' : HeadEntries} (h : HeadsValued heads e) (a : Hea
   pinned_same (fixed_value f) z d = λ j x. pinned_same f z (d x) j
   pinned_same {w = w} (fixed_term {s = s} {t = t} {term = term} {fixed = fixed} i c f) z d =
       pinned_first s t (term_den e' w term) (map (given e' w) fixed) d i
-      ∙ (λ j (y : Domain s). pinned_same f z (d (term_den e' w term s)) j)
-      ∙ (λ j (y : Domain s). pinned_to t (map (given e w) fixed) (d (heads_agreed.term_agrees heads e e' h a c z j)))
+      ∙ (λ j. λ (y : Domain s). pinned_same f z (d (term_den e' w term s)) j)
+      ∙ (λ j. λ (y : Domain s). pinned_to t (map (given e w) fixed) (d (heads_agreed.term_agrees heads e e' h a c z j)))
       ∙ sym (pinned_first s t (term_den e w term) (map (given e w) fixed) d i)
   pinned_same {w = w} (fixed_mono {mono = mono} c f) z d = λ j u. pinned_same f z (d (mono_in w mono)) j
 

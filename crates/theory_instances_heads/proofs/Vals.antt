@@ -18,7 +18,8 @@ use Rattle.theory_denotation_unfolding.proofs.Recursions.{entered_agree}
 use Rattle.theory_denotation_unfolding.proofs.Agreed as steady
 use Rattle.theory_instances.specs.Calls.{ProgramVal}
 use Rattle.theory_instances_canonical.specs.Keys.{val_tree}
-use Rattle.theory_instances_heads.specs.Heads.{MadeFunction, counted_entry, counted_entries, heads_from}
+use Rattle.theory_instances_canonical.specs.Counted.{counted_entry}
+use Rattle.theory_instances_heads.specs.Heads.{MadeFunction, counted_entries, heads_from}
 use Rattle.theory_instances_heads.proofs.Each.{Each, each_none, one_more, found, in_front, at_end, longer, SteadyEntry, SteadyMade, from_valued, from_steady}
 
 closed : ContextValued [] []
@@ -33,12 +34,12 @@ Known ss xs = Each SteadyEntry ss xs
 none_made : Each SteadyMade [] []
 none_made = each_none
 
-counted_steady : {ss : List Skeleton} {xs : List ValuationEntry} {v : ProgramVal}
+counted_steady : {ss : List Skeleton} {xs : List ValuationEntry} (v : ProgramVal)
     → Known ss xs
     → IsCanonical (heads_of_skeletons ss) [] v.term (skeleton v.ty)
     → EndsInRun (skeleton v.ty)
     → SteadyEntry (skeleton v.ty) (counted_entry (heads_from xs []) v)
-counted_steady {xs = xs} {v = v} k c r bound =
+counted_steady {xs = xs} v k c r bound =
     let d = term_den (heads_from xs []) [] v.term (skeleton v.ty) in record {
       left = entered (skeleton v.ty) d;
       right = entered (skeleton v.ty) d;
@@ -56,7 +57,7 @@ all_steady {ss = ss} {xs = xs} [] k a = subst (λ (l : List Skeleton). Known l x
 all_steady {ss = ss} {xs = xs} (v ∷ vals) k (vals_more c r others) =
     subst (λ (l : List Skeleton). Known l (counted_entries xs (v ∷ vals)))
     (append_assoc ss (skeleton v.ty ∷ []) (map (λ (u : ProgramVal). skeleton u.ty) vals))
-    (all_steady vals (one_more k (counted_steady {v = v} k c r)) others)
+    (all_steady vals (one_more (skeleton v.ty) (counted_entry (heads_from xs []) v) k (counted_steady v k c r)) others)
 
 kept : (known : List ValuationEntry) (vals : List ProgramVal) (n : ℕ) (x : ValuationEntry)
     → slice_get known n ≡ Some x
@@ -110,7 +111,7 @@ module _ (all : List ValuationEntry) (fs : List MadeFunction) where
       let l = longer known x in
       let i : length (known ++ (x ∷ [])) + j ≡ length known + suc j = omega (arith, l) in
       subst (λ n. slice_get all n ≡ Some (counted_entry e v)) i
-      (each_is (known ++ (x ∷ [])) vals (one_more k (counted_steady {v = u} k c r)) others q j v found_at)
+      (each_is (known ++ (x ∷ [])) vals (one_more (skeleton u.ty) x k (counted_steady u k c r)) others q j v found_at)
 
   pub vals_counted : (vals : List ProgramVal)
       → AreVals [] (map val_tree vals)

@@ -3,10 +3,9 @@
 -- the key, whatever a call gives for them; the captured variables have the values that it was made with.
 use Rattle.std.specs.Prelude.{◌≡◌, ℕ, List, [], ◌∷◌, ◌++◌, map, reverse, Option, Some, None, slice_get}
 use Rattle.theory_values.specs.Values.{Value}
-use Rattle.theory_canonical.specs.Skeletons.{Skeleton, sk_o, sk_arrow, sk_all, skeleton}
+use Rattle.theory_canonical.specs.Skeletons.{Skeleton, sk_o, sk_arrow, sk_all}
 use Rattle.theory_denotation.specs.Valuations.{Domain, ValuationEntry, den_term, no_entry, HeadEntries}
-use Rattle.theory_denotation.specs.Recursion.{entered}
-use Rattle.theory_denotation.specs.Denotation.{term_den, head_den, entry_or_none}
+use Rattle.theory_denotation.specs.Denotation.{head_den, entry_or_none}
 use Rattle.theory_denotation.specs.Valued.{HeadsValued}
 use Rattle.theory_denotation_unfolding.specs.Agreement.{SteadyHeads}
 use Rattle.theory_instances.specs.Calls.{ProgramVal, Program}
@@ -14,10 +13,7 @@ use Rattle.theory_instances.specs.Keys.{Key}
 use Rattle.theory_instances_passing.specs.Pinned.{GivenArgument, given_term, given_mono, given}
 use Rattle.theory_instances_keys.specs.Laws.{with_values}
 use Rattle.theory_instances_canonical.specs.Keys.{heads_with}
-
--- A value's term, entered.
-abbrev pub counted_entry : HeadEntries → ProgramVal → ValuationEntry
-counted_entry e v = den_term (skeleton v.ty) (entered (skeleton v.ty) (term_den e [] v.term (skeleton v.ty)))
+use Rattle.theory_instances_canonical.specs.Counted.{counted_entry}
 
 -- A function that takes what is set here for its fixed arguments.
 abbrev pub pinned_to : (s : Skeleton) → List GivenArgument → Domain s → Domain s
