@@ -125,7 +125,7 @@ module _ {heads : Heads} {e : HeadEntries} (h : HeadsValued heads e) (p : Progra
       let w' : Valuation = with_values (reverse passed ++ rest) in
       let key : Key = key_at vs site s in
       let r = passed_count s in
-      let count : length passed ≡ r = length-map (λ (x : TermTree). term_den e w x sk_o) (passed_of s (arguments_of call)) ∙ count_passed arguments in
+      let count : length passed ≡ r = length-map (passed_of s (arguments_of call)) (λ (x : TermTree). term_den e w x sk_o) ∙ count_passed arguments in
       let front : length (reverse passed) ≡ r = length-reverse passed ∙ count in
       let k = length captured + m in
       let within = keeps_values (number_in captured) m k (λ i l. number_within captured m i l) in
@@ -148,7 +148,7 @@ module _ {heads : Heads} {e : HeadEntries} (h : HeadsValued heads e) (p : Progra
       call_applies e w call
       ∙ ap (λ t. applied_to (head_den e w t) (map (given e w) (arguments_of call))) head
       ∙ ap (λ x. applied_to x (map (given e w) (arguments_of call))) counted
-      ∙ entered_applies e w (term_den e [] val.term s) (comp_den e w' comp) arguments applied
+      ∙ entered_applies e w arguments (term_den e [] val.term s) (comp_den e w' comp) applied
 
 pub called : CallsOfValuesDenote
 unfolding term_den

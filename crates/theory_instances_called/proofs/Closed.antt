@@ -20,15 +20,19 @@ use Rattle.theory_denotation.specs.Valued.{ContextValued, HeadsValued}
 use Rattle.theory_denotation.proofs.HeadsDenote.{fix_is_of, head_is_of, head_value, valued_term, valued_other}
 use Rattle.theory_denotation_renaming.proofs.Entries.{applied_same, fix_entry}
 
-record AgreeAt (g : List Standing) (w w' : Valuation) : Type 0 where
-  at : (n : ℕ) (entry : Standing) → Stands g n entry → entry_at w n ≡ entry_at w' n
+pub record AgreeAt (g : List Standing) (w w' : Valuation) : Type 0 where
+  pub at : (n : ℕ) (entry : Standing) → Stands g n entry → entry_at w n ≡ entry_at w' n
+
+next_at : {g : List Standing} {w w' : Valuation} (entry : Standing) (x : ValuationEntry)
+    → AgreeAt g w w'
+    → (n : ℕ) (found : Standing)
+    → Stands (entry ∷ g) n found
+    → entry_at (x ∷ w) n ≡ entry_at (x ∷ w') n
+next_at entry x a zero found d = refl
+next_at entry x a (suc n) found (there d) = a.at n found d
 
 next : {g : List Standing} {w w' : Valuation} (entry : Standing) (x : ValuationEntry) → AgreeAt g w w' → AgreeAt (entry ∷ g) (x ∷ w) (x ∷ w')
-next {g = g} {w = w} {w' = w'} entry x a = record { at = go }
-  where
-    go : (n : ℕ) (found : Standing) → Stands (entry ∷ g) n found → entry_at (x ∷ w) n ≡ entry_at (x ∷ w') n
-    go zero found d = refl
-    go (suc n) found (there d) = a.at n found d
+next entry x a = record { at = λ n found d. next_at entry x a n found d }
 
 mono_same : {g : List Standing} {w w' : Valuation} {t : MonoTree} → IsCanonicalMono g t → AgreeAt g w w' → mono_in w t ≡ mono_in w' t
 mono_same n_m_word a = refl

@@ -37,14 +37,14 @@ call_applies e w (t_inst function mono) =
 call_applies e w term = refl
 
 -- what is entered at all its arguments is the computation, entered
-pub entered_applies : {heads : Heads} {g : List Standing} (e : HeadEntries) (w : Valuation) {s : Skeleton} {arguments : List Argument}
-    (f : Domain s) (r : Running)
+pub entered_applies : {heads : Heads} {g : List Standing} {s : Skeleton} {arguments : List Argument} (e : HeadEntries) (w : Valuation)
     → CanonicalArguments heads g s arguments sk_c
+    → (f : Domain s) (r : Running)
     → applied_to (den_term s f) (map (given e w) arguments) ≡ den_term sk_c r
     → applied_to (den_term s (entered s f)) (map (given e w) arguments) ≡ den_term sk_c (entered_running r)
-entered_applies e w f r arguments_none q = ap (λ x. den_term sk_c (entered_running (running_of_entry x))) q
-entered_applies e w f r (arguments_term {s = s} {term = term} c more) q = entered_applies e w (f (term_den e w term s)) r more q
-entered_applies e w f r (arguments_mono {mono = mono} c more) q = entered_applies e w (f (mono_in w mono)) r more q
+entered_applies e w arguments_none f r q = ap (λ x. den_term sk_c (entered_running (running_of_entry x))) q
+entered_applies e w (arguments_term {s = s} {term = term} c more) f r q = entered_applies e w more (f (term_den e w term s)) r q
+entered_applies e w (arguments_mono {mono = mono} c more) f r q = entered_applies e w more (f (mono_in w mono)) r q
 
 -- arguments that come to the same at the skeletons of a function's parameters
 pub data AgreeGiven : Skeleton → List GivenArgument → List GivenArgument → Type 0 where

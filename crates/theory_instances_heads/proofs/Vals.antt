@@ -57,7 +57,8 @@ all_steady {ss = ss} {xs = xs} [] k a = subst (λ (l : List Skeleton). Known l x
 all_steady {ss = ss} {xs = xs} (v ∷ vals) k (vals_more c r others) =
     subst (λ (l : List Skeleton). Known l (counted_entries xs (v ∷ vals)))
     (append_assoc ss (skeleton v.ty ∷ []) (map (λ (u : ProgramVal). skeleton u.ty) vals))
-    (all_steady vals (one_more (skeleton v.ty) (counted_entry (heads_from xs []) v) k (counted_steady v k c r)) others)
+    (all_steady {ss = ss ++ (skeleton v.ty ∷ [])} {xs = xs ++ (counted_entry (heads_from xs []) v ∷ [])} vals
+    (one_more (skeleton v.ty) (counted_entry (heads_from xs []) v) k (counted_steady v k c r)) others)
 
 kept : (known : List ValuationEntry) (vals : List ProgramVal) (n : ℕ) (x : ValuationEntry)
     → slice_get known n ≡ Some x
@@ -106,12 +107,12 @@ module _ (all : List ValuationEntry) (fs : List MadeFunction) where
       let i : length known ≡ length known + 0 = omega arith in
       subst (λ n. slice_get all n ≡ Some (counted_entry e v)) i
       (subst (λ (w : ProgramVal). slice_get all (length known) ≡ Some (counted_entry e w)) (same_Some u v found_at) (first_is known u vals k c q))
-  each_is known (u ∷ vals) k (vals_more c r others) q (suc j) v found_at =
+  each_is {ss = ss} known (u ∷ vals) k (vals_more c r others) q (suc j) v found_at =
       let x = counted_entry (heads_from known []) u in
       let l = longer known x in
       let i : length (known ++ (x ∷ [])) + j ≡ length known + suc j = omega (arith, l) in
       subst (λ n. slice_get all n ≡ Some (counted_entry e v)) i
-      (each_is (known ++ (x ∷ [])) vals (one_more (skeleton u.ty) x k (counted_steady u k c r)) others q j v found_at)
+      (each_is {ss = ss ++ (skeleton u.ty ∷ [])} (known ++ (x ∷ [])) vals (one_more (skeleton u.ty) x k (counted_steady u k c r)) others q j v found_at)
 
   pub vals_counted : (vals : List ProgramVal)
       → AreVals [] (map val_tree vals)

@@ -80,7 +80,7 @@ module _ (p : Program) (keys : List Key) (e : HeadEntries) (a : AreInstanceHeads
       ap (λ (d : Domain s). applied_to (den_term s d) (map (given e w) (arguments_within s key))) (sym (closed_same w a.valued c)) ∙ sym body_is in
       ap (λ t. applied_to (head_den e (with_values rest) t) (map (given e w) (arguments_within s key))) q
       ∙ ap (λ x. applied_to x (map (given e w) (arguments_within s key))) (a.vals n v there)
-      ∙ entered_applies e w (term_den e [] v.term s) (comp_den e w comp) arguments applied
+      ∙ entered_applies e w arguments (term_den e [] v.term s) (comp_den e w comp) applied
 
   -- the made function of a recursive function's key, in its own body
   made_is_pinned : (m number at : ℕ) (key : Key) (fix : FixTree) (s : Skeleton) (passed rest : List Value)
@@ -147,7 +147,7 @@ module _ (p : Program) (keys : List Key) (e : HeadEntries) (a : AreInstanceHeads
       ∙ ap (λ t. applied_to (fix_entry e w0 fix t) (map (given e w) (arguments_within s key))) (fix_is_of c)
       ∙ steady_applies e w arguments a.steady (values_steady k (reverse passed ++ rest)) self (entered s (turn e w0 fix s self))
       (unfolds heads e (values_context m) w0 a.steady (values_steady m rest) fix s c)
-      ∙ entered_applies e w (turn e w0 fix s self) (comp_den e w comp) arguments (sym body_is)
+      ∙ entered_applies e w arguments (turn e w0 fix s self) (comp_den e w comp) (sym body_is)
 
 pub denote : InstancesDenote
 denote p instances keys e program h a number key taken there row rest passed count =
