@@ -1,8 +1,7 @@
 -- Canonical trees denote alike below a bound of fuel where heads and variables do.
-use Rattle.std.proofs.Common.{◌≡◌, ◌<◌, ◌≤◌, ℕ, zero, suc, List, ◌∷◌, refl, sym, ap, ◌∙◌, subst, arith}
+use Rattle.std.proofs.Common.{◌≡◌, ◌≤◌, ℕ, zero, suc, List, ◌∷◌, refl, sym, ap, ◌∙◌, subst, arith}
 use Rattle.htt_syntax.specs.Trees.{MonoTree, TermTree, FixTree, CompTree, StepTree, TermTrees, m_pair}
-use Rattle.theory_values.specs.Values.{Value, v_pair, value_of_op, value_of_not, value_of_eq, value_of_sel, value_of_fst, value_of_snd}
-use Rattle.theory_values.specs.Heaps.{Heap}
+use Rattle.theory_values.specs.Values.{v_pair, value_of_op, value_of_not, value_of_eq, value_of_sel, value_of_fst, value_of_snd}
 use Rattle.theory_truth.specs.TermValue.{value_or_unit}
 use Rattle.theory_canonical.specs.Skeletons.{Skeleton, sk_o, sk_c}
 use Rattle.theory_canonical.specs.Contexts.{Standing, as_mono, as_term, Stands, here, there, Heads}

@@ -1,10 +1,10 @@
 -- Recursions agree below a bound where their turns do, and a recursion is its own turn, entered.
-use Rattle.std.proofs.Common.{◌≡◌, ◌<◌, ◌≤◌, ℕ, zero, suc, refl, arith}
+use Rattle.std.proofs.Common.{◌≤◌, ℕ, zero, suc, refl, arith}
 use Rattle.theory_canonical.specs.Skeletons.{Skeleton, sk_o, sk_c, sk_arrow, sk_all}
 use Rattle.theory_denotation.specs.Valuations.{Domain}
-use Rattle.theory_denotation.specs.Recursion.{entered, unentered, turns, by_fuel, recursion}
+use Rattle.theory_denotation.specs.Recursion.{entered, turns, by_fuel, recursion}
 use Rattle.theory_denotation.specs.Valued.{EndsInRun, ends_c, ends_arrow, ends_all}
-use Rattle.theory_denotation_unfolding.specs.Agreement.{AgreeBelow, IsSteady, SameSteadily}
+use Rattle.theory_denotation_unfolding.specs.Agreement.{AgreeBelow, SameSteadily}
 
 -- below a lower bound
 pub lower : (s : Skeleton) (k b : ℕ) → k ≤ b → (d c : Domain s) → AgreeBelow b s d c → AgreeBelow k s d c

@@ -1,6 +1,4 @@
 -- Canonical trees are steady, and recursive functions unfold.
-use Rattle.std.proofs.Common.{◌≡◌, ℕ, List}
-use Rattle.theory_canonical.specs.Skeletons.{Skeleton}
 use Rattle.theory_denotation.specs.Recursion.{entered, recursion}
 use Rattle.theory_denotation_unfolding.specs.Laws.{CanonicalIsSteady, turn, RecursionsUnfold}
 use Rattle.theory_denotation_unfolding.proofs.Recursions.{unfolding_agrees, same_steadily}

@@ -1,34 +1,33 @@
 -- What a call of a value denotes.
-use Rattle.std.proofs.Common.{◌≡◌, ◌<◌, ℕ, zero, suc, ◌+◌, List, [], ◌∷◌, ◌++◌, length, map, reverse, Some, slice_get, refl, sym, ap, ◌∙◌, subst, arith}
+use Rattle.std.proofs.Common.{◌≡◌, ℕ, zero, suc, ◌+◌, List, [], ◌∷◌, ◌++◌, length, map, reverse, Some, slice_get, refl, sym, ap, ◌∙◌, subst, arith}
 use Rattle.std.proofs.lemmas.List.{append_assoc, reverse-append, length-reverse, length-map}
-use Rattle.std.proofs.lemmas.Option.{same_Some}
-use Rattle.htt_syntax.specs.Trees.{TermTree, CompTree, t_var, t_val}
-use Rattle.theory_renaming.specs.Renaming.{lifts, shifting, rename_mono, rename_term}
-use Rattle.theory_values.specs.Values.{Value, v_unit}
+use Rattle.htt_syntax.specs.Trees.{TermTree, CompTree, t_val}
+use Rattle.theory_renaming.specs.Renaming.{lifts, shifting, rename_term}
+use Rattle.theory_values.specs.Values.{Value}
 use Rattle.theory_canonical.specs.Skeletons.{Skeleton, sk_o, sk_c, sk_arrow, sk_all, skeleton}
-use Rattle.theory_canonical.specs.Contexts.{Standing, as_term, Stands, Heads}
+use Rattle.theory_canonical.specs.Contexts.{Standing, Heads}
 use Rattle.theory_canonical.specs.Canonical.{IsCanonical, IsNeutral}
-use Rattle.theory_denotation.specs.Valuations.{Domain, ValuationEntry, den_term, Valuation, entry_at, value_of_entry, at_skeleton, HeadEntries}
-use Rattle.theory_denotation.specs.Recursion.{entered, entered_running}
+use Rattle.theory_denotation.specs.Valuations.{Domain, ValuationEntry, den_term, Valuation, entry_at, value_of_entry, HeadEntries}
+use Rattle.theory_denotation.specs.Recursion.{entered_running}
 use Rattle.theory_denotation.specs.Denotation.{term_den, head_den, comp_den}
-use Rattle.theory_denotation.specs.Valued.{IsOf, ContextValued, HeadsValued}
+use Rattle.theory_denotation.specs.Valued.{IsOf, HeadsValued}
 use Rattle.theory_denotation.proofs.HeadsDenote.{head_is_of}
 use Rattle.theory_denotation_renaming.specs.Along.{AgreeAlong}
 use Rattle.theory_denotation_renaming.proofs.Renamed.{mono_renamed, term_renamed}
 use Rattle.theory_instances.specs.Calls.{ProgramVal, Program, Argument, of_term, of_mono, rename_argument, head_of, arguments_of, fixed_of, passed_of}
-use Rattle.theory_instances.specs.Calls.{passed_count, all_arguments, variables, head_ty, ty_of_val, Site}
+use Rattle.theory_instances.specs.Calls.{passed_count, variables, head_ty, ty_of_val, Site}
 use Rattle.theory_instances.specs.Keys.{Key, captured_of, number_in, key_of}
 use Rattle.theory_instances.specs.Bodies.{HasBody, arguments_within, past_passed}
-use Rattle.theory_instances_passing.specs.Pinned.{GivenArgument, given_term, given_mono, given, applied_to}
+use Rattle.theory_instances_passing.specs.Pinned.{given_term, given_mono, given, applied_to}
 use Rattle.theory_instances_denoted.specs.Arguments.{CanonicalArguments, arguments_none, arguments_term, arguments_mono}
 use Rattle.theory_instances_denoted.proofs.Bodies.{vals_denote}
 use Rattle.theory_instances_keys.specs.Laws.{value_entry, with_values, captured_values}
 use Rattle.theory_instances_keys.proofs.Keys.{keys}
-use Rattle.theory_instances_canonical.specs.Keys.{values_context, CanonicalFixed}
+use Rattle.theory_instances_canonical.specs.Keys.{values_context}
 use Rattle.theory_instances_canonical.specs.Counted.{counted_entry}
 use Rattle.theory_instances_canonical.proofs.Contexts.{keeps_values, number_within, closed_within}
 use Rattle.theory_instances_canonical.proofs.Values.{values_valued}
-use Rattle.theory_instances_canonical.proofs.Sites.{Spine, spine_of, fixed_canonical, fixed_renamed}
+use Rattle.theory_instances_canonical.proofs.Sites.{spine_of, fixed_canonical, fixed_renamed}
 use Rattle.theory_instances_canonical.proofs.Bodies.{all_canonical, past_keeps}
 use Rattle.theory_instances_called.specs.Laws.{passed_values, parameter_values, CallsOfValuesDenote}
 use Rattle.theory_instances_called.proofs.Closed.{closed_same}

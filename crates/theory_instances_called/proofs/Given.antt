@@ -1,5 +1,5 @@
 -- Heads with their arguments as applications, and arguments that come to the same.
-use Rattle.std.proofs.Common.{◌≡◌, ℕ, zero, suc, List, [], ◌∷◌, ◌++◌, map, refl, sym, ap, ◌∙◌, subst}
+use Rattle.std.proofs.Common.{◌≡◌, List, [], ◌∷◌, ◌++◌, map, refl, sym, ap, ◌∙◌}
 use Rattle.htt_syntax.specs.Trees.{MonoTree, TermTree, t_app, t_inst}
 use Rattle.theory_values.specs.Values.{Value}
 use Rattle.theory_canonical.specs.Skeletons.{Skeleton, sk_o, sk_c, sk_arrow, sk_all}

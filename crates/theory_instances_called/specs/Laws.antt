@@ -4,7 +4,7 @@ use Rattle.std.specs.Prelude.{◌≡◌, ℕ, List, [], ◌++◌, map, reverse, 
 use Rattle.htt_syntax.specs.Trees.{TermTree, CompTree, t_val}
 use Rattle.theory_values.specs.Values.{Value}
 use Rattle.theory_canonical.specs.Skeletons.{Skeleton, sk_o, sk_c, skeleton}
-use Rattle.theory_canonical.specs.Contexts.{Standing, Heads}
+use Rattle.theory_canonical.specs.Contexts.{Heads}
 use Rattle.theory_canonical.specs.Canonical.{IsCanonical, IsNeutral}
 use Rattle.theory_denotation.specs.Valuations.{den_term, HeadEntries}
 use Rattle.theory_denotation.specs.Recursion.{entered_running}

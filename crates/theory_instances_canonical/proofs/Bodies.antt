@@ -1,11 +1,11 @@
 -- The body of an instance with a canonical key is canonical.
-use Rattle.std.proofs.Common.{◌≡◌, ◌<◌, ◌≤◌, ℕ, zero, suc, ◌+◌, List, [], ◌∷◌, ◌++◌, length, map, Some, slice_get, refl, sym, ap, ◌∙◌, subst, arith}
+use Rattle.std.proofs.Common.{◌≡◌, ◌<◌, ◌≤◌, ℕ, zero, suc, ◌+◌, List, [], ◌∷◌, ◌++◌, length, map, slice_get, refl, sym, ap, ◌∙◌, subst, arith}
 use Rattle.std.proofs.lemmas.Option.{same_Some}
 use Rattle.htt_syntax.specs.Trees.{TermTree, FixTree, CompTree, t_var, t_val, t_fix, t_do}
 use Rattle.theory_renaming.specs.Renaming.{lifts, shifting, rename_term, rename_fix}
 use Rattle.theory_canonical.specs.Skeletons.{Skeleton, sk_o, sk_c, sk_arrow, sk_all, skeleton}
 use Rattle.theory_canonical.specs.Eta.{eta}
-use Rattle.theory_canonical.specs.Contexts.{Standing, as_term, Heads, HasSkeleton, KeepsStandings}
+use Rattle.theory_canonical.specs.Contexts.{Standing, Heads, HasSkeleton, KeepsStandings}
 use Rattle.theory_canonical.specs.Canonical.{IsCanonical, IsNeutral, IsCanonicalTerms, IsCanonicalFix, IsCanonicalComp, n_neutral, e_var, e_made, n_no_terms}
 use Rattle.theory_canonical.specs.Canonical.{n_more_terms}
 use Rattle.theory_canonical.proofs.Renamed as renamed
@@ -16,7 +16,7 @@ use Rattle.theory_substitution_total.proofs.Places.{put_fills}
 use Rattle.theory_substitution_total.proofs.Results.{app_result}
 use Rattle.theory_denotation_substitution.proofs.Results.{family_body, do_comp}
 use Rattle.theory_items.proofs.MoreHeads.{term_more}
-use Rattle.theory_instances.specs.Calls.{ProgramVal, Program, Argument, of_term, of_mono, rename_argument, passed_count, all_arguments, fix_ty, terms_from}
+use Rattle.theory_instances.specs.Calls.{ProgramVal, Program, Argument, of_term, passed_count, all_arguments, fix_ty, terms_from}
 use Rattle.theory_instances.specs.Calls.{variables}
 use Rattle.theory_instances.specs.Keys.{Key}
 use Rattle.theory_instances.specs.Bodies.{Puts, puts_none, puts_term, puts_mono, opened_fix, opened_skeleton, past_passed, arguments_within, made_of, HasBody}

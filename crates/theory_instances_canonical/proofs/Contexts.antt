@@ -1,8 +1,8 @@
 -- Contexts of values alone, and maps between them.
-use Rattle.std.proofs.Common.{◌≡◌, ◌<◌, ◌≤◌, ℕ, zero, suc, ◌+◌, List, [], ◌∷◌, length, map, replicate, Bool, true, false, nat_eq, if◌then◌else◌, Some}
-use Rattle.std.proofs.Common.{slice_get, refl, sym, ap, ◌∙◌, subst, arith}
+use Rattle.std.proofs.Common.{◌≡◌, ◌<◌, ℕ, zero, suc, ◌+◌, List, [], ◌∷◌, length, map, Bool, true, false, nat_eq, if◌then◌else◌, Some}
+use Rattle.std.proofs.Common.{slice_get, refl, sym, ap, subst, arith}
 use Rattle.htt_syntax.specs.Trees.{TermTree}
-use Rattle.theory_renaming.specs.Renaming.{Map, rename_term}
+use Rattle.theory_renaming.specs.Renaming.{Map}
 use Rattle.theory_canonical.specs.Skeletons.{Skeleton, sk_o}
 use Rattle.theory_canonical.specs.Contexts.{Standing, as_term, Stands, here, there, Heads, HasSkeleton, first_head, later_head, KeepsStandings}
 use Rattle.theory_canonical.specs.Canonical.{IsCanonical}

@@ -1,10 +1,10 @@
 -- What is canonical with the made functions of some keys is so with those of more; and the values of a canonical
 -- program are canonical with all values as heads.
-use Rattle.std.proofs.Common.{◌≡◌, ◌≤◌, ℕ, zero, suc, List, [], ◌∷◌, ◌++◌, map, take, Some, None, slice_get, refl, sym, ap, ◌∙◌, subst, arith}
+use Rattle.std.proofs.Common.{◌≡◌, ◌≤◌, ℕ, zero, suc, List, [], ◌∷◌, ◌++◌, map, take, Some, None, slice_get, sym, ap, ◌∙◌, subst, arith}
 use Rattle.std.proofs.lemmas.List.{append-nil, append_assoc}
 use Rattle.std.proofs.lemmas.Option.{same_Some}
-use Rattle.htt_syntax.specs.Trees.{TermTree, FixTree, CompTree, t_do}
-use Rattle.theory_canonical.specs.Skeletons.{Skeleton, sk_c, skeleton}
+use Rattle.htt_syntax.specs.Trees.{FixTree, CompTree}
+use Rattle.theory_canonical.specs.Skeletons.{Skeleton, skeleton}
 use Rattle.theory_canonical.specs.Contexts.{Standing, as_term, Heads, HasSkeleton, first_head, later_head}
 use Rattle.theory_canonical.specs.Canonical.{IsCanonical, IsCanonicalTy, IsCanonicalFix, IsCanonicalComp, n_lam, n_do, n_fun, n_hoare, n_param, n_body}
 use Rattle.theory_denotation.specs.Denotation.{ValTree}

@@ -1,17 +1,16 @@
 -- The calls of a canonical computation, and the keys of these.
-use Rattle.std.proofs.Common.{◌≡◌, ℕ, zero, suc, ◌+◌, List, [], ◌∷◌, ◌++◌, length, map, flat_map, Some, None, slice_get, refl, sym, ap, ◌∙◌, subst, arith}
-use Rattle.htt_syntax.specs.Trees.{MonoTree, TermTree, FixTree, CompTree, StepTree, t_val, t_fix, t_made, t_var}
+use Rattle.std.proofs.Common.{◌≡◌, ℕ, zero, suc, ◌+◌, List, [], ◌∷◌, ◌++◌, length, map, flat_map, Some, slice_get, refl, sym, ap, ◌∙◌, subst}
+use Rattle.htt_syntax.specs.Trees.{MonoTree, TermTree, CompTree, StepTree}
 use Rattle.theory_renaming.specs.Renaming.{Map, rename_term}
 use Rattle.theory_canonical.specs.Skeletons.{Skeleton, sk_o, sk_c, sk_arrow, sk_all, skeleton}
 use Rattle.theory_canonical.specs.Contexts.{Standing, as_term, Heads, HasSkeleton, first_head, later_head, KeepsStandings}
-use Rattle.theory_canonical.specs.Canonical.{IsCanonical, IsNeutral, IsCanonicalMono, IsCanonicalFix, IsCanonicalComp, IsCanonicalStep, e_var, e_val, e_made}
+use Rattle.theory_canonical.specs.Canonical.{IsCanonical, IsNeutral, IsCanonicalMono, IsCanonicalComp, IsCanonicalStep, e_var, e_val, e_made}
 use Rattle.theory_canonical.specs.Canonical.{e_fix, e_app, e_inst, n_ret, n_step, n_run, n_alloc, n_get}
 use Rattle.theory_canonical.specs.Canonical.{n_set, n_free, n_if}
 use Rattle.theory_canonical.proofs.Renamed as renamed
-use Rattle.theory_instances.specs.Calls.{ProgramVal, Program, Argument, of_term, of_mono, rename_argument, head_of, arguments_of, fixed_of, fix_ty, ty_of_val}
+use Rattle.theory_instances.specs.Calls.{ProgramVal, Program, Argument, of_term, of_mono, rename_argument, head_of, arguments_of, fixed_of, ty_of_val}
 use Rattle.theory_instances.specs.Calls.{head_ty, bound_mono, Site, sites_of, sites_of_step}
 use Rattle.theory_instances.specs.Keys.{Key, captured_of, number_in, key_of_site, keys_of_head, keys_of_site}
-use Rattle.theory_instances_passing.specs.Pinned.{IsFixed}
 use Rattle.theory_instances_denoted.specs.Arguments.{CanonicalArguments, arguments_none, arguments_term, arguments_mono}
 use Rattle.theory_instances_denoted.proofs.Put.{fix_ty_skeleton}
 use Rattle.theory_instances_canonical.specs.Keys.{values_context, heads_with, CanonicalFixed, fixed_end, fixed_value, fixed_term, fixed_mono, IsCanonicalKey}

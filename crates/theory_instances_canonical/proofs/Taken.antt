@@ -1,16 +1,16 @@
 -- Keys and bodies of the instances of a canonical program are canonical.
-use Rattle.std.proofs.Common.{◌≡◌, ◌≤◌, ◌<◌, ℕ, zero, suc, ◌+◌, List, [], ◌∷◌, ◌++◌, length, map, take, Some, None, slice_get, ◌⊎◌, inl, inr, refl, sym, ap}
+use Rattle.std.proofs.Common.{◌≡◌, ℕ, zero, suc, ◌+◌, List, [], ◌∷◌, ◌++◌, length, map, take, Some, None, slice_get, ◌⊎◌, inl, inr, refl, sym, ap}
 use Rattle.std.proofs.Common.{◌∙◌, subst, arith}
 use Rattle.std.proofs.lemmas.List.{take_at, take-append-le}
 use Rattle.std.proofs.lemmas.Option.{same_Some, slice_get_within}
-use Rattle.htt_syntax.specs.Trees.{TyTree, FixTree, CompTree, t_fix}
-use Rattle.theory_canonical.specs.Skeletons.{Skeleton, sk_c, skeleton}
+use Rattle.htt_syntax.specs.Trees.{TyTree}
+use Rattle.theory_canonical.specs.Skeletons.{Skeleton, skeleton}
 use Rattle.theory_canonical.specs.Contexts.{Heads, HasSkeleton}
 use Rattle.theory_canonical.specs.Canonical.{IsCanonicalComp}
 use Rattle.theory_items.proofs.MoreHeads.{HasHeads}
-use Rattle.theory_instances.specs.Calls.{ProgramVal, Program, fix_ty, head_ty, sites_of}
+use Rattle.theory_instances.specs.Calls.{Program, head_ty, sites_of}
 use Rattle.theory_instances.specs.Keys.{Key}
-use Rattle.theory_instances.specs.Lists.{Meets, meets_none, meets_known, meets_new, keys_met, Taken, TakesUp, TakesAll, takes_end, takes_next, IsMain, main_key}
+use Rattle.theory_instances.specs.Lists.{Meets, meets_none, meets_known, meets_new, Taken, TakesUp, TakesAll, takes_end, takes_next, IsMain, main_key}
 use Rattle.theory_instances.specs.Lists.{HasInstances}
 use Rattle.theory_instances_canonical.specs.Keys.{values_context, heads_with, IsCanonicalProgram, CanonicalFixed, fixed_end, IsCanonicalKey, canonical_val}
 use Rattle.theory_instances_canonical.specs.Laws.{InstancesAreCanonical}

@@ -3,7 +3,7 @@
 use Rattle.std.specs.Prelude.{◌≡◌, ℕ, List, [], ◌∷◌, map, replicate, Some, slice_get}
 use Rattle.htt_syntax.specs.Trees.{MonoTree, TermTree, FixTree, t_val, t_fix}
 use Rattle.theory_canonical.specs.Skeletons.{Skeleton, sk_o, sk_c, sk_arrow, sk_all, skeleton}
-use Rattle.theory_canonical.specs.Contexts.{Standing, as_term, Heads, HasSkeleton}
+use Rattle.theory_canonical.specs.Contexts.{Standing, as_term, Heads}
 use Rattle.theory_canonical.specs.Canonical.{IsCanonical, IsCanonicalMono, IsCanonicalFix}
 use Rattle.theory_denotation.specs.Denotation.{ValTree}
 use Rattle.theory_denotation_relations.specs.Files.{AreVals}

@@ -1,6 +1,6 @@
 -- The variables of a key are numbered by its captured variables, and so are those of all keys of a list.
 use Rattle.std.proofs.Common.{◌≡◌, ◌<◌, ℕ, zero, suc, List, [], ◌∷◌, ◌++◌, length, map, flat_map, All, Bool, true, false, nat_eq, if◌then◌else◌, Some, None, slice_get}
-use Rattle.std.proofs.Common.{◌⊎◌, inl, inr, refl, sym, ap, subst, arith}
+use Rattle.std.proofs.Common.{refl, sym, subst, arith}
 use Rattle.std.proofs.lemmas.List.{length-map}
 use Rattle.std.proofs.lemmas.List.Elements.{All-nil, All-cons, All-head, All-tail, All-same}
 use Rattle.std.proofs.lemmas.Option.{same_Some}
@@ -9,7 +9,7 @@ use Rattle.theory_canonical.specs.Skeletons.{skeleton}
 use Rattle.theory_instances.specs.Calls.{Program, Argument, head_of, arguments_of, fixed_of, head_ty, Site, sites_of}
 use Rattle.theory_instances.specs.Keys.{Key, is_among, met_after, variables_met, captured_of, number_in, mono_at, key_of, keys_of_head, keys_of_site}
 use Rattle.theory_instances.specs.Occurrences.{met_in_term}
-use Rattle.theory_instances.specs.Lists.{Meets, meets_none, meets_known, meets_new, Taken, TakesAll, takes_end, takes_next, HasInstances, main_key}
+use Rattle.theory_instances.specs.Lists.{Meets, meets_none, meets_known, meets_new, Taken, TakesAll, takes_end, takes_next, main_key}
 use Rattle.theory_instances_captured.specs.Laws.{MeetsOnlyCaptured, KeysMeetOnlyCaptured}
 use Rattle.theory_instances_captured.proofs.Moved.{key_moved}
 

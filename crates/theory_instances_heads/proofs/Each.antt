@@ -1,5 +1,5 @@
 -- Lists whose elements have something to do with skeletons, and the heads that such lists make.
-use Rattle.std.proofs.Common.{◌≡◌, ℕ, zero, suc, List, [], ◌∷◌, ◌++◌, length, Some, None, slice_get, refl, sym, ap, subst}
+use Rattle.std.proofs.Common.{◌≡◌, ℕ, zero, suc, List, [], ◌∷◌, ◌++◌, length, Some, slice_get, refl, sym, ap, subst}
 use Rattle.theory_values.specs.Values.{Value}
 use Rattle.theory_canonical.specs.Skeletons.{Skeleton}
 use Rattle.theory_canonical.specs.Contexts.{HasSkeleton, first_head, later_head}

@@ -1,31 +1,28 @@
 -- The made functions of a canonical program's keys are steady, and each is what its key says for all heads.
-use Rattle.std.proofs.Common.{◌≡◌, ◌<◌, ℕ, zero, suc, ◌+◌, List, [], ◌∷◌, ◌++◌, length, map, reverse, take, Some, slice_get, refl, sym, ap, ◌∙◌, subst, arith}
-use Rattle.std.proofs.lemmas.List.{append-nil, append_assoc, take_at, length-append}
+use Rattle.std.proofs.Common.{◌≡◌, ℕ, zero, suc, ◌+◌, List, [], ◌∷◌, ◌++◌, length, map, reverse, take, Some, slice_get, refl, sym, ap, ◌∙◌, subst, arith}
+use Rattle.std.proofs.lemmas.List.{append-nil, append_assoc, take_at}
 use Rattle.std.proofs.lemmas.Option.{same_Some}
-use Rattle.htt_syntax.specs.Trees.{TermTree, FixTree, t_val, t_fix}
 use Rattle.theory_values.specs.Values.{Value}
 use Rattle.theory_canonical.specs.Skeletons.{Skeleton, sk_o, skeleton}
-use Rattle.theory_canonical.specs.Contexts.{Standing, as_term, Heads, HasSkeleton}
-use Rattle.theory_canonical.specs.Canonical.{IsCanonical, IsNeutral, e_val, e_fix}
-use Rattle.theory_denotation.specs.Valuations.{ValuationEntry, den_term, Valuation, entry_at, HeadEntries}
-use Rattle.theory_denotation.specs.Denotation.{head_den, entry_or_none}
-use Rattle.theory_denotation.specs.Valued.{IsOf, ContextValued, HeadsValued}
+use Rattle.theory_canonical.specs.Contexts.{as_term, Heads}
+use Rattle.theory_canonical.specs.Canonical.{IsNeutral, e_val, e_fix}
+use Rattle.theory_denotation.specs.Valuations.{ValuationEntry, entry_at, HeadEntries}
+use Rattle.theory_denotation.specs.Valued.{IsOf, HeadsValued}
 use Rattle.theory_denotation.proofs.HeadsDenote.{head_is_of}
 use Rattle.theory_denotation_heads.specs.Agreeing.{HeadsAgree}
 use Rattle.theory_denotation_heads.proofs.Agreed as heads_agreed
-use Rattle.theory_denotation_unfolding.specs.Agreement.{EntriesAgree, ValuationsAgree, SteadyValuation, SteadyHeads}
+use Rattle.theory_denotation_unfolding.specs.Agreement.{EntriesAgree, SteadyValuation, SteadyHeads}
 use Rattle.theory_denotation_unfolding.proofs.Agreed.{head_agrees}
-use Rattle.theory_instances.specs.Calls.{ProgramVal, Program, Argument, head_ty, ty_of_val, fix_ty}
+use Rattle.theory_instances.specs.Calls.{ProgramVal, Program, head_ty, ty_of_val}
 use Rattle.theory_instances.specs.Keys.{Key}
-use Rattle.theory_instances.specs.Lists.{Taken, HasInstances}
 use Rattle.theory_instances_denoted.proofs.Put.{fix_ty_skeleton}
 use Rattle.theory_instances_keys.specs.Laws.{with_values}
-use Rattle.theory_instances_canonical.specs.Keys.{values_context, heads_with, val_tree, IsCanonicalProgram, CanonicalFixed, IsCanonicalKey, canonical_val}
+use Rattle.theory_instances_canonical.specs.Keys.{values_context, heads_with, CanonicalFixed, IsCanonicalKey, canonical_val}
 use Rattle.theory_instances_canonical.specs.Keys.{canonical_fix}
 use Rattle.theory_instances_canonical.proofs.Contexts.{stands_is, skeleton_there}
 use Rattle.theory_instances_canonical.proofs.Values.{entry_of_values, term_skeleton, values_valued}
 use Rattle.theory_instances_canonical.proofs.Taken as taken
-use Rattle.theory_instances_heads.specs.Heads.{MadeFunction, function_or_none, made_entry, AreInstanceHeads, heads_from, counted_entries, made_functions}
+use Rattle.theory_instances_heads.specs.Heads.{MadeFunction, function_or_none, made_entry, heads_from, counted_entries, made_functions}
 use Rattle.theory_instances_heads.specs.Heads.{heads_of_instances}
 use Rattle.theory_instances_heads.specs.Laws.{InstancesHaveHeads}
 use Rattle.theory_instances_heads.proofs.Each.{Each, each_none, one_more, found, in_front, at_end, longer, SteadyEntry, SteadyMade, from_valued, from_steady}

@@ -1,7 +1,6 @@
 -- Functions with pinned arguments: they agree where the functions do, and only what the arguments denote at their
 -- skeletons counts.
-use Rattle.std.proofs.Common.{◌≡◌, ◌≤◌, ℕ, List, [], ◌∷◌, map, refl, sym, ap, ◌∙◌, subst, arith}
-use Rattle.htt_syntax.specs.Trees.{TermTree, MonoTree}
+use Rattle.std.proofs.Common.{◌≡◌, ℕ, List, ◌∷◌, map, refl, sym, ap, ◌∙◌, subst}
 use Rattle.theory_canonical.specs.Skeletons.{Skeleton, sk_o, sk_c, sk_arrow, sk_all}
 use Rattle.theory_canonical.specs.Contexts.{Standing, Heads}
 use Rattle.theory_denotation.specs.Valuations.{Domain, ValuationEntry, den_term, Valuation, mono_in, HeadEntries}
@@ -11,8 +10,8 @@ use Rattle.theory_denotation_heads.specs.Agreeing.{HeadsAgree}
 use Rattle.theory_denotation_heads.proofs.Agreed as heads_agreed
 use Rattle.theory_denotation_unfolding.specs.Agreement.{AgreeBelow, EntriesAgree, ValuationsAgree, HeadEntriesAgree}
 use Rattle.theory_denotation_unfolding.proofs.Agreed.{term_agrees, lower_valuations, lower_heads}
-use Rattle.theory_instances.specs.Calls.{Argument, of_term, of_mono}
-use Rattle.theory_instances_passing.specs.Pinned.{AtEach, GivenArgument, given_term, given_mono, given, IsFixed}
+use Rattle.theory_instances.specs.Calls.{Argument}
+use Rattle.theory_instances_passing.specs.Pinned.{AtEach, GivenArgument, given_term, given, IsFixed}
 use Rattle.theory_instances_canonical.specs.Keys.{CanonicalFixed, fixed_end, fixed_value, fixed_term, fixed_mono}
 use Rattle.theory_instances_heads.specs.Heads.{pinned_to, pinned_entry}
 
