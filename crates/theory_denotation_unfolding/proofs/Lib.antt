@@ -1,0 +1,3 @@
+pub mod Recursions
+pub mod Agreed
+pub mod Unfolded

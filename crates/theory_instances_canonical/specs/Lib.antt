@@ -1,0 +1,3 @@
+pub mod Keys
+pub mod Counted
+pub mod Laws

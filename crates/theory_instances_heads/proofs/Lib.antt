@@ -1,0 +1,4 @@
+pub mod Each
+pub mod Pinned
+pub mod Vals
+pub mod Made
