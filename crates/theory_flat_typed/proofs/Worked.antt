@@ -83,7 +83,7 @@ with_params_of : {g : List MonoTree} {params : List TermTree} (x : Instance)
     → (instance : Instance) × (Some x ≡ Some instance) × HaveMonotypes g params instance.params
     → HaveMonotypes g params x.params
 with_params_of {g = g} {params = params} x r =
-    subst (λ (i : Instance). HaveMonotypes g params i.params) (sym (same_Some x (r.0) (r.1.0))) (r.1.1)
+    subst (λ (i : Instance). HaveMonotypes g params i.params) (sym (same_Some x (r.0) (r.1))) (r.2)
 
 none_for_one : {g : List MonoTree} {t : MonoTree} → HaveMonotypes g [] (t ∷ []) → ⊥
 none_for_one d = elim d [ ]
