@@ -1,4 +1,4 @@
-use Rattle.theory_formed_met.proofs.Met.{only_met}
+use Rattle.theory_formed_met.proofs.Occurring.{only_met}
 use Rattle.theory_formed_met.proofs.only_met_is_needed.Goals as goal
 
 pub returns : goal.returns

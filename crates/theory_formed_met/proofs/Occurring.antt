@@ -299,7 +299,7 @@ module _ {P : ℕ → Type 0} {file : FileShapes} (c : IsClosedFile file) where
     formula_met {d = d} (z_equal {left = left} {right = right} d0 d1 d2) k e =
         let r = both P (met_in_term d [] left) (met_in_term d [] right) e in
         z_equal (mono_filled d0 k) (term_met [] d1 k (r.0)) (term_met [] d2 k (r.1))
-    formula_met {d = d} {f = f} {m = m} {h = h} (z_rec {heap = heap} {place = place} {arguments = arguments} {number = number} {ts = ts} q d0 d1 d2) k e =
+    formula_met {d = d} {f = f} {m = m} {h = h} (z_rec {number = number} {heap = heap} {place = place} {arguments = arguments} {ts = ts} q d0 d1 d2) k e =
         let r = both P (met_in_term d [] place) (met_in_terms d arguments) e in
         z_rec q (k.heaps heap d0) (term_met [] d1 k (r.0))
         (subst (IsFormedTerms file h (fill_terms f m arguments)) (c.recs number ts q f) (terms_met d2 k (r.1)))
@@ -310,13 +310,14 @@ abbrev comp_within : TermTree → CompTree
 comp_within (t_do comp) = comp
 comp_within term = c_ret t_unit
 
+comp_same : {file : FileShapes} {g : Shapes} {E : CompTree} {t : MonoTree} (m : Map)
+    → IsFormedComp file g E t
+    → fill_comp (renaming_of m) m E ≡ rename_comp m E
+unfolding fill_term rename_term
+comp_same m d = ap comp_within (term_same m (z_do d))
+
 mutual
   unfolding fill_term rename_term
-
-  comp_same : {file : FileShapes} {g : Shapes} {E : CompTree} {t : MonoTree} (m : Map)
-      → IsFormedComp file g E t
-      → fill_comp (renaming_of m) m E ≡ rename_comp m E
-  comp_same m d = ap comp_within (term_same m (z_do d))
 
   terms_same : {file : FileShapes} {g : Shapes} {Ms : TermTrees} {ts : List MonoTree} (m : Map)
       → IsFormedTerms file g Ms ts
