@@ -29,7 +29,7 @@ abbrev pub EachMet : (ℕ → Type 0) → List Occurrence → Type 0
 EachMet P [] = Unit {0}
 EachMet P (o ∷ others) = P o.variable × EachMet P others
 
-both : (P : ℕ → Type 0) (xs ys : List Occurrence) → EachMet P (xs ++ ys) → EachMet P xs × EachMet P ys
+pub both : (P : ℕ → Type 0) (xs ys : List Occurrence) → EachMet P (xs ++ ys) → EachMet P xs × EachMet P ys
 both P [] ys e = (tt, e)
 both P (x ∷ xs) ys e = let r = both P xs ys (e.1) in ((e.0, r.0), r.1)
 
