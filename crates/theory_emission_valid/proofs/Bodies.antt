@@ -328,94 +328,121 @@ module _ (version : ℕ) (how : Ending) (instances : List Instance) (f : Functio
   step_found (typed_free c x) = refl
   step_found (typed_if c x y z) = refl
 
+  -- what is held behind a step
+  abbrev with_step : List Held → ℕ → ℕ → FlatStepTree → List Held
+  with_step g next at step = record { place = (emit_step instances g next at step).place; mono = flat_mono instances step } ∷ g
+
+  step_below : (g : List Held) (next at : ℕ) {ts : List MonoTree} {step : FlatStepTree} {u : MonoTree}
+      → AreBelow next g
+      → IsTypedStep instances ts step u
+      → StandsStep code f next at u (emit_step instances g next at step)
+      → AreBelow (emit_step instances g next at step).next (with_step g next at step)
+  step_below g next at {step = step} {u = u} b s r =
+      let grows = r.grows in
+      let room = r.room in
+      let wide : width (flat_mono instances step) ≡ width u = ap width (step_found s) in
+      (omega (arith, room, wide), below_more next (emit_step instances g next at step).next g grows b)
+
+  -- a term under the variables that are held
+  held_term : (g : List Held) {ts : List MonoTree} {term : TermTree} {t : MonoTree} → monos_of g ≡ ts → HasMonotype ts term t → HasMonotype (monos_of g) term t
+  held_term g {term = term} {t = t} q x = subst (λ us. HasMonotype us term t) (sym q) x
+
+  held_terms : (g : List Held) {ts us : List MonoTree} {terms : List TermTree} → monos_of g ≡ ts → HaveMonotypes ts terms us → HaveMonotypes (monos_of g) terms us
+  held_terms g {us = us} {terms = terms} q x = subst (λ vs. HaveMonotypes vs terms us) (sym q) x
+
+  -- a step of a tail body, in tail place or not
+  tail_row : (g : List Held) (next at : ℕ) (step : FlatStepTree) (others : FlatTree) {ts : List MonoTree} {t u : MonoTree}
+      → IsTyped instances (u ∷ ts) others t
+      → (may_end step ≡ true → StandsBody code f is_tail next at u (emit_last instances g next at step))
+      → StandsBody code f is_tail next at t
+      (in_row (emit_step instances g next at step)
+      (emit_flat instances is_tail (with_step g next at step) (emit_step instances g next at step).next
+      (at + length (emit_step instances g next at step).instrs) others))
+      → StandsBody code f is_tail next at t (emit_flat instances is_tail g next at (flat_step step others))
+  unfolding emit_flat
+  tail_row g next at step others {t = t} {u = u} d last row = by (if may_end step then gives_back others else false) refl
+    where
+      by : (tail : Bool)
+          → (if may_end step then gives_back others else false) ≡ tail
+          → StandsBody code f is_tail next at t
+          (if tail then emit_last instances g next at step else
+          (let first = emit_step instances g next at step in
+          in_row first
+          (emit_flat instances is_tail (record { place = first.place; mono = flat_mono instances step } ∷ g) first.next
+          (at + length first.instrs) others)))
+      by true q =
+          let r = both_true (may_end step) (gives_back others) q in
+          subst (λ x. StandsBody code f is_tail next at x (emit_last instances g next at step)) (given_back d (r.1)) (last (r.0))
+      by false q = row
+
   mutual
     unfolding emit_flat EachMono
 
-    pub body_stands : (ending : Ending) (g : List Held) (next at : ℕ) {flat : FlatTree} {t : MonoTree}
+    pub body_stands : (ending : Ending) (g : List Held) (next at : ℕ) {ts : List MonoTree} {flat : FlatTree} {t : MonoTree}
         → AreBelow next g
-        → IsTyped instances (monos_of g) flat t
+        → monos_of g ≡ ts
+        → IsTyped instances ts flat t
         → EachMono IsWithin flat
         → StandsBody code f ending next at t (emit_flat instances ending g next at flat)
-    body_stands ending g next at b (typed_ret {term = term} x) m = ret_stands ending next at (emit_term g next term) (term_stands code f g next b x)
-    body_stands is_held g next at b (typed_step s d) m = next_stands is_held g next at b s d (m.0) (m.1)
-    body_stands is_returned g next at b (typed_step s d) m = next_stands is_returned g next at b s d (m.0) (m.1)
-    body_stands is_tail g next at b (typed_step {step = step} {others = others} {t = t} {u = u} s d) m =
-        by (if may_end step then gives_back others else false) refl (λ e. last_stands g next at b s e (m.0)) (next_stands is_tail g next at b s d (m.0) (m.1))
-      where
-        by : (tail : Bool)
-            → (if may_end step then gives_back others else false) ≡ tail
-            → (may_end step ≡ true → StandsBody code f is_tail next at u (emit_last instances g next at step))
-            → StandsBody code f is_tail next at t
-            (let first = emit_step instances g next at step in
-            in_row first
-            (emit_flat instances is_tail (record { place = first.place; mono = flat_mono instances step } ∷ g) first.next
-            (at + length first.instrs) others))
-            → StandsBody code f is_tail next at t
-            (if tail then emit_last instances g next at step else
-            (let first = emit_step instances g next at step in
-            in_row first
-            (emit_flat instances is_tail (record { place = first.place; mono = flat_mono instances step } ∷ g) first.next
-            (at + length first.instrs) others)))
-        by true q last row =
-            let r = both_true (may_end step) (gives_back others) q in
-            subst (λ x. StandsBody code f is_tail next at x (emit_last instances g next at step)) (given_back d (r.1)) (last (r.0))
-        by false q last row = row
-
-    next_stands : (ending : Ending) (g : List Held) (next at : ℕ) {step : FlatStepTree} {others : FlatTree} {t u : MonoTree}
-        → AreBelow next g
-        → IsTypedStep instances (monos_of g) step u
-        → IsTyped instances (u ∷ monos_of g) others t
-        → EachMonoOfStep IsWithin step
-        → EachMono IsWithin others
-        → StandsBody code f ending next at t
-        (let first = emit_step instances g next at step in
-        in_row first
-        (emit_flat instances ending (record { place = first.place; mono = flat_mono instances step } ∷ g) first.next
-        (at + length first.instrs) others))
-    next_stands ending g next at {step = step} {others = others} {t = t} {u = u} b s d m n =
+    body_stands ending g next at b e (typed_ret {term = term} x) m =
+        ret_stands ending next at (emit_term g next term) (term_stands code f g next b (held_term g e x))
+    body_stands is_held g next at b e (typed_step {step = step} {others = others} s d) m =
         let first = emit_step instances g next at step in
-        let r = step_stands g next at b s m in
-        let grows = r.grows in
-        let room = r.room in
+        let r = step_stands g next at b e s (m.0) in
+        let end = at + length first.instrs in
         let q = step_found s in
-        let inner : List Held = record { place = first.place; mono = flat_mono instances step } ∷ g in
-        let wide : width (flat_mono instances step) ≡ width u = ap width q in
-        row_stands ending next at first (emit_flat instances ending inner first.next (at + length first.instrs) others) r
-        (body_stands ending inner first.next (at + length first.instrs) (omega (arith, room, wide), below_more next first.next g grows b)
-        (subst (λ x. IsTyped instances (x ∷ monos_of g) others t) (sym q) d) n)
+        row_stands is_held next at first (emit_flat instances is_held (with_step g next at step) first.next end others) r
+        (body_stands is_held (with_step g next at step) first.next end (step_below g next at b s r) (λ j. q j ∷ e j) d (m.1))
+    body_stands is_returned g next at b e (typed_step {step = step} {others = others} s d) m =
+        let first = emit_step instances g next at step in
+        let r = step_stands g next at b e s (m.0) in
+        let end = at + length first.instrs in
+        let q = step_found s in
+        row_stands is_returned next at first (emit_flat instances is_returned (with_step g next at step) first.next end others) r
+        (body_stands is_returned (with_step g next at step) first.next end (step_below g next at b s r) (λ j. q j ∷ e j) d (m.1))
+    body_stands is_tail g next at b e (typed_step {step = step} {others = others} s d) m =
+        let first = emit_step instances g next at step in
+        let r = step_stands g next at b e s (m.0) in
+        let end = at + length first.instrs in
+        let q = step_found s in
+        tail_row g next at step others d (λ k. last_stands g next at b e s k (m.0))
+        (row_stands is_tail next at first (emit_flat instances is_tail (with_step g next at step) first.next end others) r
+        (body_stands is_tail (with_step g next at step) first.next end (step_below g next at b s r) (λ j. q j ∷ e j) d (m.1)))
 
     -- a step in tail place
-    last_stands : (g : List Held) (next at : ℕ) {step : FlatStepTree} {u : MonoTree}
+    last_stands : (g : List Held) (next at : ℕ) {ts : List MonoTree} {step : FlatStepTree} {u : MonoTree}
         → AreBelow next g
-        → IsTypedStep instances (monos_of g) step u
+        → monos_of g ≡ ts
+        → IsTypedStep instances ts step u
         → may_end step ≡ true
         → EachMonoOfStep IsWithin step
         → StandsBody code f is_tail next at u (emit_last instances g next at step)
-    last_stands g next at b (typed_call {number = number} {params = params} {instance = instance} q x) e m =
-        tail_stands next at number instance (emit_terms g next params) q (terms_stand code f g next b x)
-    last_stands g next at b (typed_if {t = t} {test = test} {on_true = on_true} {on_false = on_false} closed x y z) e m =
+    last_stands g next at b q (typed_call {number = number} {params = params} {instance = instance} i x) e m =
+        tail_stands next at number instance (emit_terms g next params) i (terms_stand code f g next b (held_terms g q x))
+    last_stands g next at b q (typed_if {t = t} {test = test} {on_true = on_true} {on_false = on_false} closed x y z) e m =
         let c = emit_term g next test in
-        let r = term_stands code f g next b x in
+        let r = term_stands code f g next b (held_term g q x) in
         let below = below_more next c.next g r.grows b in
         let a = emit_flat instances is_tail g c.next (first_branch at c) on_true in
-        let s = body_stands is_tail g c.next (first_branch at c) below y (m.1) in
+        let s = body_stands is_tail g c.next (first_branch at c) below q y (m.1) in
         split_stands code f next at t c a (emit_flat instances is_tail g a.next (second_branch at c a zero) on_false) r s
-        (body_stands is_tail g a.next (second_branch at c a zero) (below_more c.next a.next g s.grows below) z (m.2))
-    last_stands g next at b (typed_alloc c x) e m = absurd (false_true e)
-    last_stands g next at b (typed_get c x) e m = absurd (false_true e)
-    last_stands g next at b (typed_set c x y) e m = absurd (false_true e)
-    last_stands g next at b (typed_free c x) e m = absurd (false_true e)
+        (body_stands is_tail g a.next (second_branch at c a zero) (below_more c.next a.next g s.grows below) q z (m.2))
+    last_stands g next at b q (typed_alloc c x) e m = absurd (false_true e)
+    last_stands g next at b q (typed_get c x) e m = absurd (false_true e)
+    last_stands g next at b q (typed_set c x y) e m = absurd (false_true e)
+    last_stands g next at b q (typed_free c x) e m = absurd (false_true e)
 
-    step_stands : (g : List Held) (next at : ℕ) {step : FlatStepTree} {u : MonoTree}
+    step_stands : (g : List Held) (next at : ℕ) {ts : List MonoTree} {step : FlatStepTree} {u : MonoTree}
         → AreBelow next g
-        → IsTypedStep instances (monos_of g) step u
+        → monos_of g ≡ ts
+        → IsTypedStep instances ts step u
         → EachMonoOfStep IsWithin step
         → StandsStep code f next at u (emit_step instances g next at step)
-    step_stands g next at b (typed_call {number = number} {params = params} {instance = instance} q x) m =
-        called_stands next at number instance (emit_terms g next params) q (terms_stand code f g next b x)
-    step_stands g next at b (typed_alloc {t = t} {value = value} c x) m =
+    step_stands g next at b q (typed_call {number = number} {params = params} {instance = instance} i x) m =
+        called_stands next at number instance (emit_terms g next params) i (terms_stand code f g next b (held_terms g q x))
+    step_stands g next at b q (typed_alloc {t = t} {value = value} c x) m =
         let e = emit_term g next value in
-        let s = term_stands code f g next b x in
+        let s = term_stands code f g next b (held_term g q x) in
         let grows = s.grows in
         let room = s.room in
         record {
@@ -425,9 +452,9 @@ module _ (version : ℕ) (how : Ending) (instances : List Instance) (f : Functio
               both_good code f e.instrs (Alloc e.next e.place (width t) ∷ []) (s.good (omega (arith, within)))
               (one_good code f (Alloc e.next e.place (width t)) (omega (arith, within), omega (arith, within, room)) tt);
         }
-    step_stands g next at b (typed_get {t = t} {place = place} c x) m =
+    step_stands g next at b q (typed_get {t = t} {place = place} c x) m =
         let e = emit_term g next place in
-        let s = term_stands code f g next b x in
+        let s = term_stands code f g next b (held_term g q x) in
         let grows = s.grows in
         let room = s.room in
         record {
@@ -437,11 +464,11 @@ module _ (version : ℕ) (how : Ending) (instances : List Instance) (f : Functio
               both_good code f e.instrs (Get e.next e.place (width t) ∷ []) (s.good (omega (arith, within)))
               (one_good code f (Get e.next e.place (width t)) (omega (arith, within), omega (arith, within, room)) tt);
         }
-    step_stands g next at b (typed_set {t = t} {place = place} {value = value} c x y) m =
+    step_stands g next at b q (typed_set {t = t} {place = place} {value = value} c x y) m =
         let p = emit_term g next place in
-        let r = term_stands code f g next b x in
+        let r = term_stands code f g next b (held_term g q x) in
         let e = emit_term g p.next value in
-        let s = term_stands code f g p.next (below_more next p.next g r.grows b) y in
+        let s = term_stands code f g p.next (below_more next p.next g r.grows b) (held_term g q y) in
         let p_grows = r.grows in
         let p_room = r.room in
         let grows = s.grows in
@@ -454,9 +481,9 @@ module _ (version : ℕ) (how : Ending) (instances : List Instance) (f : Functio
               (both_good code f p.instrs e.instrs (r.good (omega (arith, within, grows))) (s.good (omega (arith, within))))
               (one_good code f (Set p.place e.place (width t)) (omega (arith, within, p_room, grows), omega (arith, within, room)) tt);
         }
-    step_stands g next at b (typed_free {t = t} {place = place} c x) m =
+    step_stands g next at b q (typed_free {t = t} {place = place} c x) m =
         let p = emit_term g next place in
-        let s = term_stands code f g next b x in
+        let s = term_stands code f g next b (held_term g q x) in
         let grows = s.grows in
         let room = s.room in
         let few = width_within t in
@@ -467,12 +494,12 @@ module _ (version : ℕ) (how : Ending) (instances : List Instance) (f : Functio
               both_good code f p.instrs (Free p.place (width t) ∷ []) (s.good (omega (arith, within)))
               (one_good code f (Free p.place (width t)) (omega (arith, within, room)) (omega (arith, few, m)));
         }
-    step_stands g next at b (typed_if {t = t} {test = test} {on_true = on_true} {on_false = on_false} closed x y z) m =
+    step_stands g next at b q (typed_if {t = t} {test = test} {on_true = on_true} {on_false = on_false} closed x y z) m =
         let c = emit_term g next test in
-        let r = term_stands code f g next b x in
+        let r = term_stands code f g next b (held_term g q x) in
         let grows = r.grows in
         let below = below_more next (c.next + width t) g (omega (arith, grows)) b in
         let a = emit_flat instances is_held g (c.next + width t) (first_branch at c) on_true in
-        let s = body_stands is_held g (c.next + width t) (first_branch at c) below y (m.1) in
+        let s = body_stands is_held g (c.next + width t) (first_branch at c) below q y (m.1) in
         join_stands code f next at t c a (emit_flat instances is_held g a.next (second_branch at c a 2) on_false) r s
-        (body_stands is_held g a.next (second_branch at c a 2) (below_more (c.next + width t) a.next g s.grows below) z (m.2))
+        (body_stands is_held g a.next (second_branch at c a 2) (below_more (c.next + width t) a.next g s.grows below) q z (m.2))

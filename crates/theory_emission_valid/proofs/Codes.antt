@@ -177,7 +177,7 @@ module _ (how : Ending) (version : ℕ) (right : IsVersion how version) (instanc
       let below : AreBelow (width_of_monos instance.params) held = subst (λ n. AreBelow n held) wide (params_below [] zero instance.params tt) in
       let s =
       body_stands version how instances f how held (width_of_monos instance.params) zero below
-      (subst (λ g. IsTyped instances g instance.body instance.result) q typed.body) within.body in
+      (sym q) typed.body within.body in
       let good = s.good (omega arith) (may_end_at code f how instance.result (zero + length f.body) right (omega arith) refl) in
       let few = width_within instance.result in
       let small = within.result in

@@ -46,16 +46,16 @@ put_formed c (puts_term a rest) d (arguments_term e more) = put_formed c rest (a
 put_formed c (puts_mono rest) d (arguments_mono m more) = put_formed c rest (instance_formed d m c) more
 
 -- all arguments, the passed ones among the fixed ones
-fixed_first : {file : FileShapes} {g : Shapes} (a s : Shape) (fixed : List Argument) {term : TermTree} {passed : List TermTree} {r : MonoTree}
+fixed_first : {file : FileShapes} {g : Shapes} (a s : Shape) (fixed : List Argument) (passed : List TermTree) {term : TermTree} {r : MonoTree}
     → IsFixedShape a
     → IsFormedTerm file g term a
     → FormedArguments file g s (all_arguments (bare s) fixed passed) (sh_comp r)
     → FormedArguments file g (sh_fun a s) (all_arguments (bare (sh_fun a s)) (of_term term ∷ fixed) passed) (sh_comp r)
 unfolding bare
-fixed_first (sh_mono t) s fixed i d more = absurd i
-fixed_first (sh_fun a b) s fixed i d more = arguments_term d more
-fixed_first (sh_all a) s fixed i d more = arguments_term d more
-fixed_first (sh_comp t) s fixed i d more = arguments_term d more
+fixed_first (sh_mono t) s fixed passed i d more = absurd i
+fixed_first (sh_fun a b) s fixed passed i d more = arguments_term d more
+fixed_first (sh_all a) s fixed passed i d more = arguments_term d more
+fixed_first (sh_comp t) s fixed passed i d more = arguments_term d more
 
 pub all_formed : {file : FileShapes} {g : Shapes} {s : Shape} {fixed : List Argument} {ts : List MonoTree} {r : MonoTree} {passed : List TermTree}
     → FormedFixed file g s fixed ts r
@@ -64,7 +64,7 @@ pub all_formed : {file : FileShapes} {g : Shapes} {s : Shape} {fixed : List Argu
 unfolding bare
 all_formed fixed_end passed_none = arguments_none
 all_formed (fixed_value f) (passed_more d p) = arguments_term d (all_formed f p)
-all_formed (fixed_term {a = a} {s = s} {fixed = fixed} i d f) p = fixed_first a s fixed i d (all_formed f p)
+all_formed {passed = passed} (fixed_term {a = a} {s = s} {fixed = fixed} i d f) p = fixed_first a s fixed passed i d (all_formed f p)
 all_formed {file = file} {g = g} {r = r} {passed = passed} (fixed_mono {t = t} {s = s} {fixed = fixed} m f) p =
     arguments_mono m
     (subst (λ (k : Skeleton). FormedArguments file g (fill_shape (first_filled t) s) (all_arguments k fixed passed) (sh_comp r))

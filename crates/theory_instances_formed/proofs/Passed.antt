@@ -84,41 +84,37 @@ abbrev Tells : Filling → TyTree → List Argument → List MonoTree → MonoTr
 Tells f ty fixed ts r = (passed_monos f ty fixed ≡ ts) × (result_mono f ty fixed ≡ r)
 
 module _ {file : FileShapes} {g : Shapes} where
-  mutual
-    unfolding shape_of fill_shape
+  answer_given : (answer : TyTree) (f : Filling) {fixed : List Argument} {ts : List MonoTree} {r : MonoTree}
+      → FormedFixed file g (fill_shape f (fill_shape dropping (shape_of answer))) fixed ts r
+      → FormedFixed file g (fill_shape (filled_further f m_unit) (shape_of answer)) fixed ts r
+  answer_given answer f {fixed = fixed} {ts = ts} {r = r} d = subst (λ s. FormedFixed file g s fixed ts r) (further_dropped f (shape_of answer)) d
 
-    -- they tell the monotypes of what is passed, and that of the result
-    pub monos_are : {c : Shapes} {ty : TyTree} (f : Filling) {fixed : List Argument} {ts : List MonoTree} {r : MonoTree}
-        → MonosFormed c ty
-        → FormedFixed file g (fill_shape f (shape_of ty)) fixed ts r
-        → Tells f ty fixed ts r
-    monos_are f (mono_monos m) d = elim d [ ]
-    monos_are f (spec_monos m) d = comp_case d
-    monos_are f {fixed = fixed} {ts = ts} {r = r} (fun_monos {answer = answer} (mono_monos {t = t} m) e) d =
-        let k = value_case d in
-        let q = answer_tells f e k.rest in
-        (ap (λ us. fill_mono f t ∷ us) (q.0) ∙ k.are, q.1)
-    monos_are f {ts = ts} {r = r} (fun_monos {answer = answer} (fun_monos {argument = a} {answer = b} x y) e) d =
-        let k = fixed_case tt d in
-        subst (λ fixed. Tells f (y_fun (y_fun a b) answer) fixed ts r) k.are (answer_tells f e k.rest)
-    monos_are f {ts = ts} {r = r} (fun_monos {answer = answer} (all_monos {body = b} x) e) d =
-        let k = fixed_case tt d in
-        subst (λ fixed. Tells f (y_fun (y_all b) answer) fixed ts r) k.are (answer_tells f e k.rest)
-    monos_are f {ts = ts} {r = r} (fun_monos {answer = answer} (spec_monos {pre = pre} {post = post} {t = t} m) e) d =
-        let k = fixed_case tt d in
-        subst (λ fixed. Tells f (y_fun (y_hoare (triple pre t post)) answer) fixed ts r) k.are (answer_tells f e k.rest)
-    monos_are f {ts = ts} {r = r} (all_monos {body = body} e) d =
-        let k = family_case d in
-        subst (λ fixed. Tells f (y_all body) fixed ts r) k.are
-        (monos_are (filled_further f k.first) e
-        (subst (λ s. FormedFixed file g s k.others ts r) (further_first f k.first (shape_of body)) k.rest))
-
-    answer_tells : {c : Shapes} {answer : TyTree} (f : Filling) {fixed : List Argument} {ts : List MonoTree} {r : MonoTree}
-        → MonosFormed c answer
-        → FormedFixed file g (fill_shape f (fill_shape dropping (shape_of answer))) fixed ts r
-        → Tells (filled_further f m_unit) answer fixed ts r
-    answer_tells {answer = answer} f {fixed = fixed} {ts = ts} {r = r} e d =
-        monos_are (filled_further f m_unit) e (subst (λ s. FormedFixed file g s fixed ts r) (further_dropped f (shape_of answer)) d)
+  -- they tell the monotypes of what is passed, and that of the result
+  pub monos_are : {c : Shapes} {ty : TyTree} (f : Filling) {fixed : List Argument} {ts : List MonoTree} {r : MonoTree}
+      → MonosFormed c ty
+      → FormedFixed file g (fill_shape f (shape_of ty)) fixed ts r
+      → Tells f ty fixed ts r
+  unfolding shape_of fill_shape
+  monos_are f (mono_monos m) d = elim d [ ]
+  monos_are f (spec_monos m) d = comp_case d
+  monos_are f {fixed = fixed} {ts = ts} {r = r} (fun_monos {answer = answer} (mono_monos {t = t} m) e) d =
+      let k = value_case d in
+      let q = monos_are (filled_further f m_unit) e (answer_given answer f k.rest) in
+      (ap (λ us. fill_mono f t ∷ us) (q.0) ∙ k.are, q.1)
+  monos_are f {ts = ts} {r = r} (fun_monos {answer = answer} (fun_monos {argument = a} {answer = b} x y) e) d =
+      let k = fixed_case tt d in
+      subst (λ fixed. Tells f (y_fun (y_fun a b) answer) fixed ts r) k.are (monos_are (filled_further f m_unit) e (answer_given answer f k.rest))
+  monos_are f {ts = ts} {r = r} (fun_monos {answer = answer} (all_monos {body = b} x) e) d =
+      let k = fixed_case tt d in
+      subst (λ fixed. Tells f (y_fun (y_all b) answer) fixed ts r) k.are (monos_are (filled_further f m_unit) e (answer_given answer f k.rest))
+  monos_are f {ts = ts} {r = r} (fun_monos {answer = answer} (spec_monos {pre = pre} {post = post} {t = t} m) e) d =
+      let k = fixed_case tt d in
+      subst (λ fixed. Tells f (y_fun (y_hoare (triple pre t post)) answer) fixed ts r) k.are (monos_are (filled_further f m_unit) e (answer_given answer f k.rest))
+  monos_are f {ts = ts} {r = r} (all_monos {body = body} e) d =
+      let k = family_case d in
+      subst (λ fixed. Tells f (y_all body) fixed ts r) k.are
+      (monos_are (filled_further f k.first) e
+      (subst (λ s. FormedFixed file g s k.others ts r) (further_first f k.first (shape_of body)) k.rest))
 
 -- as many are passed as the skeleton says
 pub count_is : {file : FileShapes} {g : Shapes} {s : Shape} {fixed : List Argument} {ts : List MonoTree} {r : MonoTree}

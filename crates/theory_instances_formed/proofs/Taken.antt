@@ -108,7 +108,7 @@ module _ (recs : List (List MonoTree)) (p : Program) (keys : List Key) (closed :
   file = file_with recs p keys
 
   -- a recursive function, with the captured variables past those that are passed
-  own_formed : {s : Shape} {at : ℕ} {fix : FixTree} (n : ℕ) (passed us : List MonoTree)
+  own_formed : {s : Shape} (at : ℕ) {fix : FixTree} (n : ℕ) (passed us : List MonoTree)
       → n ≡ length passed
       → All IsClosed us
       → All IsClosed (passed ++ us)
@@ -116,7 +116,7 @@ module _ (recs : List (List MonoTree)) (p : Program) (keys : List Key) (closed :
       → IsFormedFix file (values_shapes us) s fix s
       → IsFormedFix file (values_shapes (passed ++ us)) s (rename_fix (shifting zero n) fix) s
   unfolding rename_term
-  own_formed {s = s} {at = at} {fix = fix} n passed us q c all k d =
+  own_formed {s = s} at {fix = fix} n passed us q c all k d =
       let head =
       neutral_renamed (w_fix {at = at} d) closed
       (fills_values (shifting zero n) us (passed ++ us) c all (λ i. past_keeps n passed us q i)) in
@@ -141,7 +141,7 @@ module _ (recs : List (List MonoTree)) (p : Program) (keys : List Key) (closed :
       let count : passed_count (skeleton (fix_ty fix)) ≡ length (reverse ts) = ap passed_count first ∙ count_is f ∙ sym (length-reverse ts) in
       let formed : IsFormedFix file (values_shapes whole) s own s =
       subst (λ o. IsFormedFix file (values_shapes whole) s o s) (sym is_own)
-      (own_formed {at = at} (passed_count (skeleton (fix_ty fix))) (reverse ts) key.captured count captured all k d) in
+      (own_formed at (passed_count (skeleton (fix_ty fix))) (reverse ts) key.captured count captured all k d) in
       let again : bare s ≡ skeleton (fix_ty own) = ap bare (sym (fix_ty_shape formed)) ∙ bare_shape (fix_ty own) in
       let n = passed_count (skeleton (fix_ty own)) in
       let own_count : n ≡ length (reverse ts) = ap passed_count (sym again) ∙ count_is f ∙ sym (length-reverse ts) in
