@@ -4,7 +4,7 @@ use Rattle.std.proofs.Common.{Option, Some, None, refl, sym, ap, ◌∙◌, subs
 use Rattle.std.specs.Prelude.{nat_lt}
 use Rattle.std.specs.List.{flat_map}
 use Rattle.std.proofs.lemmas.Bool.{ltb-false}
-use Rattle.std.proofs.lemmas.List.{length-map}
+use Rattle.std.proofs.lemmas.List.{length-map, reverse-append}
 use Rattle.std.proofs.lemmas.List.Sums.{sum_by-cons}
 use Rattle.std.proofs.lemmas.List.Elements.{All-nil, All-cons, All-append, All-head, All-tail}
 use Rattle.htt_syntax.specs.Trees.{MonoTree}
@@ -28,7 +28,7 @@ use Rattle.theory_emission_valid.proofs.Fields.{in_one, in_four, by_parts, all_f
 -- ---- parameters
 
 reverse_cons : (t : MonoTree) (ts : List MonoTree) → reverse (t ∷ ts) ≡ reverse ts ++ t ∷ []
-reverse_cons t ts = refl
+reverse_cons t ts = reverse-append (t ∷ []) ts
 
 params_monos : (g : List Held) (place : ℕ) (ts : List MonoTree) → monos_of (with_params g place ts) ≡ reverse ts ++ monos_of g
 params_monos g place [] = refl
@@ -51,15 +51,15 @@ some_none q = cc
 
 none_wide : (number : ℕ) (fs : List Function) → wide_function number fs ≡ None → All (λ (f : Function). f.locals ≤ word_limit) fs
 none_wide number [] q = All-nil (λ (f : Function). f.locals ≤ word_limit)
-none_wide number (f ∷ others) q = by (nat_lt word_limit f.locals) refl q
+none_wide number (f ∷ others) q = by (nat_lt word_limit f.locals) refl q (λ r. none_wide (suc number) others r)
   where
     by : (b : Bool)
         → nat_lt word_limit f.locals ≡ b
         → (if b then Some number else wide_function (suc number) others) ≡ None
+        → (wide_function (suc number) others ≡ None → All (λ (f : Function). f.locals ≤ word_limit) others)
         → All (λ (f : Function). f.locals ≤ word_limit) (f ∷ others)
-    by true r q = absurd (some_none q)
-    by false r q =
-        All-cons (λ (f : Function). f.locals ≤ word_limit) f others (ltb-false word_limit f.locals r) (none_wide (suc number) others q)
+    by true r q rest = absurd (some_none q)
+    by false r q rest = All-cons (λ (f : Function). f.locals ≤ word_limit) f others (ltb-false word_limit f.locals r) (rest q)
 
 not_long : (count : ℕ) → length_refusal count ≡ None → count ≤ instr_limit
 not_long count q = by (nat_lt instr_limit count) refl q

@@ -26,7 +26,7 @@ use Rattle.theory_instances_formed.specs.Formed.{values_shapes, made_shape, file
 use Rattle.theory_instances_formed.proofs.Shapes.{IsClosedShape, closed_value, closed_result, closed_argument, closed_answer, closed_instance, formed_closed, carries}
 use Rattle.theory_instances_formed.proofs.Shapes.{fills_values}
 use Rattle.theory_instances_formed.proofs.Sites.{FormedArguments, FormedPassed, fixed_carried}
-use Rattle.theory_instances_formed.proofs.Variables.{Stand, from, variables_are, variables_past, front_stands, back_stands, stand_reverse, stand_terms, stand_passed}
+use Rattle.theory_instances_formed.proofs.Variables.{Stand, reverse_cons, from, variables_are, variables_past, front_stands, back_stands, stand_reverse, stand_terms, stand_passed}
 use Rattle.theory_instances_formed.proofs.Passed.{monos_are, count_is}
 use Rattle.theory_instances_formed.proofs.Bodies.{put_formed, all_formed, each_any, past_keeps, opened_formed, fix_ty_formed, fix_ty_shape, fix_plain}
 use Rattle.theory_instances_formed.proofs.Bodies.{opened_arguments}
@@ -45,8 +45,9 @@ passed_closed xs c (fixed_mono m d) = passed_closed xs (closed_instance c (forme
 reversed_closed : (ts : List MonoTree) → All IsClosed ts → All IsClosed (reverse ts)
 reversed_closed [] c = All-nil IsClosed
 reversed_closed (t ∷ ts) c =
-    All-append IsClosed (reverse ts) (t ∷ []) (reversed_closed ts (All-tail IsClosed t ts c))
-    (All-cons IsClosed t [] (All-head IsClosed t ts c) (All-nil IsClosed))
+    subst (All IsClosed) (sym (reverse_cons t ts))
+    (All-append IsClosed (reverse ts) (t ∷ []) (reversed_closed ts (All-tail IsClosed t ts c))
+    (All-cons IsClosed t [] (All-head IsClosed t ts c) (All-nil IsClosed)))
 
 -- the parameters of a key and its result
 pub record Told (p : Program) (key : Key) (ts : List MonoTree) (r : MonoTree) : Type 0 where

@@ -1,5 +1,6 @@
 -- Variables in order, and their monotypes.
 use Rattle.std.proofs.Common.{◌≡◌, ◌≤◌, ◌<◌, ℕ, zero, suc, ◌+◌, List, [], ◌∷◌, ◌++◌, length, map, reverse, All, Some, slice_get, refl, sym, ap, ◌∙◌, subst, arith}
+use Rattle.std.proofs.lemmas.List.{reverse-append}
 use Rattle.std.proofs.lemmas.List.Elements.{All-head, All-tail}
 use Rattle.htt_syntax.specs.Trees.{MonoTree, TermTree, t_var}
 use Rattle.theory_renaming.specs.Renaming.{Map, lifts, shifting, rename_term}
@@ -25,7 +26,7 @@ stand_append g (n ∷ ns) ms [] us a b = absurd a
 stand_append g (n ∷ ns) ms (t ∷ ts) us a b = (a.0, stand_append g ns ms ts us (a.1) b)
 
 pub reverse_cons : {A : Type 0} (x : A) (xs : List A) → reverse (x ∷ xs) ≡ reverse xs ++ x ∷ []
-reverse_cons x xs = refl
+reverse_cons x xs = reverse-append (x ∷ []) xs
 
 pub stand_reverse : (g : Shapes) (ns : List ℕ) (ts : List MonoTree) → Stand g ns ts → Stand g (reverse ns) (reverse ts)
 stand_reverse g [] [] a = tt
