@@ -133,10 +133,10 @@ fix_plain (z_body d e) = tt
 
 -- its arguments and, last, itself
 pub opened_arguments : {file : FileShapes} {g : Shapes} {whole s : Shape} {arguments : List Argument} {term : TermTree} {r : MonoTree}
-    → IsPlain s
     → FormedArguments file g s arguments (sh_comp r)
+    → IsPlain s
     → IsFormedTerm file g term whole
     → FormedArguments file g (opened_shape whole s) (arguments ++ of_term term ∷ []) (sh_comp r)
-opened_arguments i arguments_none e = arguments_term e arguments_none
-opened_arguments i (arguments_term d more) e = arguments_term d (opened_arguments i more e)
-opened_arguments i (arguments_mono m more) e = absurd i
+opened_arguments arguments_none i e = arguments_term e arguments_none
+opened_arguments (arguments_term d more) i e = arguments_term d (opened_arguments more i e)
+opened_arguments (arguments_mono m more) i e = absurd i

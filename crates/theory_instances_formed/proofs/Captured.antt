@@ -62,14 +62,15 @@ number_there : (captured : List ℕ) (ts : List MonoTree) (n : ℕ)
     → is_among n captured ≡ true
     → slice_get (map (mono_at ts) captured) (number_in captured n) ≡ Some (mono_at ts n)
 number_there [] ts n q = absurd (cc)
-number_there (m ∷ captured) ts n q = by (nat_eq n m) refl q
+number_there (m ∷ captured) ts n q = by (nat_eq n m) refl q (λ r. number_there captured ts n r)
   where
     by : (b : Bool)
         → nat_eq n m ≡ b
         → (if b then true else is_among n captured) ≡ true
+        → (is_among n captured ≡ true → slice_get (map (mono_at ts) captured) (number_in captured n) ≡ Some (mono_at ts n))
         → slice_get (map (mono_at ts) (m ∷ captured)) (if b then zero else suc (number_in captured n)) ≡ Some (mono_at ts n)
-    by true r q = let same : m ≡ n = grind (arith, r) in ap (λ k. Some (mono_at ts k)) same
-    by false r q = number_there captured ts n q
+    by true r q rest = let same : m ≡ n = grind (arith, r) in ap (λ k. Some (mono_at ts k)) same
+    by false r q rest = rest q
 
 none_some : {A : Type 0} {x : A} → None ≡ Some x → ⊥
 none_some q = cc

@@ -75,6 +75,67 @@ key_more : {file more : FileShapes} {p : Program} {key : Key} → HasFile file m
 key_more h (formed_val q f c d) = formed_val q f c (fixed_more h d)
 key_more h (formed_fix q d c f) = formed_fix q (fix_more h d) c (fixed_more h f)
 
+-- ---- the calls of a formed computation
+
+record SiteFormed (file : FileShapes) (site : Site) : Type 0 where
+  result : MonoTree
+  formed : IsFormedNeutral file (values_shapes site.context) site.call (sh_comp result)
+  closed : All IsClosed site.context
+
+abbrev EachSite : FileShapes → List Site → Type 0
+EachSite file [] = Unit {0}
+EachSite file (site ∷ others) = SiteFormed file site × EachSite file others
+
+each_append : (file : FileShapes) (xs ys : List Site) → EachSite file xs → EachSite file ys → EachSite file (xs ++ ys)
+each_append file [] ys a b = b
+each_append file (x ∷ xs) ys a b = (a.0, each_append file xs ys (a.1) b)
+
+-- the monotype of the variable that a step binds
+step_bound : {file : FileShapes} {g : Shapes} {step : StepTree} {u : MonoTree} → IsFormedStep file g step u → bound_mono step ≡ u
+step_bound (z_run d m) = refl
+step_bound (z_alloc m d) = refl
+step_bound (z_get m d) = refl
+step_bound (z_set m d e) = refl
+step_bound (z_free m d) = refl
+step_bound (z_if m d e f) = refl
+
+step_closed : {file : FileShapes} (g : List MonoTree) {step : StepTree} {u : MonoTree} → IsFormedStep file (values_shapes g) step u → IsClosed u
+step_closed g (z_run d m) = formed_closed g m
+step_closed g (z_alloc m d) = closed_loc
+step_closed g (z_get m d) = formed_closed g m
+step_closed g (z_set m d e) = closed_unit
+step_closed g (z_free m d) = closed_unit
+step_closed g (z_if m d e f) = formed_closed g m
+
+mutual
+  unfolding sites_of
+
+  sites_formed : {file : FileShapes} {context : Shapes} {comp : CompTree} {t : MonoTree} (g : List MonoTree)
+      → IsFormedComp file context comp t
+      → context ≡ values_shapes g
+      → All IsClosed g
+      → EachSite file (sites_of g comp)
+  sites_formed g (z_ret d) q c = tt
+  sites_formed {file = file} g (z_step {step = step} {others = others} {t = t} {u = u} d e) q c =
+      let closed : IsClosed u = step_closed g (subst (λ k. IsFormedStep file k step u) q d) in
+      each_append file (sites_of_step g step) (sites_of (bound_mono step ∷ g) others) (step_formed g d q c)
+      (subst (λ x. EachSite file (sites_of (x ∷ g) others)) (sym (step_bound d))
+      (sites_formed (u ∷ g) e (λ j. in_term (sh_mono u) ∷ q j) (All-cons IsClosed u g closed c)))
+
+  step_formed : {file : FileShapes} {context : Shapes} {step : StepTree} {u : MonoTree} (g : List MonoTree)
+      → IsFormedStep file context step u
+      → context ≡ values_shapes g
+      → All IsClosed g
+      → EachSite file (sites_of_step g step)
+  step_formed {file = file} g (z_run {term = term} {t = t} d m) q c =
+      (record { result = t; formed = subst (λ k. IsFormedNeutral file k term (sh_comp t)) q d; closed = c }, tt)
+  step_formed g (z_alloc m d) q c = tt
+  step_formed g (z_get m d) q c = tt
+  step_formed g (z_set m d e) q c = tt
+  step_formed g (z_free m d) q c = tt
+  step_formed {file = file} g (z_if {on_true = on_true} {on_false = on_false} m d e f) q c =
+      each_append file (sites_of g on_true) (sites_of g on_false) (sites_formed g e q c) (sites_formed g f q c)
+
 module _ (recs : List (List MonoTree)) (p : Program) (program : IsFormedProgram recs p) where
   abbrev file : List Key → FileShapes
   file keys = file_with recs p keys
@@ -126,48 +187,6 @@ module _ (recs : List (List MonoTree)) (p : Program) (program : IsFormedProgram 
         subst (λ (x : MadeShape). fill_shape f x.whole ≡ x.whole) o.is (key_shape (known n o.of o.found) f);
     recs = λ n ts q f. monos_stay f ts (params_closed ts (program.params n ts q));
   }
-
-  -- ---- the calls of a formed computation
-
-  record SiteFormed (keys : List Key) (site : Site) : Type 0 where
-    result : MonoTree
-    formed : IsFormedNeutral (file keys) (values_shapes site.context) site.call (sh_comp result)
-    closed : All IsClosed site.context
-
-  abbrev EachSite : List Key → List Site → Type 0
-  EachSite keys [] = Unit {0}
-  EachSite keys (site ∷ others) = SiteFormed keys site × EachSite keys others
-
-  each_append : (keys : List Key) (xs ys : List Site) → EachSite keys xs → EachSite keys ys → EachSite keys (xs ++ ys)
-  each_append keys [] ys a b = b
-  each_append keys (x ∷ xs) ys a b = (a.0, each_append keys xs ys (a.1) b)
-
-  mutual
-    unfolding sites_of
-
-    sites_formed : (keys : List Key) (g : List MonoTree) {comp : CompTree} {t : MonoTree}
-        → All IsClosed g
-        → IsFormedComp (file keys) (values_shapes g) comp t
-        → EachSite keys (sites_of g comp)
-    sites_formed keys g c (z_ret d) = tt
-    sites_formed keys g c (z_step {step = step} {others = others} {t = t} {u = u} d e) =
-        let r = step_formed keys g c d in
-        let q : bound_mono step ≡ u = r.1 in
-        each_append keys (sites_of_step g step) (sites_of (bound_mono step ∷ g) others) (r.0)
-        (subst (λ x. EachSite keys (sites_of (x ∷ g) others)) (sym q)
-        (sites_formed keys (u ∷ g) (All-cons IsClosed u g (r.2) c) e))
-
-    step_formed : (keys : List Key) (g : List MonoTree) {step : StepTree} {u : MonoTree}
-        → All IsClosed g
-        → IsFormedStep (file keys) (values_shapes g) step u
-        → EachSite keys (sites_of_step g step) × (bound_mono step ≡ u) × IsClosed u
-    step_formed keys g c (z_run {t = t} d m) = ((record { result = t; formed = d; closed = c }, tt), refl, formed_closed g m)
-    step_formed keys g c (z_alloc m d) = (tt, refl, closed_loc)
-    step_formed keys g c (z_get m d) = (tt, refl, formed_closed g m)
-    step_formed keys g c (z_set m d e) = (tt, refl, closed_unit)
-    step_formed keys g c (z_free m d) = (tt, refl, closed_unit)
-    step_formed keys g c (z_if {on_true = on_true} {on_false = on_false} m d e f) =
-        (each_append keys (sites_of g on_true) (sites_of g on_false) (sites_formed keys g c e) (sites_formed keys g c f), refl, formed_closed g m)
 
   abbrev EachKey : List Key → List Key → Type 0
   EachKey keys [] = Unit {0}
@@ -238,7 +257,7 @@ module _ (recs : List (List MonoTree)) (p : Program) (program : IsFormedProgram 
   key_formed keys site whole term closed c (w_app d e) q arguments = tt
   key_formed keys site whole term closed c (w_inst d e) q arguments = tt
 
-  keys_formed : (keys : List Key) (sites : List Site) → IsClosedFile (file keys) → EachSite keys sites → EachKey keys (flat_map (keys_of_site p) sites)
+  keys_formed : (keys : List Key) (sites : List Site) → IsClosedFile (file keys) → EachSite (file keys) sites → EachKey keys (flat_map (keys_of_site p) sites)
   keys_formed keys [] closed a = tt
   keys_formed keys (site ∷ sites) closed a =
       let s = a.0 in
@@ -291,13 +310,13 @@ module _ (recs : List (List MonoTree)) (p : Program) (program : IsFormedProgram 
       (told p key v.ty (ap (head_ty p) q ∙ ap ty_of_val found) (formed_monos (program.types n v found)) d) (passed_closed key.captured shape d) captured
       (val_body closed key captured (skeleton v.ty) shape (bare_shape v.ty) d term
       (subst (λ (x : ProgramVal). Puts x.term (skeleton x.ty) (arguments_within (skeleton x.ty) key) results (t_do comp)) same puts))
-  body_formed keys number key closed there (formed_fix {at = at} {fix = fix} {s = s} q d captured f) (body_of_fix {fix = other} {own = own} r is_own puts) =
+  body_formed keys number key closed there (formed_fix {at = at} {fix = fix} {s = s} {ts = ts} {r = answer} q d captured f) (body_of_fix {fix = other} {own = own} r is_own puts) =
       let shape : IsClosedShape s = subst IsClosedShape (fix_ty_shape d) (closed_shape key.captured (formed_monos (fix_ty_formed d))) in
       let same : own ≡ rename_fix (past_passed (skeleton (fix_ty fix))) fix =
       is_own ∙ ap (λ (x : FixTree). rename_fix (past_passed (skeleton (fix_ty x))) x) (same_fix (sym r ∙ q)) in
       as_told keys key
       (told p key (fix_ty fix) (ap (head_ty p) q) (formed_monos (fix_ty_formed d))
-      (subst (λ a. FormedFixed (file keys) (values_shapes key.captured) a key.fixed _ _) (sym (fix_ty_shape d)) f))
+      (subst (λ a. FormedFixed (file keys) (values_shapes key.captured) a key.fixed ts answer) (sym (fix_ty_shape d)) f))
       (passed_closed key.captured shape f) captured
       (fix_body recs p keys closed number key captured there q shape d f same puts)
   body_formed keys number key closed there (formed_val q found captured d) (body_of_fix r is_own puts) = absurd (no_fix (sym q ∙ r))
@@ -352,7 +371,7 @@ module _ (recs : List (List MonoTree)) (p : Program) (program : IsFormedProgram 
   all_formed_rows (takes_end q) a = (a, λ n taken r. absurd (none_some r))
   all_formed_rows {keys = keys} {final = final} {number = number} (takes_next {key = key} {taken = taken} {others = others} q u m rest) a =
       let b = taken_formed keys number key taken a q u in
-      let met = keys_formed keys (sites_of taken.params taken.body) (file_closed keys a) (sites_formed keys taken.params b.params b.formed) in
+      let met = keys_formed keys (sites_of taken.params taken.body) (file_closed keys a) (sites_formed taken.params b.formed refl b.params) in
       let r = all_formed_rows rest (met_known m a met) in
       let w : Within keys final = λ n k z. taken_stays rest n k (met_stays m n k z) in (
         r.0,

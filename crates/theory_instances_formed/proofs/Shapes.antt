@@ -87,10 +87,12 @@ value_closed c = λ f. ap sh_mono (closed_filled f c)
 
 pub no_mono : (ts : List MonoTree) (n : ℕ) → IsMonoAt (values_shapes ts) n → ⊥
 no_mono [] n d = elim d [ ]
+no_mono (t ∷ ts) zero d = elim d [ ]
 no_mono (t ∷ ts) (suc n) (mono_further d) = no_mono ts n d
 
 pub no_heap : (ts : List MonoTree) (n : ℕ) → IsHeapAt (values_shapes ts) n → ⊥
 no_heap [] n d = elim d [ ]
+no_heap (t ∷ ts) zero d = elim d [ ]
 no_heap (t ∷ ts) (suc n) (heap_further d) = no_heap ts n d
 
 pub formed_closed : (ts : List MonoTree) {t : MonoTree} → IsFormedMono (values_shapes ts) t → IsClosed t

@@ -42,7 +42,7 @@ passed_closed xs c (fixed_value {t = t} {ts = ts} d) =
 passed_closed xs c (fixed_term i e d) = passed_closed xs (closed_answer c) d
 passed_closed xs c (fixed_mono m d) = passed_closed xs (closed_instance c (formed_closed xs m)) d
 
-reversed_closed : (ts : List MonoTree) → All IsClosed ts → All IsClosed (reverse ts)
+pub reversed_closed : (ts : List MonoTree) → All IsClosed ts → All IsClosed (reverse ts)
 reversed_closed [] c = All-nil IsClosed
 reversed_closed (t ∷ ts) c =
     subst (All IsClosed) (sym (reverse_cons t ts))
@@ -101,7 +101,7 @@ module _ {file : FileShapes} (closed : IsClosedFile file) (key : Key) (captured 
       → IsFormedComp file (values_shapes (reverse ts ++ key.captured)) comp r
   val_body k c q d t puts = do_comp (put_formed closed puts t (within_formed k c q d))
 
-fix_of : {file : FileShapes} {g : Shapes} {at : ℕ} {fix : FixTree} {s : Shape} → IsFormedNeutral file g (t_fix at fix) s → IsFormedFix file g s fix s
+pub fix_of : {file : FileShapes} {g : Shapes} {at : ℕ} {fix : FixTree} {s : Shape} → IsFormedNeutral file g (t_fix at fix) s → IsFormedFix file g s fix s
 fix_of (w_fix d) = d
 
 module _ (recs : List (List MonoTree)) (p : Program) (keys : List Key) (closed : IsClosedFile (file_with recs p keys)) where
@@ -160,4 +160,4 @@ module _ (recs : List (List MonoTree)) (p : Program) (keys : List Key) (closed :
       subst (IsFormedTerm file (values_shapes whole) (eta (made_of number (skeleton (fix_ty own)) key) (fix_ty own))) (fix_ty_shape formed)
       (eta_formed (formed_monos (fix_ty_formed formed)) closed made) in
       do_comp (put_formed closed puts (opened_formed formed)
-      (opened_arguments (fix_plain formed) (within_formed closed key captured (skeleton (fix_ty own)) k again f) itself))
+      (opened_arguments (within_formed closed key captured (skeleton (fix_ty own)) k again f) (fix_plain formed) itself))
