@@ -113,7 +113,7 @@ front_get (y ∷ xs) ys (suc n) x q = front_get xs ys n x q
 pub front_stands : (ts us : List MonoTree) → All IsClosed (ts ++ us) → Stand (values_shapes (ts ++ us)) (from zero (length ts)) ts
 front_stands ts us c =
     stand_within (ts ++ us) c zero ts (λ n t q.
-        let p : n ≡ n + 0 = omega arith in subst (λ k. slice_get (ts ++ us) k ≡ Some t) p (front_get ts us n t q))
+    let p : n ≡ n + 0 = omega arith in subst (λ k. slice_get (ts ++ us) k ≡ Some t) p (front_get ts us n t q))
 
 pub back_stands : (ts us : List MonoTree) (k : ℕ) → k ≡ length ts → All IsClosed (ts ++ us) → Stand (values_shapes (ts ++ us)) (from k (length us)) us
 back_stands ts us k e c = stand_within (ts ++ us) c k us (λ n t q. past_some ts us k n e ∙ q)
