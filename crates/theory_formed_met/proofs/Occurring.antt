@@ -1,10 +1,9 @@
 -- A formed tree is so in each context that has the entries of the variables that occur in it.
 use Rattle.std.proofs.Common.{◌≡◌, ℕ, zero, suc, List, [], ◌∷◌, ◌++◌, All, Option, Some, None, refl, sym, ap, ◌∙◌, subst}
 use Rattle.std.proofs.lemmas.List.Elements.{All-head, All-tail}
-use Rattle.std.proofs.lemmas.Option.{same_Some}
 use Rattle.htt_syntax.specs.Trees.{MonoTree, TyTree, TripleTree, TermTree, FixTree, CompTree, StepTree, FormulaTree, TermTrees, triple, t_val, t_bin, t_inst, t_made}
 use Rattle.htt_syntax.specs.Trees.{t_app, t_do, t_fix, t_unit, more_terms, x_param, x_body, c_ret}
-use Rattle.theory_renaming.specs.Renaming.{Map, lift, rename_mono, rename_term, rename_fix, rename_comp, rename_terms}
+use Rattle.theory_renaming.specs.Renaming.{Map, lift, rename_term, rename_fix, rename_comp, rename_terms}
 use Rattle.theory_substitution.specs.Monotypes.{Filling, next_filling, fill_mono, fill_ty, fill_triple, fill_term, fill_fix, fill_comp, fill_step, fill_formula}
 use Rattle.theory_substitution.specs.Monotypes.{fill_terms}
 use Rattle.theory_formed_shapes.specs.Shapes.{Shape, sh_mono, sh_fun, fill_shape, renaming_of, up_shape, shape_of, ShapeEntry, in_mono, in_heap, in_term, Shapes}
@@ -23,7 +22,7 @@ use Rattle.theory_formed_shapes.proofs.Renamed.{term_same, ty_same, triple_same}
 use Rattle.theory_instances.specs.Calls.{Argument, of_term, of_mono}
 use Rattle.theory_instances.specs.Occurrences.{Occurrence, outside, met, met_in_term, met_in_terms, met_in_fix, met_in_comp, met_in_step, met_in_ty}
 use Rattle.theory_instances.specs.Occurrences.{met_in_triple, met_in_formula}
-use Rattle.theory_formed_met.specs.Laws.{CarriesEntry, CarriesMet, OnlyMetIsNeeded}
+use Rattle.theory_formed_met.specs.Laws.{CarriesEntry, OnlyMetIsNeeded}
 
 abbrev pub EachMet : (ℕ → Type 0) → List Occurrence → Type 0
 EachMet P [] = Unit {0}
