@@ -1,17 +1,17 @@
 -- The worked examples are typed, or aren't.
-use Rattle.std.proofs.Common.{◌≡◌, ◌<◌, ◌^◌, ℕ, List, [], ◌∷◌, All, true, Some, None, slice_get, refl, sym, subst, arith}
+use Rattle.std.proofs.Common.{◌≡◌, ℕ, List, [], ◌∷◌, All, true, Some, None, slice_get, refl, sym, subst, arith}
 use Rattle.std.proofs.lemmas.List.Elements.{All-nil, All-cons, All-head}
 use Rattle.std.proofs.lemmas.Option.{same_Some}
 use Rattle.htt_syntax.specs.Trees.{MonoTree, TermTree, m_word, m_bool, m_loc, m_unit, t_var, t_word, t_bool}
-use Rattle.theory_values.specs.Values.{IsClosed, closed_word, closed_bool, closed_loc, closed_unit, closed_pair}
+use Rattle.theory_values.specs.Values.{IsClosed, closed_word, closed_bool, closed_loc, closed_pair}
 use Rattle.theory_typing.specs.Contexts.{compares_word}
 use Rattle.theory_flat.specs.Flat.{FlatTree, Instance, flat_ret, flat_step, flat_call, flat_get, flat_free}
 use Rattle.theory_instances.specs.Examples.{word_and_bool}
-use Rattle.theory_flat.specs.Examples.{alone, of_word, dup_flat_at, dup_flat}
+use Rattle.theory_flat.specs.Examples.{dup_flat_at, dup_flat}
 use Rattle.theory_flat_typed.specs.Typed.{HasMonotype, HaveMonotypes, typed_var, typed_word, typed_bool, typed_pair, typed_bin, typed_eq, typed_none, typed_more}
-use Rattle.theory_flat_typed.specs.Typed.{IsTyped, typed_ret, typed_step, IsTypedStep, typed_call, typed_alloc, typed_get, typed_free, typed_if, IsTypedInstance}
+use Rattle.theory_flat_typed.specs.Typed.{IsTyped, typed_ret, typed_step, typed_call, typed_alloc, typed_get, typed_free, typed_if, IsTypedInstance}
 use Rattle.theory_flat_typed.specs.Typed.{AreTyped}
-use Rattle.theory_flat_typed.specs.Examples.{of_location, WorkedTyping}
+use Rattle.theory_flat_typed.specs.Examples.{WorkedTyping}
 
 -- the first instance of a list that is typed
 body_of : {instance : Instance} {others : List Instance}

@@ -1,0 +1,5 @@
+pub mod Standing
+pub mod Terms
+pub mod Bodies
+pub mod Fields
+pub mod Codes

@@ -1,0 +1,10 @@
+//! What a formed tree needs of its context. A function without a body states laws by its contract.
+#![tactic(auto)]
+
+ghost use Rattle.theory_formed_met.specs.Laws.{OnlyMetIsNeeded};
+
+/// A formed term, renamed by a map, is formed in each context to which the map carries monotypes, heaps and the
+/// entries of the variables that occur in the term.
+pub fn only_met_is_needed()
+    ensures law { OnlyMetIsNeeded }
+{}
