@@ -1,21 +1,21 @@
 -- Emitted bodies: their instructions are good, and they end in one that leaves.
-use Rattle.std.proofs.Common.{◌≡◌, ◌≤◌, ◌<◌, ◌^◌, ℕ, zero, suc, ◌+◌, List, [], ◌∷◌, ◌++◌, length, map, All, Bool, true, false, if◌then◌else◌, Option, Some, None, slice_get, option_map, refl, sym, ap, ◌∙◌, subst, arith}
+use Rattle.std.proofs.Common.{◌≡◌, ◌≤◌, ◌<◌, ℕ, zero, suc, ◌+◌, List, [], ◌∷◌, ◌++◌, length, All, Bool, true, false, if◌then◌else◌, Option, Some, slice_get, option_map, refl, sym, ap, ◌∙◌, subst, arith}
 use Rattle.std.proofs.lemmas.List.{length-append}
 use Rattle.std.proofs.lemmas.Option.{same_Some, slice_get-map}
-use Rattle.htt_syntax.specs.Trees.{MonoTree, TermTree, m_word, m_bool, m_loc, m_unit}
+use Rattle.htt_syntax.specs.Trees.{MonoTree, TermTree, m_bool}
 use Rattle.theory_values.specs.Values.{width}
 use Rattle.word_loader_code.specs.declared.code.Code.{Code}
 use Rattle.word_loader_code.specs.declared.code.Function.{Function}
 use Rattle.word_loader_code.specs.declared.code.Instr.{Instr}
 use Rattle.word_loader_code.specs.declared.code.Instr.TheVariants.{Mov, Alloc, Get, Set, Free, Jump, Jz, Call, Ret, Tail}
-use Rattle.word_loader_code.specs.Valid.{Takes, ResultFitsAt, ReturnsAs, NeverFallsThrough, LastLeaves}
-use Rattle.theory_flat.specs.Flat.{FlatTree, FlatStepTree, flat_ret, flat_step, flat_call, flat_alloc, flat_get, flat_set, flat_free, flat_if, Instance}
+use Rattle.word_loader_code.specs.Valid.{Takes, ResultFitsAt, ReturnsAs, LastLeaves}
+use Rattle.theory_flat.specs.Flat.{FlatTree, FlatStepTree, flat_step, Instance}
 use Rattle.theory_flat_typed.specs.Typed.{HasMonotype, HaveMonotypes, typed_var, typed_word, typed_bool, typed_loc, typed_unit, typed_pair, typed_fst, typed_snd}
 use Rattle.theory_flat_typed.specs.Typed.{typed_not, typed_bin, typed_eq, typed_sel, IsTyped, typed_ret, typed_step, IsTypedStep, typed_call, typed_alloc, typed_get}
 use Rattle.theory_flat_typed.specs.Typed.{typed_set, typed_free, typed_if}
 use Rattle.theory_emission.specs.Terms.{Held, Emitted, EmittedTerms, emit_term, emit_terms, moves, width_of_parts}
-use Rattle.theory_emission.specs.Bodies.{Ending, is_held, is_returned, is_tail, ended_by, gives_back, may_end, in_tail_place, result_in, flat_mono, called, tail_called}
-use Rattle.theory_emission.specs.Bodies.{allocated, read, written, released, tested, first_branch, second_branch, step_end, joined, split, in_row, emit_flat, emit_last}
+use Rattle.theory_emission.specs.Bodies.{Ending, is_held, is_returned, is_tail, ended_by, gives_back, may_end, result_in, flat_mono, called, tail_called}
+use Rattle.theory_emission.specs.Bodies.{tested, first_branch, second_branch, step_end, joined, split, in_row, emit_flat, emit_last}
 use Rattle.theory_emission.specs.Bodies.{emit_step, width_of_monos, emit_instance}
 use Rattle.theory_emission.specs.Codes.{code_ended_by}
 use Rattle.theory_emission_valid.specs.Limits.{EachMono, EachMonoOfStep, IsWithin}

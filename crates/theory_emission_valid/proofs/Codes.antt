@@ -1,5 +1,5 @@
 -- The code of a list of typed instances is valid, and its numbers fit.
-use Rattle.std.proofs.Common.{◌≡◌, ◌≤◌, ◌<◌, ◌^◌, ◌⊎◌, inl, inr, ℕ, zero, suc, ◌+◌, List, [], ◌∷◌, ◌++◌, length, map, reverse, sum_by, All, Bool, true, false, if◌then◌else◌}
+use Rattle.std.proofs.Common.{◌≡◌, ◌≤◌, ◌⊎◌, inl, inr, ℕ, zero, suc, ◌+◌, List, [], ◌∷◌, ◌++◌, length, map, reverse, sum_by, All, Bool, true, false, if◌then◌else◌}
 use Rattle.std.proofs.Common.{Option, Some, None, refl, sym, ap, ◌∙◌, subst, arith, append_assoc, append-nil}
 use Rattle.std.specs.Prelude.{nat_lt}
 use Rattle.std.specs.List.{flat_map}
@@ -13,13 +13,13 @@ use Rattle.word_loader_code.specs.declared.code.Code.{Code}
 use Rattle.word_loader_code.specs.declared.code.Function.{Function}
 use Rattle.word_loader_code.specs.declared.code.Instr.{Instr}
 use Rattle.word_loader_code.specs.Valid.{IsValidInstr, LastLeaves, function_limit, word_limit, instr_limit, IsValidFunction, IsEntered, IsValid}
-use Rattle.word_loader_format.specs.Layout.{Field, FitsField, instr_fields, header_fields, body_fields, opening_fields, code_fields}
+use Rattle.word_loader_format.specs.Layout.{FitsField, instr_fields, header_fields, body_fields, opening_fields, code_fields}
 use Rattle.theory_flat.specs.Flat.{Instance}
-use Rattle.theory_flat_typed.specs.Typed.{IsTyped, IsTypedInstance, AreTyped}
+use Rattle.theory_flat_typed.specs.Typed.{IsTypedInstance}
 use Rattle.theory_emission.specs.Terms.{Held}
-use Rattle.theory_emission.specs.Bodies.{Ending, is_held, is_returned, is_tail, with_params, width_of_monos, emitted_body, emit_instance}
-use Rattle.theory_emission.specs.Codes.{code_ended_by, first_code, code_of, EmitRefusal, too_many_locals, too_long, wide_function, length_refusal, refusal_for, emit_refusal}
-use Rattle.theory_emission_valid.specs.Limits.{IsWithin, HasMonosWithin}
+use Rattle.theory_emission.specs.Bodies.{Ending, is_held, is_returned, is_tail, with_params, width_of_monos, emit_instance}
+use Rattle.theory_emission.specs.Codes.{code_ended_by, too_long, wide_function, length_refusal, refusal_for, emit_refusal}
+use Rattle.theory_emission_valid.specs.Limits.{HasMonosWithin}
 use Rattle.theory_emission_valid.specs.Laws.{BeginsWithMain, IsEmittable, EmittedIsValid, EmittedNumbersFit}
 use Rattle.theory_emission_valid.proofs.Standing.{IsGood, AreBelow, below_more, monos_of, width_within}
 use Rattle.theory_emission_valid.proofs.Bodies.{Leaves, MayEndAt, body_stands}

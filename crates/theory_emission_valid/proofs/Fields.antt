@@ -1,5 +1,5 @@
 -- The numbers of good instructions fit their fields.
-use Rattle.std.proofs.Common.{◌≡◌, ◌≤◌, ◌<◌, ◌^◌, ℕ, zero, suc, ◌+◌, List, [], ◌∷◌, ◌++◌, length, All, Option, Some, None, slice_get, refl, sym, ap, ◌∙◌, subst, arith}
+use Rattle.std.proofs.Common.{◌≡◌, ◌≤◌, ◌<◌, ◌^◌, ℕ, List, [], ◌∷◌, length, All, Option, Some, None, slice_get, refl, arith}
 use Rattle.std.specs.List.{flat_map, AllByRecursion}
 use Rattle.std.proofs.lemmas.List.Elements.{All-nil, All-cons, All-append, All-head, All-tail, All-from_recursion}
 use Rattle.std.proofs.lemmas.Option.{slice_get_within}
@@ -9,7 +9,7 @@ use Rattle.word_loader_code.specs.declared.code.Function.{Function}
 use Rattle.word_loader_code.specs.declared.code.Instr.{Instr}
 use Rattle.word_loader_code.specs.declared.code.Instr.TheVariants.{Const, Mov, Op, Sel, Alloc, Get, Set, Free, Jump, Jz, Call, Ret, Tail}
 use Rattle.word_loader_code.specs.Valid.{Takes, ResultFitsAt, word_limit, instr_limit, function_limit}
-use Rattle.word_loader_format.specs.Layout.{Field, field, FitsField, instr_fields, header_fields, body_fields}
+use Rattle.word_loader_format.specs.Layout.{Field, FitsField, instr_fields, header_fields}
 use Rattle.theory_emission_valid.proofs.Standing.{IsGood}
 
 -- a number in a field of one, two, four and eight bytes

@@ -1,20 +1,18 @@
 -- Emitted terms: each has its place, and its instructions are good.
-use Rattle.std.proofs.Common.{◌≡◌, ◌≤◌, ◌<◌, ℕ, zero, suc, ◌+◌, List, [], ◌∷◌, ◌++◌, length, All, true, false, Some, refl, sym, ap, ◌∙◌, subst, arith}
+use Rattle.std.proofs.Common.{◌≡◌, ◌≤◌, ℕ, ◌+◌, List, [], ◌∷◌, ◌++◌, All, true, false, refl, ap, arith}
 use Rattle.std.proofs.lemmas.List.Elements.{All-nil}
 use Rattle.htt_syntax.specs.declared.mono.Op.{Op as Operation}
 use Rattle.htt_syntax.specs.declared.mono.Op.TheVariants as ops
-use Rattle.htt_syntax.specs.Trees.{MonoTree, TermTree, m_word, m_bool, m_loc, m_unit, m_pair}
+use Rattle.htt_syntax.specs.Trees.{MonoTree, TermTree, m_word, m_bool, m_pair}
 use Rattle.theory_values.specs.Values.{width, op_mono}
-use Rattle.theory_typing.specs.Contexts.{IsComparable, compares_word, compares_bool, compares_loc}
 use Rattle.word_loader_code.specs.declared.code.Code.{Code}
 use Rattle.word_loader_code.specs.declared.code.Function.{Function}
-use Rattle.word_loader_code.specs.declared.code.Instr.{Instr}
 use Rattle.word_loader_code.specs.declared.code.Instr.TheVariants.{Const, Mov, Op, Sel}
 use Rattle.word_loader_code.specs.Valid.{not_number, IsOperation}
 use Rattle.theory_flat_typed.specs.Typed.{HasMonotype, HaveMonotypes, typed_var, typed_word, typed_bool, typed_loc, typed_unit, typed_pair, typed_fst, typed_snd}
 use Rattle.theory_flat_typed.specs.Typed.{typed_not, typed_bin, typed_eq, typed_sel, typed_none, typed_more}
-use Rattle.theory_emission.specs.Terms.{Held, held_at, first_of_pair, second_of_pair, mono_of_term, width_of_term, number_of_op, eq_number, Emitted, operation}
-use Rattle.theory_emission.specs.Terms.{paired, negated, selected, moved_on, emit_term, EmittedTerms, emit_terms, moves, width_of_parts}
+use Rattle.theory_emission.specs.Terms.{Held, first_of_pair, second_of_pair, mono_of_term, width_of_term, number_of_op, eq_number, Emitted, operation}
+use Rattle.theory_emission.specs.Terms.{paired, selected, emit_term, EmittedTerms, emit_terms, moves, width_of_parts}
 use Rattle.theory_emission.specs.Bodies.{width_of_monos}
 use Rattle.theory_emission_valid.proofs.Standing.{IsGood, one_good, more_good, both_good, AreBelow, below_more, monos_of, held_is, held_below, Stands}
 

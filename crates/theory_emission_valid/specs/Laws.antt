@@ -1,6 +1,5 @@
 -- Emitted code is valid, and its numbers fit their fields, in both versions.
 use Rattle.std.specs.Prelude.{◌≡◌, ◌≤◌, List, [], ◌∷◌, length, All, None}
-use Rattle.word_loader_code.specs.declared.code.Code.{Code}
 use Rattle.word_loader_code.specs.Valid.{function_limit, IsValid}
 use Rattle.word_loader_format.specs.Layout.{FitsField, code_fields}
 use Rattle.theory_flat.specs.Flat.{Instance}

@@ -1,5 +1,5 @@
 -- Flat bodies whose monotypes are within the limit.
-use Rattle.std.specs.Prelude.{ℕ, ◌≤◌}
+use Rattle.std.specs.Prelude.{◌≤◌}
 use Rattle.htt_syntax.specs.Trees.{MonoTree}
 use Rattle.theory_counts.specs.Nodes.{nodes_mono}
 use Rattle.theory_instances.specs.Lists.{mono_limit}

@@ -1,38 +1,23 @@
 -- The body of an instance with a formed key is formed under its parameters.
-use Rattle.std.proofs.Common.{◌≡◌, ℕ, zero, suc, List, [], ◌∷◌, ◌++◌, length, map, flat_map, reverse, All, Some, None, slice_get, refl, sym, ap, ◌∙◌, subst, arith}
-use Rattle.std.proofs.lemmas.List.{length-reverse}
-use Rattle.std.proofs.lemmas.List.Elements.{All-append}
-use Rattle.std.proofs.lemmas.Option.{same_Some}
-use Rattle.htt_syntax.specs.Trees.{MonoTree, TyTree, TermTree, FixTree, CompTree, y_fun, y_hoare, triple, t_val, t_fix, t_do, t_lam, t_var}
-use Rattle.theory_renaming.specs.Renaming.{Map, lifts, shifting, rename_term, rename_fix}
-use Rattle.theory_values.specs.Values.{IsClosed}
-use Rattle.theory_canonical.specs.Skeletons.{Skeleton, sk_o, sk_c, sk_arrow, sk_all, skeleton}
-use Rattle.theory_canonical.specs.Eta.{eta}
-use Rattle.theory_substitution.specs.Monotypes.{Filling, fill_mono}
-use Rattle.theory_formed_shapes.specs.Shapes.{Shape, sh_mono, sh_fun, sh_all, sh_comp, shape_of, fill_shape, first_filled, renaming_of, up_shape, dropping, in_term, Shapes}
-use Rattle.theory_formed_shapes.specs.Formed.{MadeShape, FileShapes, IsFormedTerm, z_lam, z_do, IsFormedNeutral, w_made, w_fix, IsFormedFix, z_param, z_body, IsFormedComp, IsFormedTy}
-use Rattle.theory_formed_shapes.specs.Formed.{z_fun, z_hoare, IsClosedFile, IsFormedTerms, z_neutral, w_var}
+use Rattle.std.proofs.Common.{◌≡◌, ℕ, zero, suc, List, [], ◌∷◌, ◌++◌, length, Some, slice_get, refl, sym, ap, ◌∙◌, subst}
+use Rattle.htt_syntax.specs.Trees.{MonoTree, TermTree, FixTree}
+use Rattle.theory_renaming.specs.Renaming.{lifts, shifting}
+use Rattle.theory_canonical.specs.Skeletons.{Skeleton}
+use Rattle.theory_substitution.specs.Monotypes.{Filling}
+use Rattle.theory_formed_shapes.specs.Shapes.{Shape, sh_mono, sh_fun, sh_all, sh_comp, shape_of, fill_shape, first_filled, renaming_of, dropping, in_term, Shapes}
+use Rattle.theory_formed_shapes.specs.Formed.{FileShapes, IsFormedTerm, z_lam, z_do, IsFormedFix, z_param, z_body, IsFormedComp, IsFormedTy}
+use Rattle.theory_formed_shapes.specs.Formed.{z_fun, z_hoare, IsClosedFile}
 use Rattle.theory_formed_shapes.proofs.Fillings.{mono_renamed, up_dropped}
-use Rattle.theory_formed_shapes.proofs.Monos.{formed_monos}
-use Rattle.theory_formed_shapes.proofs.Renamed.{neutral_renamed}
-use Rattle.theory_formed_substitution.proofs.Put.{app_formed, instance_formed, do_comp}
+use Rattle.theory_formed_substitution.proofs.Put.{app_formed, instance_formed}
 use Rattle.theory_formed_canonical.specs.Laws.{bare}
-use Rattle.theory_formed_canonical.proofs.Bare.{bare_shape}
-use Rattle.theory_formed_typing.proofs.Closed.{map_get, closed_term}
-use Rattle.theory_formed_typing.proofs.Expanded.{eta_formed}
-use Rattle.theory_instances.specs.Calls.{ProgramVal, Program, Argument, of_term, of_mono, rename_argument, passed_count, all_arguments, fix_ty, head_ty, terms_from, variables}
-use Rattle.theory_instances.specs.Keys.{Key}
-use Rattle.theory_instances.specs.Bodies.{Puts, puts_none, puts_term, puts_mono, opened_fix, opened_skeleton, past_passed, arguments_within, made_of, HasBody}
-use Rattle.theory_instances.specs.Bodies.{body_of_val, body_of_fix}
-use Rattle.theory_formed_met.specs.Laws.{CarriesEntry}
+use Rattle.theory_instances.specs.Calls.{Argument, of_term, all_arguments, fix_ty}
+use Rattle.theory_instances.specs.Bodies.{Puts, puts_none, puts_term, puts_mono, opened_fix}
 use Rattle.theory_formed_met.proofs.Occurring.{EachMet}
-use Rattle.theory_instances.specs.Occurrences.{Occurrence, met_in_argument}
-use Rattle.theory_instances_formed.specs.Formed.{values_shapes, made_shape, IsFixedShape, FormedFixed, fixed_end, fixed_value, fixed_term, fixed_mono}
-use Rattle.theory_instances_formed.proofs.Shapes.{IsClosedShape, carries, fills_values, closed_result}
+use Rattle.theory_instances.specs.Occurrences.{Occurrence}
+use Rattle.theory_instances_formed.specs.Formed.{IsFixedShape, FormedFixed, fixed_end, fixed_value, fixed_term, fixed_mono}
 use Rattle.theory_instances_formed.proofs.Sites.{FormedArguments, arguments_none, arguments_term, arguments_mono, FormedPassed, passed_none, passed_more}
-use Rattle.theory_instances_formed.proofs.Sites.{fixed_carried, bare_filled}
-use Rattle.theory_instances_formed.proofs.Variables.{Stand, from, variables_are, variables_past, past_some, front_stands, back_stands, stand_reverse, stand_terms, stand_passed}
-use Rattle.theory_instances_formed.proofs.Passed.{count_is}
+use Rattle.theory_instances_formed.proofs.Sites.{bare_filled}
+use Rattle.theory_instances_formed.proofs.Variables.{past_some}
 
 -- what is left of a formed function after formed arguments is formed
 pub put_formed : {file : FileShapes} {g : Shapes} {function last : TermTree} {k : Skeleton} {s u : Shape} {arguments : List Argument} {results : List TermTree}

@@ -1,13 +1,13 @@
 -- The captured variables of a key: each variable that occurs is among them, and has its monotype at its number.
 use Rattle.std.proofs.Common.{◌≡◌, ℕ, zero, suc, List, [], ◌∷◌, ◌++◌, map, flat_map, All, Bool, true, false, nat_eq, if◌then◌else◌, Some, None, slice_get}
-use Rattle.std.proofs.Common.{refl, sym, ap, ◌∙◌, subst, arith}
+use Rattle.std.proofs.Common.{refl, ap, ◌∙◌, arith}
 use Rattle.std.proofs.lemmas.List.Elements.{All-nil, All-cons, All-head, All-tail}
 use Rattle.std.proofs.lemmas.Option.{same_Some}
 use Rattle.htt_syntax.specs.Trees.{MonoTree, TermTree}
 use Rattle.theory_values.specs.Values.{IsClosed, closed_unit}
 use Rattle.theory_instances.specs.Calls.{Argument}
 use Rattle.theory_instances.specs.Occurrences.{Occurrence, met_in_term, met_in_argument}
-use Rattle.theory_instances.specs.Keys.{is_among, met_after, variables_met, captured_of, number_in, mono_at}
+use Rattle.theory_instances.specs.Keys.{is_among, met_after, captured_of, number_in, mono_at}
 use Rattle.theory_formed_met.specs.Laws.{CarriesEntry}
 use Rattle.theory_formed_met.proofs.Occurring.{EachMet}
 use Rattle.theory_instances_formed.specs.Formed.{values_shapes}

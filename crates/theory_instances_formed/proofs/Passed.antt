@@ -1,7 +1,6 @@
 -- The monotypes of what is passed, and of the result, by the shape of the head's type.
-use Rattle.std.proofs.Common.{◌≡◌, ℕ, zero, suc, List, [], ◌∷◌, ◌++◌, length, map, refl, sym, ap, ◌∙◌, subst}
-use Rattle.htt_syntax.specs.Trees.{MonoTree, TyTree, TermTree, triple, m_word, m_bool, m_loc, m_unit, m_pair, m_var, y_mono, y_fun, y_all, y_hoare, y_at}
-use Rattle.theory_canonical.specs.Skeletons.{sk_o, sk_c, sk_arrow, sk_all}
+use Rattle.std.proofs.Common.{◌≡◌, ℕ, zero, suc, List, [], ◌∷◌, length, refl, sym, ap, ◌∙◌, subst}
+use Rattle.htt_syntax.specs.Trees.{MonoTree, TyTree, TermTree, triple, m_word, m_bool, m_loc, m_unit, m_pair, m_var, y_fun, y_all, y_hoare}
 use Rattle.theory_renaming.specs.Renaming.{rename_mono}
 use Rattle.theory_substitution.specs.Monotypes.{Filling, next_filling, fill_mono}
 use Rattle.theory_formed_shapes.specs.Shapes.{Shape, sh_mono, sh_fun, sh_all, sh_comp, shape_of, fill_shape, first_filled, dropping, Shapes}

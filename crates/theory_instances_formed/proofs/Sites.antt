@@ -1,18 +1,17 @@
 -- A call in a formed computation is a head with formed arguments; those that are fixed, renumbered, are the key's.
-use Rattle.std.proofs.Common.{◌≡◌, ℕ, zero, suc, List, [], ◌∷◌, ◌++◌, map, flat_map, All, Some, slice_get, refl, sym, ap, ◌∙◌, subst}
-use Rattle.htt_syntax.specs.Trees.{MonoTree, TermTree, FixTree}
-use Rattle.theory_renaming.specs.Renaming.{Map, rename_mono, rename_term}
-use Rattle.theory_values.specs.Values.{IsClosed}
-use Rattle.theory_canonical.specs.Skeletons.{Skeleton, sk_o, sk_c, sk_arrow, sk_all}
+use Rattle.std.proofs.Common.{◌≡◌, zero, List, [], ◌∷◌, ◌++◌, map, flat_map, refl, sym, subst}
+use Rattle.htt_syntax.specs.Trees.{MonoTree, TermTree}
+use Rattle.theory_renaming.specs.Renaming.{Map, rename_term}
+use Rattle.theory_canonical.specs.Skeletons.{Skeleton, sk_arrow, sk_all}
 use Rattle.theory_substitution.specs.Monotypes.{Filling, next_filling}
 use Rattle.theory_formed_shapes.specs.Shapes.{Shape, sh_mono, sh_fun, sh_all, sh_comp, fill_shape, first_filled, renaming_of, Shapes}
 use Rattle.theory_formed_shapes.specs.Formed.{FileShapes, IsFormedMono, IsFormedTerm, IsFormedNeutral, w_var, w_val, w_made, w_fix, w_app, w_inst, IsClosedFile}
 use Rattle.theory_formed_canonical.specs.Laws.{bare}
 use Rattle.theory_instances.specs.Calls.{Argument, of_term, of_mono, rename_argument, head_of, arguments_of, fixed_of, passed_of}
-use Rattle.theory_instances.specs.Occurrences.{Occurrence, met_in_term, met_in_argument}
+use Rattle.theory_instances.specs.Occurrences.{met_in_term, met_in_argument}
 use Rattle.theory_formed_met.specs.Laws.{CarriesEntry}
 use Rattle.theory_formed_met.proofs.Occurring.{EachMet, both, term_by_met}
-use Rattle.theory_instances_formed.specs.Formed.{values_shapes, IsFixedShape, FormedFixed, fixed_end, fixed_value, fixed_term, fixed_mono}
+use Rattle.theory_instances_formed.specs.Formed.{values_shapes, FormedFixed, fixed_end, fixed_value, fixed_term, fixed_mono}
 use Rattle.theory_instances_formed.proofs.Shapes.{IsClosedShape, closed_renamed, closed_argument, closed_answer, closed_instance, no_mono, no_heap, formed_closed}
 use Rattle.theory_instances_formed.proofs.Shapes.{closed_formed}
 

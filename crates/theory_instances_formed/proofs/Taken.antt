@@ -1,13 +1,13 @@
 -- The bodies of instances with formed keys, for each kind of head.
-use Rattle.std.proofs.Common.{◌≡◌, ℕ, zero, suc, List, [], ◌∷◌, ◌++◌, length, map, flat_map, reverse, All, Some, None, slice_get, refl, sym, ap, ◌∙◌, subst, arith}
+use Rattle.std.proofs.Common.{◌≡◌, ℕ, zero, List, [], ◌∷◌, ◌++◌, length, map, flat_map, reverse, All, Some, slice_get, sym, ap, ◌∙◌, subst}
 use Rattle.std.proofs.lemmas.List.{length-reverse, reverse-reverse}
 use Rattle.std.proofs.lemmas.List.Elements.{All-nil, All-cons, All-append, All-head, All-tail}
-use Rattle.htt_syntax.specs.Trees.{MonoTree, TyTree, TermTree, FixTree, CompTree, m_var, t_val, t_fix, t_do}
-use Rattle.theory_renaming.specs.Renaming.{lifts, shifting, rename_term, rename_fix}
+use Rattle.htt_syntax.specs.Trees.{MonoTree, TyTree, TermTree, FixTree, CompTree, m_var, t_fix, t_do}
+use Rattle.theory_renaming.specs.Renaming.{shifting, rename_term, rename_fix}
 use Rattle.theory_values.specs.Values.{IsClosed}
 use Rattle.theory_canonical.specs.Skeletons.{Skeleton, skeleton}
 use Rattle.theory_canonical.specs.Eta.{eta}
-use Rattle.theory_formed_shapes.specs.Shapes.{Shape, sh_comp, shape_of, fill_shape, renaming_of, Shapes}
+use Rattle.theory_formed_shapes.specs.Shapes.{Shape, sh_comp, shape_of, renaming_of, Shapes}
 use Rattle.theory_formed_shapes.specs.Formed.{FileShapes, IsFormedTerm, IsFormedNeutral, w_made, w_fix, IsFormedFix, IsFormedComp, IsClosedFile, IsFormedTerms}
 use Rattle.theory_formed_shapes.proofs.Fillings.{shape_kept}
 use Rattle.theory_formed_shapes.proofs.Monos.{MonosFormed, formed_monos}

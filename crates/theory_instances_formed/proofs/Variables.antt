@@ -1,9 +1,8 @@
 -- Variables in order, and their monotypes.
-use Rattle.std.proofs.Common.{◌≡◌, ◌≤◌, ◌<◌, ℕ, zero, suc, ◌+◌, List, [], ◌∷◌, ◌++◌, length, map, reverse, All, Some, slice_get, refl, sym, ap, ◌∙◌, subst, arith}
+use Rattle.std.proofs.Common.{◌≡◌, ℕ, zero, suc, ◌+◌, List, [], ◌∷◌, ◌++◌, length, map, reverse, All, Some, slice_get, refl, sym, ap, ◌∙◌, subst, arith}
 use Rattle.std.proofs.lemmas.List.{reverse-append}
-use Rattle.std.proofs.lemmas.List.Elements.{All-head, All-tail}
 use Rattle.htt_syntax.specs.Trees.{MonoTree, TermTree, t_var}
-use Rattle.theory_renaming.specs.Renaming.{Map, lifts, shifting, rename_term}
+use Rattle.theory_renaming.specs.Renaming.{lifts, shifting, rename_term}
 use Rattle.theory_values.specs.Values.{IsClosed}
 use Rattle.theory_formed_shapes.specs.Shapes.{sh_mono, Shapes, HasShape}
 use Rattle.theory_formed_shapes.specs.Formed.{FileShapes, IsFormedTerms, z_no_terms, z_more_terms, z_neutral, w_var}
