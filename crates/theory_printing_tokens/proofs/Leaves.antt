@@ -19,11 +19,11 @@ use Rattle.theory_printing.specs.Pieces.{semicolon}
 use Rattle.theory_printing.specs.Pieces.{in_parens, in_brackets}
 use Rattle.theory_printing.specs.Names.{PrintScope, name_at, new_name, hypothesis_name, count_of, past, entry_of_sort, entry, name_or_blank}
 use Rattle.theory_printing.specs.Phrases.{op_sign, right_of, literal_place}
-use Rattle.theory_printing_tokens.specs.Conditions.{IsName, HasName, IsMonoEntry, IsTermEntry, IsHeapEntry, StandsForMono, StandsForTerm, StandsForHeap}
+use Rattle.theory_printing_conditions.specs.Conditions.{IsName, HasName, IsMonoEntry, IsTermEntry, IsHeapEntry, StandsForMono, StandsForTerm, StandsForHeap}
 use Rattle.theory_printing_tokens.specs.Spoken.{Spoken, tokens_of}
 use Rattle.theory_printing_tokens.proofs.Lexing.{Lexed, Lexes, in_turn, deep, numbered, lex_nothing, lex_space, one_token, its_bytes}
-use Rattle.theory_printing_tokens.proofs.Words.{ends, keyword_plain, keyword_token, plain_utf8, name_token, number_token, decimal_plain, own_name}
-use Rattle.theory_printing_tokens.proofs.Signs.{sign_ends, sign_token, sign_utf8}
+use Rattle.theory_printing_lexemes.specs.Follows.{ends, sign_ends}
+use Rattle.theory_printing_lexemes.proofs.Lexemes.{lexemes}
 
 -- a piece before whatever may follow it
 abbrev pub LexesPhrase : Printed → Type 0
@@ -45,8 +45,8 @@ unfolding bytes_of
 lex_word w rest e text pre t =
     record {
       spoken = record { token = record { kind = kinds.Keyword w; from = length pre; to = length pre + length (word_spelling w) }; is = refl };
-      utf8 = plain_utf8 (word_spelling w) (keyword_plain w);
-      reads = one_token pre (word_spelling w) rest (kinds.Keyword w) (keyword_token w rest e);
+      utf8 = lexemes.utf8_words w;
+      reads = one_token pre (word_spelling w) rest (kinds.Keyword w) (lexemes.words w rest e);
     }
 
 pub lex_sign : {rest : List ℕ} (s : Sign) → sign_ends s rest ≡ true → Lexes (one (a_sign s)) rest
@@ -54,8 +54,8 @@ unfolding bytes_of
 lex_sign {rest} s e text pre t =
     record {
       spoken = record { token = record { kind = kinds.Sign s; from = length pre; to = length pre + length (sign_spelling s) }; is = refl };
-      utf8 = sign_utf8 s;
-      reads = one_token pre (sign_spelling s) rest (kinds.Sign s) (sign_token s rest e);
+      utf8 = lexemes.utf8_signs s;
+      reads = one_token pre (sign_spelling s) rest (kinds.Sign s) (lexemes.signs s rest e);
     }
 
 pub lex_number : (n : ℕ) → n < 2 ^ 64 → LexesPhrase (one (a_number n))
@@ -63,8 +63,8 @@ unfolding bytes_of
 lex_number n fits rest e text pre t =
     record {
       spoken = record { token = record { kind = kinds.Number n; from = length pre; to = length pre + length (decimal n) }; is = refl };
-      utf8 = plain_utf8 (decimal n) (decimal_plain n);
-      reads = one_token pre (decimal n) rest (kinds.Number n) (number_token n rest fits e);
+      utf8 = lexemes.utf8_numbers n;
+      reads = one_token pre (decimal n) rest (kinds.Number n) (lexemes.numbers n rest fits e);
     }
 
 pub lex_name : (name : List ℕ) → IsName name → LexesPhrase (one (a_name name))
@@ -77,7 +77,7 @@ lex_name name h rest e text pre t =
         bytes = its_bytes text pre name rest t;
       };
       utf8 = h.utf8;
-      reads = one_token pre name rest kinds.Name (name_token name rest h e);
+      reads = one_token pre name rest kinds.Name (lexemes.names name rest h e);
     }
 
 pub lex_between : {rest : List ℕ} (s : Sign) → sign_ends s (32 ∷ rest) ≡ true → Lexes (between s) rest
@@ -142,19 +142,13 @@ lex_formula_in false h = h
 -- ---- names
 
 pub lex_named : (sort : Sort) (position : ℕ) → LexesPhrase (one (a_name (name_at sort position)))
-lex_named a_mono p = lex_name (name_at a_mono p) (own_name 97 p refl)
-lex_named a_heap p = lex_name (name_at a_heap p) (own_name 104 p refl)
-lex_named a_term p = lex_name (name_at a_term p) (own_name 120 p refl)
-lex_named a_term_or_heap p = lex_name (name_at a_term_or_heap p) (own_name 120 p refl)
-lex_named the_init p = lex_name (name_at the_init p) (own_name 120 p refl)
-lex_named the_mem p = lex_name (name_at the_mem p) (own_name 120 p refl)
-lex_named a_hypothesis p = lex_name (name_at a_hypothesis p) (own_name 120 p refl)
+lex_named sort p = lex_name (name_at sort p) (lexemes.entries sort p)
 
 pub lex_new : (sort : Sort) (s : PrintScope) → LexesPhrase (new_name sort s)
 lex_new sort s = lex_named sort (length s.entries)
 
 pub lex_hypothesis : (number : ℕ) → LexesPhrase (one (a_name (hypothesis_name number)))
-lex_hypothesis n = lex_name (hypothesis_name n) (own_name 117 n refl)
+lex_hypothesis n = lex_name (hypothesis_name n) (lexemes.hypotheses n)
 
 pub lex_name_or_blank : (name : Option (List ℕ)) → HasName name → LexesPhrase (name_or_blank name)
 lex_name_or_blank None h = absurd h

@@ -25,10 +25,10 @@ use Rattle.theory_printing.specs.Pieces.{bytes_of}
 use Rattle.theory_printing.specs.Names.{PrintScope, with_entry, under_mem, under_heaps}
 use Rattle.theory_printing.specs.Brackets.{an_operand, a_side, a_run, a_head, needs_brackets, mono_form, term_form, formula_form}
 use Rattle.theory_printing.specs.Phrases.{mono, under_params, ty, spec, term, fix, comp, step, formula, arguments, more_arguments}
-use Rattle.theory_printing_tokens.specs.Conditions.{HasTextMono, HasTextTy, HasTextSpec, HasTextTerm, HasTextFix, HasTextComp, HasTextStep, HasTextFormula}
-use Rattle.theory_printing_tokens.specs.Conditions.{HasTextTerms}
+use Rattle.theory_printing_conditions.specs.Conditions.{HasTextMono, HasTextTy, HasTextSpec, HasTextTerm, HasTextFix, HasTextComp, HasTextStep, HasTextFormula}
+use Rattle.theory_printing_conditions.specs.Conditions.{HasTextTerms}
 use Rattle.theory_printing_tokens.proofs.Lexing.{Lexes, in_turn, lex_nothing, lex_space}
-use Rattle.theory_printing_tokens.proofs.Words.{ends}
+use Rattle.theory_printing_lexemes.specs.Follows.{ends}
 use Rattle.theory_printing_tokens.proofs.Leaves.{LexesPhrase, phrase_then, deep_phrase, numbered_phrase, lex_word, lex_sign, lex_number, lex_between, lex_comma}
 use Rattle.theory_printing_tokens.proofs.Leaves.{lex_between_op, lex_right_of}
 use Rattle.theory_printing_tokens.proofs.Leaves.{lex_place, lex_mono_in, lex_term_in, lex_formula_in, lex_new, lex_name_or_blank, lex_mono_entry}

@@ -17,9 +17,9 @@ use Rattle.theory_text_names.specs.Scopes.{a_term_or_heap}
 use Rattle.theory_printing.specs.Pieces.{◌▹◌, bytes_of, in_parens}
 use Rattle.theory_printing.specs.Names.{PrintScope, with_entry, with_hypothesis}
 use Rattle.theory_printing.specs.Proofs.{more_monos, monos, arg, more_args, args, motive, after_stmt, under_next, proof, block, stmt}
-use Rattle.theory_printing_tokens.specs.Conditions.{HasTextFormula, HasTextMonos, HasTextArg, HasTextArgs, HasTextProof, HasTextBlock, HasTextStmt}
+use Rattle.theory_printing_conditions.specs.Conditions.{HasTextFormula, HasTextMonos, HasTextArg, HasTextArgs, HasTextProof, HasTextBlock, HasTextStmt}
 use Rattle.theory_printing_tokens.proofs.Lexing.{Lexes, in_turn, lex_nothing, lex_space}
-use Rattle.theory_printing_tokens.proofs.Words.{ends}
+use Rattle.theory_printing_lexemes.specs.Follows.{ends}
 use Rattle.theory_printing_tokens.proofs.Leaves.{LexesPhrase, phrase_then, deep_phrase, numbered_phrase, lex_word, lex_sign, lex_number, lex_name, lex_between}
 use Rattle.theory_printing_tokens.proofs.Leaves.{lex_comma, lex_semicolon}
 use Rattle.theory_printing_tokens.proofs.Leaves.{lex_new, lex_hypothesis, lex_name_or_blank, lex_heap_entry}

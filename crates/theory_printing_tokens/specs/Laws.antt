@@ -6,7 +6,7 @@ use Rattle.theory_printing.specs.Pieces.{Printed, bytes_of}
 use Rattle.theory_printing.specs.Names.{PrintScope}
 use Rattle.theory_printing.specs.Phrases.{ty, formula}
 use Rattle.theory_printing.specs.Proofs.{proof}
-use Rattle.theory_printing_tokens.specs.Conditions.{HasTextTy, HasTextFormula, HasTextProof}
+use Rattle.theory_printing_conditions.specs.Conditions.{HasTextTy, HasTextFormula, HasTextProof}
 use Rattle.theory_printing_tokens.specs.Spoken.{Spoken, tokens_of}
 
 -- the text of what is printed has the printed tokens

@@ -11,20 +11,7 @@ use Rattle.htt_lexer.specs.Tables.{lookup, sign_table}
 use Rattle.htt_lexer.specs.Tokens.{IsToken, sign, IsLongestSign}
 use Rattle.htt_lexer.proofs.Rows.{either, equal}
 use Rattle.theory_printing.specs.Spellings.{sign_spelling}
-
--- a space or `[`
-abbrev pub is_apart : List ℕ → Bool
-is_apart [] = false
-is_apart (b ∷ rest) = b == 32 || b == 91
-
-abbrev pub sign_ends : Sign → List ℕ → Bool
-sign_ends signs.UnderscoreSign rest = false
-sign_ends signs.EqualSign rest = is_apart rest
-sign_ends signs.MinusSign rest = is_apart rest
-sign_ends signs.LessSign rest = is_apart rest
-sign_ends signs.BarSign rest = is_apart rest
-sign_ends signs.StarSign rest = is_apart rest
-sign_ends _ rest = true
+use Rattle.theory_printing_lexemes.specs.Follows.{sign_ends}
 
 -- what follows is of one of two bytes
 by_byte : (P : ℕ → Type 0) (b : ℕ) → (b == 32 || b == 91) ≡ true → P 32 → P 91 → P b
