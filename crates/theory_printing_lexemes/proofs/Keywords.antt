@@ -1,5 +1,5 @@
 -- The keywords before what may follow them.
-use Rattle.std.proofs.Common.{◌≡◌, ℕ, List, [], ◌∷◌, Bool, true, refl}
+use Rattle.std.proofs.Common.{◌≡◌, ℕ, List, ◌∷◌, true, refl}
 use Rattle.std.specs.Prelude.{IsUtf8, codes}
 use Rattle.htt_lexer_tokens.specs.declared.tokens.Keyword.{Keyword}
 use Rattle.htt_lexer_tokens.specs.declared.tokens.Keyword.TheVariants as words

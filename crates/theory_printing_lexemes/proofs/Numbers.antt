@@ -1,17 +1,17 @@
 -- Numbers before what may follow them, and the names that entries and hypotheses have by their position.
-use Rattle.std.proofs.Common.{◌≡◌, ℕ, zero, suc, ◌+◌, ◌<◌, ◌^◌, ◌%◌, ◌/◌, List, [], ◌∷◌, ◌++◌, length, Bool, true, false, ◌||◌, ◌&&◌, cond, refl, sym, ◌∙◌}
+use Rattle.std.proofs.Common.{◌≡◌, ℕ, zero, suc, ◌<◌, ◌^◌, ◌%◌, ◌/◌, List, [], ◌∷◌, length, Bool, true, false, ◌&&◌, cond, refl, sym}
 use Rattle.std.proofs.Common.{subst, arith, nat_lt}
 use Rattle.std.specs.Prelude.{◌==◌, decimal}
 use Rattle.std.specs.Fmt.{digits, digits_onto, digit_glyph}
 use Rattle.std.specs.List.{list_all}
-use Rattle.std.specs.Char.{is_ascii_digit, is_ascii_alphanumeric}
+use Rattle.std.specs.Char.{is_ascii_digit}
 use Rattle.std.specs.Str.Parse.{digits_value}
 use Rattle.std.proofs.lemmas.Bool.{and_parts, and_from}
 use Rattle.std.proofs.lemmas.Bool.Decides.{nat_tests}
 use Rattle.std.proofs.lemmas.Fmt.{decimal_is_IsNumeral, decimal_nonempty}
 use Rattle.htt_lexer_tokens.specs.declared.tokens.Kind.TheVariants as kinds
 use Rattle.htt_lexer.specs.Tables.{keyword_table}
-use Rattle.htt_lexer.specs.Tokens.{IsToken, number, IsLongest}
+use Rattle.htt_lexer.specs.Tokens.{IsToken, number}
 use Rattle.htt_lexer.proofs.Words.{begins-ascii}
 use Rattle.theory_text_names.specs.Scopes.{Sort, a_mono, a_term, a_heap, a_term_or_heap, the_init, the_mem, a_hypothesis}
 use Rattle.theory_printing.specs.Names.{name_at, hypothesis_name}

@@ -1,6 +1,6 @@
 -- Signs before what may follow them: a sign that may go on as a longer one stands before a space or `[`.
-use Rattle.std.proofs.Common.{◌≡◌, ℕ, List, [], ◌∷◌, ◌++◌, Bool, true, false, ◌||◌, refl, sym, ◌∙◌, ap, subst, arith}
-use Rattle.std.specs.Prelude.{◌==◌, Some, None, codes, IsUtf8}
+use Rattle.std.proofs.Common.{◌≡◌, ℕ, List, [], ◌∷◌, ◌++◌, true, false, ◌||◌, refl, sym, ap, subst}
+use Rattle.std.specs.Prelude.{◌==◌, Some, None, IsUtf8}
 use Rattle.std.specs.Char.{encode_utf8}
 use Rattle.std.specs.Str.{chars, is_utf8}
 use Rattle.std.proofs.lemmas.Str.{IsUtf8-from_is_utf8}
@@ -8,7 +8,7 @@ use Rattle.htt_lexer_tokens.specs.declared.tokens.Sign.{Sign}
 use Rattle.htt_lexer_tokens.specs.declared.tokens.Sign.TheVariants as signs
 use Rattle.htt_lexer_tokens.specs.declared.tokens.Kind.TheVariants as kinds
 use Rattle.htt_lexer.specs.Tables.{lookup, sign_table}
-use Rattle.htt_lexer.specs.Tokens.{IsToken, sign, IsLongestSign}
+use Rattle.htt_lexer.specs.Tokens.{IsToken, sign}
 use Rattle.htt_lexer.proofs.Rows.{either, equal}
 use Rattle.theory_printing.specs.Spellings.{sign_spelling}
 use Rattle.theory_printing_lexemes.specs.Follows.{sign_ends}

@@ -1,9 +1,9 @@
 -- Words before what may follow them.
-use Rattle.std.proofs.Common.{◌≡◌, ℕ, zero, suc, ◌+◌, ◌<◌, ◌^◌, List, [], ◌∷◌, ◌++◌, length, Bool, true, false, ◌||◌, ◌&&◌, cond, refl, sym, ◌∙◌, ap, subst}
+use Rattle.std.proofs.Common.{◌≡◌, ℕ, ◌<◌, List, [], ◌∷◌, ◌++◌, Bool, true, false, ◌&&◌, refl, ◌∙◌, ap, subst}
 use Rattle.std.proofs.Common.{arith, nat_lt}
-use Rattle.std.specs.Prelude.{◌==◌, IsUtf8, not}
+use Rattle.std.specs.Prelude.{IsUtf8, not}
 use Rattle.std.specs.List.{list_all}
-use Rattle.std.specs.Char.{encode_utf8, is_ascii_digit, is_ascii_alphanumeric, IsScalar}
+use Rattle.std.specs.Char.{encode_utf8, is_ascii_digit, IsScalar}
 use Rattle.std.specs.Str.{encode_utf8_all}
 use Rattle.std.proofs.lemmas.Bool.{and_parts, and_from}
 use Rattle.std.proofs.lemmas.Bool.Decides.{nat_tests}

@@ -1,18 +1,17 @@
 -- The printed names stand for what they were printed for.
-use Rattle.std.proofs.Common.{◌⊎◌, inl, inr, ◌≡◌, ℕ, zero, suc, ◌+◌, ◌-◌, ◌<◌, ◌≤◌, ◌^◌, ◌/◌, ◌%◌, List, [], ◌∷◌, ◌++◌, length, take, drop, Bool, true, false}
-use Rattle.std.proofs.Common.{◌||◌, ◌&&◌, cond, refl, sym, ◌∙◌, ap, subst, arith}
-use Rattle.std.specs.Prelude.{◌==◌, codes, decimal, Option, Some, None, slice_get, bytes_eq, if◌then◌else◌}
+use Rattle.std.proofs.Common.{◌⊎◌, inl, inr, ◌≡◌, ℕ, zero, suc, ◌+◌, ◌-◌, ◌<◌, ◌^◌, ◌/◌, ◌%◌, List, [], ◌∷◌, length, take, drop, Bool, true, false}
+use Rattle.std.proofs.Common.{◌&&◌, cond, refl, sym, ◌∙◌, ap, subst, arith}
+use Rattle.std.specs.Prelude.{◌==◌, decimal, Option, Some, None, slice_get, bytes_eq}
 use Rattle.std.specs.Fmt.{digits, digits_onto, digit_glyph}
 use Rattle.std.specs.List.{list_all}
 use Rattle.std.specs.Char.{is_ascii_digit}
-use Rattle.std.specs.Cmp.Lexicographic.{same_text}
 use Rattle.std.proofs.lemmas.Fmt.{decimal_injective}
 use Rattle.std.proofs.lemmas.Bool.{cases_eq}
 use Rattle.std.proofs.lemmas.Slice.Eq.{bytes_eq-Decides}
 use Rattle.theory_text_names.specs.Scopes.{Sort, a_mono, a_term, a_heap, a_term_or_heap, the_init, the_mem, a_hypothesis, Local, one_more, one_more_hypothesis}
 use Rattle.theory_text_names.specs.Scopes.{hypotheses, is_reserved, is_sequent_letter}
-use Rattle.theory_text_names.specs.Uses.{Use, a_variable, the_hypothesis, is_named, use_of, local_use, heap_or_outer, heap_outside, is_init, is_mem}
-use Rattle.theory_printing.specs.Names.{name_at, hypothesis_name, letters, count_of}
+use Rattle.theory_text_names.specs.Uses.{a_variable, the_hypothesis, is_named, use_of, local_use, heap_or_outer, heap_outside}
+use Rattle.theory_printing.specs.Names.{name_at, hypothesis_name, count_of}
 use Rattle.theory_printing_names.specs.Scopes as named
 use Rattle.theory_printing_names.specs.Scopes.{AreNamed, named_none, named_entry, named_init, named_mem, named_hypothesis}
 use Rattle.theory_printing_lexemes.proofs.Numbers.{decimal_digits}

@@ -1,12 +1,12 @@
 -- What binders add is named as it was printed, and a use of a printed name finds what it was printed for.
-use Rattle.std.proofs.Common.{◌≡◌, ℕ, zero, suc, ◌+◌, ◌-◌, ◌<◌, ◌^◌, List, [], ◌∷◌, length, take, Bool, true, false, refl, sym, ◌∙◌, ap, subst, arith}
-use Rattle.std.specs.Prelude.{Option, Some, None, Result, Ok, slice_get}
+use Rattle.std.proofs.Common.{◌≡◌, ℕ, zero, suc, ◌+◌, ◌-◌, ◌<◌, ◌^◌, List, length, true, false, refl, ◌∙◌, ap, arith}
+use Rattle.std.specs.Prelude.{Some, Ok, slice_get}
 use Rattle.htt_parser_trees.specs.declared.place.Span.{Span}
 use Rattle.theory_text_names.specs.Scopes.{Sort, the_init, the_mem, a_hypothesis, Scope, bytes_of, under_name, under_hypothesis, is_reserved}
 use Rattle.theory_text_names.specs.Scopes as scopes
-use Rattle.theory_text_names.specs.Uses.{Use, a_variable, the_hypothesis, declared_use, local_use, first_some, use_at, hypothesis_of_use, hypothesis_named}
-use Rattle.theory_text_names.specs.Uses.{is_init, is_mem, heap_outside}
-use Rattle.theory_printing.specs.Names.{PrintScope, with_entry, with_hypothesis, under_mem, under_heaps, name_at, hypothesis_name, count_of}
+use Rattle.theory_text_names.specs.Uses.{a_variable, declared_use, local_use, first_some, use_at, hypothesis_of_use, hypothesis_named}
+use Rattle.theory_text_names.specs.Uses.{is_init, is_mem}
+use Rattle.theory_printing.specs.Names.{PrintScope, with_entry, with_hypothesis, under_mem, under_heaps, name_at, hypothesis_name}
 use Rattle.theory_printing_conditions.specs.Conditions.{IsHypothesis}
 use Rattle.theory_printing_names.specs.Scopes.{is_named, named_entry, named_init, named_mem, named_hypothesis, HasPrintedNames}
 use Rattle.theory_printing_names.specs.Laws.{PrintedNames}

@@ -1,5 +1,5 @@
 -- A printed name stands, where the binders bear the printed names, for what it was printed for.
-use Rattle.std.specs.Prelude.{◌≡◌, ℕ, zero, suc, ◌-◌, ◌<◌, ◌^◌, List, length, take, true, false, Some, Ok, slice_get}
+use Rattle.std.specs.Prelude.{◌≡◌, ℕ, suc, ◌-◌, ◌<◌, ◌^◌, List, length, take, true, false, Some, Ok, slice_get}
 use Rattle.htt_parser_trees.specs.declared.place.Span.{Span}
 use Rattle.theory_text_names.specs.Scopes.{Sort, the_init, the_mem, Scope, bytes_of, is_reserved}
 use Rattle.theory_text_names.specs.Uses.{a_variable, declared_use, use_at, hypothesis_named, heap_outside, is_init, is_mem}

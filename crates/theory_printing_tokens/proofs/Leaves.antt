@@ -1,8 +1,7 @@
 -- What is printed of the smallest parts is read as it was printed.
-use Rattle.std.proofs.Common.{◌≡◌, ℕ, zero, suc, ◌+◌, ◌<◌, ◌≤◌, ◌^◌, List, [], ◌∷◌, ◌++◌, length, take, Bool, true, false, cond, refl, sym, ◌∙◌, ap, subst}
+use Rattle.std.proofs.Common.{◌≡◌, ℕ, zero, suc, ◌+◌, ◌<◌, ◌≤◌, ◌^◌, List, [], ◌∷◌, ◌++◌, length, take, Bool, true, false, cond, refl}
 use Rattle.std.proofs.Common.{arith}
-use Rattle.std.specs.Prelude.{IsUtf8, codes, decimal, Option, Some, None, slice_get, if◌then◌else◌}
-use Rattle.std.proofs.lemmas.List.{length-take-le}
+use Rattle.std.specs.Prelude.{decimal, Option, Some, None, slice_get}
 use Rattle.htt_lexer_tokens.specs.declared.tokens.Keyword.{Keyword}
 use Rattle.htt_lexer_tokens.specs.declared.tokens.Keyword.TheVariants.{InitWord, MemWord, NullWord, PlaceWord}
 use Rattle.htt_lexer_tokens.specs.declared.tokens.Sign.{Sign}
@@ -14,14 +13,13 @@ use Rattle.htt_syntax.specs.declared.mono.Op.TheVariants.{Add, Sub, Mul, And, Or
 use Rattle.theory_text_names.specs.Scopes.{Sort, a_mono, a_term, a_heap, a_term_or_heap, the_init, the_mem, a_hypothesis}
 use Rattle.theory_text_names.specs.Uses.{is_init, is_mem}
 use Rattle.theory_printing.specs.Spellings.{word_spelling, sign_spelling}
-use Rattle.theory_printing.specs.Pieces.{Printed, nothing, one, ◌▹◌, deeper, operand, a_space, a_word, a_sign, a_number, a_name, bytes_of, between, comma}
+use Rattle.theory_printing.specs.Pieces.{Printed, one, ◌▹◌, deeper, operand, a_word, a_sign, a_number, a_name, bytes_of, between, comma}
 use Rattle.theory_printing.specs.Pieces.{semicolon}
 use Rattle.theory_printing.specs.Pieces.{in_parens, in_brackets}
 use Rattle.theory_printing.specs.Names.{PrintScope, name_at, new_name, hypothesis_name, count_of, past, entry_of_sort, entry, name_or_blank}
 use Rattle.theory_printing.specs.Phrases.{op_sign, right_of, literal_place}
 use Rattle.theory_printing_conditions.specs.Conditions.{IsName, HasName, IsMonoEntry, IsTermEntry, IsHeapEntry, StandsForMono, StandsForTerm, StandsForHeap}
-use Rattle.theory_printing_tokens.specs.Spoken.{Spoken, tokens_of}
-use Rattle.theory_printing_tokens.proofs.Lexing.{Lexed, Lexes, in_turn, deep, numbered, lex_nothing, lex_space, one_token, its_bytes}
+use Rattle.theory_printing_tokens.proofs.Lexing.{Lexes, in_turn, deep, numbered, lex_nothing, lex_space, one_token, its_bytes}
 use Rattle.theory_printing_lexemes.specs.Follows.{ends, sign_ends}
 use Rattle.theory_printing_lexemes.proofs.Lexemes.{lexemes}
 

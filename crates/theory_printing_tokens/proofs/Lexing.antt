@@ -1,22 +1,18 @@
 -- Pieces that are read as they were printed: each token before what may follow it, and one after the other.
-use Rattle.std.proofs.Common.{◌≡◌, ℕ, zero, suc, ◌+◌, ◌-◌, ◌<◌, ◌^◌, List, [], ◌∷◌, ◌++◌, length, take, drop, Bool, true, false, ◌||◌, ◌&&◌, cond, refl, sym}
+use Rattle.std.proofs.Common.{◌≡◌, ℕ, ◌+◌, ◌-◌, List, [], ◌∷◌, ◌++◌, length, take, drop, refl, sym}
 use Rattle.std.proofs.Common.{◌∙◌, ap, subst, arith, append_assoc}
-use Rattle.std.specs.Prelude.{◌==◌, IsUtf8, not, codes, decimal}
-use Rattle.std.specs.List.{list_all}
-use Rattle.std.specs.Char.{encode_utf8, is_ascii_digit, is_ascii_alphanumeric}
-use Rattle.std.specs.Str.{encode_utf8_all, chars, is_utf8}
+use Rattle.std.specs.Prelude.{IsUtf8}
+use Rattle.std.specs.Char.{encode_utf8}
+use Rattle.std.specs.Str.{chars, is_utf8}
 use Rattle.std.proofs.Math.Seq.{take-append_seam, drop-append_seam}
 use Rattle.std.proofs.lemmas.List.{length-append, append-nil}
-use Rattle.std.proofs.lemmas.Str.{IsUtf8-append, IsUtf8-nil, IsUtf8-from_is_utf8, char_from_byte}
-use Rattle.unicode_ident.specs.Ident.{is_xid_continue}
-use Rattle.unicode_ident.proofs.IdentLemmas.{is_xid_continue-ascii}
+use Rattle.std.proofs.lemmas.Str.{IsUtf8-append, IsUtf8-nil, IsUtf8-from_is_utf8}
 use Rattle.htt_lexer_tokens.specs.declared.tokens.Kind.{Kind}
-use Rattle.htt_lexer_tokens.specs.declared.tokens.Kind.TheVariants as kinds
 use Rattle.htt_lexer_tokens.specs.declared.tokens.Token.{Token}
-use Rattle.htt_lexer.specs.Tokens.{IsToken, IsGap, blank, Reads, here, gap, token}
+use Rattle.htt_lexer.specs.Tokens.{IsToken, blank, Reads, here, gap, token}
 use Rattle.theory_text_names.specs.Scopes as scopes
-use Rattle.theory_printing.specs.Pieces.{Printed, nothing, one, ◌▹◌, deeper, operand, in_parens, in_brackets, bytes_of, a_space}
-use Rattle.theory_printing_tokens.specs.Spoken.{Spoken, tokens_of, KindToken, NameToken}
+use Rattle.theory_printing.specs.Pieces.{Printed, nothing, one, ◌▹◌, deeper, operand, bytes_of, a_space}
+use Rattle.theory_printing_tokens.specs.Spoken.{Spoken, tokens_of}
 
 -- ---- one after the other
 

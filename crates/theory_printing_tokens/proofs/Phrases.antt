@@ -1,5 +1,5 @@
 -- What is printed of types, terms, computations and formulas is read as it was printed: a row for each form.
-use Rattle.std.proofs.Common.{◌≡◌, ℕ, List, [], ◌∷◌, ◌++◌, Bool, true, false, refl}
+use Rattle.std.proofs.Common.{◌≡◌, ℕ, List, ◌++◌, true, false, refl}
 use Rattle.std.specs.Prelude.{slice_get}
 use Rattle.htt_lexer_tokens.specs.declared.tokens.Keyword.TheVariants.{WordWord, BoolWord, LocWord, UnitWord, HeapWord, FunWord, DoWord, FixWord, RetWord}
 use Rattle.htt_lexer_tokens.specs.declared.tokens.Keyword.TheVariants.{AllocWord}
@@ -27,7 +27,7 @@ use Rattle.theory_printing.specs.Brackets.{an_operand, a_side, a_run, a_head, ne
 use Rattle.theory_printing.specs.Phrases.{mono, under_params, ty, spec, term, fix, comp, step, formula, arguments, more_arguments}
 use Rattle.theory_printing_conditions.specs.Conditions.{HasTextMono, HasTextTy, HasTextSpec, HasTextTerm, HasTextFix, HasTextComp, HasTextStep, HasTextFormula}
 use Rattle.theory_printing_conditions.specs.Conditions.{HasTextTerms}
-use Rattle.theory_printing_tokens.proofs.Lexing.{Lexes, in_turn, lex_nothing, lex_space}
+use Rattle.theory_printing_tokens.proofs.Lexing.{in_turn, lex_nothing, lex_space}
 use Rattle.theory_printing_lexemes.specs.Follows.{ends}
 use Rattle.theory_printing_tokens.proofs.Leaves.{LexesPhrase, phrase_then, deep_phrase, numbered_phrase, lex_word, lex_sign, lex_number, lex_between, lex_comma}
 use Rattle.theory_printing_tokens.proofs.Leaves.{lex_between_op, lex_right_of}

@@ -1,5 +1,5 @@
 -- The bytes that are printed have the printed tokens.
-use Rattle.std.proofs.Common.{◌≡◌, ℕ, List, [], ◌∷◌, ◌++◌, length, refl, sym, subst}
+use Rattle.std.proofs.Common.{[], length, refl, sym, subst}
 use Rattle.std.proofs.lemmas.List.{append-nil}
 use Rattle.htt_lexer.specs.Tokens.{Reads}
 use Rattle.theory_printing.specs.Pieces.{Printed, bytes_of}
@@ -7,7 +7,6 @@ use Rattle.theory_printing.specs.Phrases.{ty, formula}
 use Rattle.theory_printing.specs.Proofs.{proof}
 use Rattle.theory_printing_tokens.specs.Spoken.{tokens_of}
 use Rattle.theory_printing_tokens.specs.Laws.{HasPrintedTokens, PrintedTokens}
-use Rattle.theory_printing_tokens.proofs.Lexing.{Lexed}
 use Rattle.theory_printing_tokens.proofs.Leaves.{LexesPhrase}
 use Rattle.theory_printing_tokens.proofs.Phrases.{lex_ty, lex_formula}
 use Rattle.theory_printing_tokens.proofs.Proofs.{lex_proof}
