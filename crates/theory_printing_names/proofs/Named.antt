@@ -42,7 +42,7 @@ under_own_heaps n = record { locals = named_mem (named_init n.locals); declared 
 zero_plus : (n : ℕ) → zero + n ≡ n
 zero_plus n = omega arith
 
-use_found : {s : PrintScope} {counts : List ℕ} {r : Scope} (index : ℕ) (sort : Sort) (span : Span)
+pub use_found : {s : PrintScope} {counts : List ℕ} {r : Scope} (index : ℕ) (sort : Sort) (span : Span)
     → HasPrintedNames s counts r
     → slice_get s.entries index ≡ Some sort
     → is_named sort ≡ true
@@ -53,7 +53,7 @@ use_found {s} {counts} {r} index sort span n at is few e =
     ap (λ o. first_some o (declared_use (bytes_of r.text span) r.names)) (entry_found index zero sort (bytes_of r.text span) n.locals at is few e)
     ∙ ap (λ m. Some (a_variable m sort)) (zero_plus index)
 
-declared_found : {s : PrintScope} {counts : List ℕ} {r : Scope} (name : List ℕ) (span : Span)
+pub declared_found : {s : PrintScope} {counts : List ℕ} {r : Scope} (name : List ℕ) (span : Span)
     → HasPrintedNames s counts r
     → is_reserved name ≡ false
     → bytes_of r.text span ≡ name
