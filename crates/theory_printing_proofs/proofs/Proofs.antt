@@ -90,8 +90,8 @@ same_stmt h =
     }
 
 -- at a place that is the same
-there : {q r : Scope} {tree : raw.RawProofTree} {b : Result BlockTree Stop} → r ≡ q → block_comes q tree ≡ b → block_comes r tree ≡ b
-there {tree = tree} {b = b} e h = subst (λ r. block_comes r tree ≡ b) (sym e) h
+there : {q r : Scope} (tree : raw.RawProofTree) {b : Result BlockTree Stop} → r ≡ q → block_comes q tree ≡ b → block_comes r tree ≡ b
+there tree {b = b} e h = subst (λ r. block_comes r tree ≡ b) (sym e) h
 
 pub any_proof : {r : Scope} {l : ℕ} {p : Printed} {v : Spoken r.text p} {told : ProofTree} (b : Bool) → ProofRead r l p v told b → ReadsProof r l p v told
 unfolding grammar.proof proof_comes
@@ -103,9 +103,9 @@ any_proof false h =
 as_end : {r : Scope} {l : ℕ} {p : Printed} {v : Spoken r.text p} {told : ProofTree} {b : Bool} → b ≡ false → ProofRead r l p v told b → ReadsEnd r l p v told
 as_end {r} {l} {p} {v} {told} e h = (subst (λ b. ProofRead r l p v told b) e h).natural
 
-end_of_block : {r : Scope} {l : ℕ} {p : Printed} {v : Spoken r.text p} {told : ProofTree} → ReadsEnd r l p v told → ReadsBlock r l p v (b_end told)
+end_of_block : (r : Scope) {l : ℕ} {p : Printed} {v : Spoken r.text p} {told : ProofTree} → ReadsEnd r l p v told → ReadsBlock r l p v (b_end told)
 unfolding grammar.proof proof_comes said_proof
-end_of_block h =
+end_of_block r h =
     record { tree = raw.p_end h.tree; meets = record { meets = h.meets.meets }; given = b_end h.given; comes = bind _ h.comes refl; same = λ i. b_end (h.same i) }
 
 -- ---- lists
@@ -242,7 +242,7 @@ read_motive {s} {counts} {r} names C has l v =
 -- ---- proofs
 
 mutual
-  unfolding marks_of proof HasTextProof is_block said_proof after_stmt grammar.proof proof_comes args_come inst_at ◌⨟◌
+  unfolding marks_of proof more_args HasTextProof HasTextArgs is_block said_proof after_stmt grammar.proof proof_comes args_come inst_at ◌⨟◌
 
   pub read_proof : {s : PrintScope} {counts : List ℕ} {r : Scope}
       → HasPrintedNames s counts r
@@ -406,7 +406,7 @@ mutual
               (go (goes_then (goes (deep (first.meets))) (goes_then (goes_comma r.text l v.1.1.0.1.0) (goes (numbered 2 (left_heap.meets)))))
               (ends_sign r.text l CloseParenSign v.1.1.1)));
           given = p_at v.0.token.from (p_inst first.given left_heap.given);
-          comes = bind _ first.comes (bind _ left_heap.comes refl);
+          comes = bind _ first.comes (bind _ left_heap.comes (bind _ refl refl));
           same = λ i. p_inst (first.same i) (left_heap.same i);
         };
       }
@@ -589,7 +589,7 @@ mutual
           tree = raw.p_step first.tree rest.tree;
           meets = go (goes first.meets) rest.meets;
           given = p_block (b_then first.given rest.given);
-          comes = bind _ first.comes (bind _ (there first.is rest.comes) refl);
+          comes = bind _ first.comes (bind _ (there rest.tree first.is rest.comes) refl);
           same = λ i. p_block (b_then (first.same i) (rest.same i));
         };
       }
@@ -611,11 +611,11 @@ mutual
         tree = raw.p_step first.tree rest.tree;
         meets = go (goes first.meets) rest.meets;
         given = b_then first.given rest.given;
-        comes = bind _ first.comes (bind _ (there first.is rest.comes) refl);
+        comes = bind _ first.comes (bind _ (there rest.tree first.is rest.comes) refl);
         same = λ i. b_then (first.same i) (rest.same i);
       }
   read_block {s} {counts} {r} names (b_end p) has l v =
-      end_of_block (as_end has.0 (read_proof names p has.1 l v))
+      end_of_block r (as_end has.0 (read_proof names p has.1 l v))
 
   read_stmt : {s : PrintScope} {counts : List ℕ} {r : Scope}
       → HasPrintedNames s counts r
