@@ -1,0 +1,4 @@
+pub mod Meets
+pub mod Forms
+pub mod Leaves
+pub mod Chains

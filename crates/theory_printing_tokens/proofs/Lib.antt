@@ -1,0 +1,5 @@
+pub mod Lexing
+pub mod Leaves
+pub mod Phrases
+pub mod Proofs
+pub mod Printed
