@@ -1,2 +1,0 @@
-pub mod Sequents
-pub mod Examples
