@@ -1,11 +1,9 @@
-//! What a file stands for once its names are looked up: its items, the meaning of each declared name, and why a text
-//! is refused for its names or for the size of its trees. The calls that make these stand above.
+//! The names that a file declares and what each of them stands for, and why a text is refused for its names or for
+//! the size of its trees. What stands for a whole file is above, and so are the calls that make it.
 #![tactic(auto)]
 
-mod item;
 mod names;
 mod stop;
 
-pub use item::{Item, Resolved};
 pub use names::{Declared, Meaning, Names};
 pub use stop::NameStop;

@@ -8,7 +8,8 @@ use htt_syntax_seq::Seq;
 pub enum Meaning {
     /// A closed monotype.
     Mono(Mono),
-    /// A predicate, as `Item::Pred` has it.
+    /// A predicate: how many monotypes it takes, its parameters and its body. `params[i]` stands under the monotypes and
+    /// the `i` parameters before it, the body under all of them and then the heap `mem`.
     Pred {
         monos: u32,
         params: Seq<Mono>,

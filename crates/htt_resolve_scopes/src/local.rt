@@ -1,9 +1,9 @@
 //! The binders around a place.
 
-ghost use Rattle.std.specs.Prelude.{◌≡◌, ◌+◌, ◌<◌, ◌^◌};
+ghost use Rattle.std.specs.Prelude.{◌≡◌, ◌+◌, ◌<◌, ◌^◌, ◌-◌, ◌≤◌, ◌∷◌, length, take};
 ghost use Rattle.theory_text_names.specs.Scopes.{one_more, one_more_hypothesis};
 ghost use Rattle.theory_text_names.specs.Uses.{is_named, is_init, is_mem};
-ghost use Rattle.htt_resolve_scopes.specs.Views.{sort_of, name_of};
+ghost use Rattle.htt_resolve_scopes.specs.Views.{sort_of, name_of, local_tree, innermost_first};
 
 /// What a binder adds: an entry of a context, or a hypothesis of a proof. An entry that a proof adds is a term or a
 /// heap. The heaps `init` and `mem` have words in place of names.
@@ -73,4 +73,14 @@ impl Local<'_> {
             None => false,
         }
     }
+}
+
+/// The innermost one of the first `count` locals; the code keeps the outermost first.
+#[tactic(auto, using(crate::proofs::Outward::innermost_of))]
+pub(crate) fn innermost<'a>(locals: &[Local<'a>], count: usize) -> Local<'a>
+    requires some { 0 < count }
+    requires within { count ≤ length locals.now }
+    ensures first { innermost_first (take count locals.now) ≡ local_tree result ∷ innermost_first (take (count - 1) locals.now) }
+{
+    locals[count - 1]
 }

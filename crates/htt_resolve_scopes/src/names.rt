@@ -1,19 +1,20 @@
 //! Names as bytes.
 
-ghost use Rattle.std.specs.Prelude.{◌≡◌, ◌≤◌, length};
+ghost use Rattle.std.specs.Prelude.{◌≡◌};
 ghost use Rattle.std.specs.Char.{is_ascii_digit};
 ghost use Rattle.std.specs.List.{list_all};
 ghost use Rattle.theory_text_names.specs.Scopes.{bytes_of, is_reserved};
 
 use htt_parser_trees::Span;
 
-/// The bytes of a name of the text.
+/// The bytes of a name of the text: those of them that lie within the text, and none where the span ends before it
+/// begins.
 pub fn name_bytes(text: &[u8], span: Span) -> &[u8]
-    requires ordered { span.from ≤ span.to }
-    requires within { span.to ≤ length text.now }
     ensures bytes { result.now ≡ bytes_of text.now span }
 {
-    &text[span.from as usize..span.to as usize]
+    let to = text.len().min(span.to as usize);
+    let from = to.min(span.from as usize);
+    &text[from..to]
 }
 
 /// Whether the name may not be declared: `_x`, `_a`, `_h` or `_u` before digits.

@@ -1,7 +1,8 @@
-//! Names that may be declared, and names that may not.
+//! Names that may be declared, and names that may not; what names and heaps stand for at a place.
 
-use crate::{Local, Sort, is_reserved, name_bytes};
-use htt_parser_trees::Span;
+use crate::{Local, Scope, Sort, is_reserved, name_bytes};
+use htt_parser_trees::{Binder, RawHeap, Span};
+use htt_resolve_names::NameStop;
 use std::test::Fail;
 
 #[test]
@@ -25,27 +26,66 @@ fn a_name_is_its_bytes(rt: HostRuntime) -> Result<(), Fail> {
     Ok(())
 }
 
+/// The name of one letter that stands at this byte.
+fn letter(at: u64) -> Span
+    requires room { at < 1000 }
+{
+    Span {
+        from: at,
+        to: at + 1,
+    }
+}
+
 #[test]
-fn a_hypothesis_is_no_entry(rt: HostRuntime) -> Result<(), Fail> {
-    assert_eq!(rt; Sort::Hypothesis.one_more(3), 3);
-    assert_eq!(rt; Sort::TermOrHeap.one_more(3), 4);
-    assert_eq!(rt; Sort::Hypothesis.one_more_hypothesis(3), 4);
-    assert_eq!(rt; Sort::Mono.one_more_hypothesis(3), 3);
+fn the_innermost_binder_of_a_name_hides_the_others(rt: HostRuntime) -> Result<(), Fail> {
+    let top = Scope::at_top(rt.alloc(), "h k h z".as_bytes(), &[]);
+    let first = top.under_name(rt.alloc(), letter(0), Sort::Heap)?;
+    let second = first.under(rt.alloc(), Binder::Blank, Sort::Term)?;
+    assert_eq!(rt; second.heap_named(letter(4)), Ok(1));
+    let third = second.under_name(rt.alloc(), letter(4), Sort::Heap)?;
+    assert_eq!(rt; third.heap_named(letter(0)), Ok(0));
+    assert_eq!(rt; second.heap_named(letter(0)), Ok(1));
+    assert_eq!(rt;
+        third.heap_named(letter(6)),
+        Err(NameStop::Unbound { at: 6 })
+    );
     Ok(())
 }
 
 #[test]
-fn a_binder_without_a_name_has_no_name(rt: HostRuntime) -> Result<(), Fail> {
-    let named = Local {
-        name: Some("x".as_bytes()),
-        sort: Sort::Term,
+fn a_hypothesis_is_no_entry(rt: HostRuntime) -> Result<(), Fail> {
+    let mut scope = Scope::at_top(rt.alloc(), "h u v".as_bytes(), &[]);
+    scope.enter_binder(Binder::Name(letter(0)), Sort::Heap)?;
+    scope.enter_binder(Binder::Name(letter(2)), Sort::Hypothesis)?;
+    scope.enter_binder(Binder::Name(letter(4)), Sort::Hypothesis)?;
+    assert_eq!(rt; scope.heap_named(letter(0)), Ok(0));
+    assert_eq!(rt; scope.hypothesis_named(letter(2)), Ok(0));
+    assert_eq!(rt; scope.hypothesis_named(letter(4)), Ok(1));
+    assert_eq!(rt;
+        scope.heap_named(letter(2)),
+        Err(NameStop::WrongSort { at: 2 })
+    );
+    assert_eq!(rt;
+        scope.hypothesis_named(letter(0)),
+        Err(NameStop::WrongSort { at: 0 })
+    );
+    Ok(())
+}
+
+#[test]
+fn mem_passes_over_so_many_of_its_kind(rt: HostRuntime) -> Result<(), Fail> {
+    let top = Scope::at_top(rt.alloc(), "".as_bytes(), &[]);
+    assert_eq!(rt; top.current_heap(3), Err(NameStop::WrongSort { at: 3 }));
+    let scope = top.under_mem(rt.alloc())?.under_heaps(rt.alloc())?;
+    for (over, answer) in [(None, Ok(0)), (Some(0), Ok(0)), (Some(1), Ok(2))] {
+        assert_eq!(rt; scope.heap(&RawHeap::Mem { at: 15, over }), answer);
+    }
+    let far = RawHeap::Mem {
+        at: 15,
+        over: Some(2),
     };
-    let blank = Local {
-        name: None,
-        sort: Sort::Term,
-    };
-    assert!(rt; named.is_named("x".as_bytes()));
-    assert!(rt; !named.is_named("xy".as_bytes()));
-    assert!(rt; !blank.is_named("".as_bytes()));
+    assert_eq!(rt; scope.heap(&far), Err(NameStop::WrongSort { at: 15 }));
+    assert_eq!(rt; scope.heap(&RawHeap::Init { at: 4, over: None }), Ok(1));
+    assert_eq!(rt; scope.current_heap(3), Ok(0));
     Ok(())
 }

@@ -1,6 +1,6 @@
 //! Items: what the declarations of a file are, with their names looked up and their sugar replaced.
 
-use crate::names::Names;
+use htt_resolve_names::Names;
 use htt_syntax::{Formula, Mono, RecPred, Term, Ty};
 use htt_syntax_seq::Seq;
 

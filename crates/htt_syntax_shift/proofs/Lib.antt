@@ -1,0 +1,4 @@
+pub mod Depths
+pub mod Renaming
+pub mod RenamingProofs
+pub mod Places
