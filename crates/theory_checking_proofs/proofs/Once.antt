@@ -73,12 +73,12 @@ same_imp (a, b) (c, d) p q = let e : f_imp a b ≡ f_imp c d = sym p ∙ q in λ
 same_all : {F : FormulaTree} (f h : MonoTree × FormulaTree) → F ≡ f_all_t (f.0) (f.1) → F ≡ f_all_t (h.0) (h.1) → f ≡ h
 same_all (a, b) (c, d) p q = let e : f_all_t a b ≡ f_all_t c d = sym p ∙ q in λ j. (all_mono e j, all_body e j)
 
-same_one : {as : List ArgTree} (f h : ℕ × List ArgTree) → as ≡ a_heap (f.0) ∷ f.1 → as ≡ a_heap (h.0) ∷ h.1 → f ≡ h
+same_one : {args : List ArgTree} (f h : ℕ × List ArgTree) → args ≡ a_heap (f.0) ∷ f.1 → args ≡ a_heap (h.0) ∷ h.1 → f ≡ h
 same_one (a, b) (c, d) p q = let e : a_heap a ∷ b ≡ a_heap c ∷ d = sym p ∙ q in λ j. (first_heap e j, others_of e j)
 
-same_two : {as : List ArgTree} (f h : ℕ × TermTree × List ArgTree)
-    → as ≡ a_heap (f.0) ∷ a_term (f.1) ∷ f.2
-    → as ≡ a_heap (h.0) ∷ a_term (h.1) ∷ h.2
+same_two : {args : List ArgTree} (f h : ℕ × TermTree × List ArgTree)
+    → args ≡ a_heap (f.0) ∷ a_term (f.1) ∷ f.2
+    → args ≡ a_heap (h.0) ∷ a_term (h.1) ∷ h.2
     → f ≡ h
 same_two (a, b, x) (c, d, y) p q =
     let e : a_heap a ∷ a_term b ∷ x ≡ a_heap c ∷ a_term d ∷ y = sym p ∙ q in
@@ -164,11 +164,11 @@ mutual
       then_once (then_once (formula_once env g at F) (λ F'. then_once (proofs_come_to_one env g hs at p (Some F')) (λ _. comes_once)))
       (λ F. meets_once at asked F)
   proofs_come_to_one env g hs at (p_unfold number zero arguments) asked =
-      then_once (then_once (finds_once (λ a b d e. found_once d e)) (λ r. then_once (arguments_once env g at arguments _) (λ _.
+      then_once (then_once (finds_once (λ a b d e. found_once d e)) (λ r. then_once (arguments_once env g at arguments (heap_sort ∷ map term_sort r.params)) (λ _.
       then_once (makes_once same_one) (λ (h, values). then_once (makes_once (λ a b d e. one_put _ _ a b d e)) (λ F. instance_once _)))))
       (λ F. meets_once at asked F)
   proofs_come_to_one env g hs at (p_unfold number (suc zero) arguments) asked =
-      then_once (then_once (finds_once (λ a b d e. found_once d e)) (λ r. then_once (arguments_once env g at arguments _) (λ _.
+      then_once (then_once (finds_once (λ a b d e. found_once d e)) (λ r. then_once (arguments_once env g at arguments (heap_sort ∷ term_sort m_word ∷ map term_sort r.params)) (λ _.
       then_once (makes_once same_two) (λ (h, m, values). then_once (makes_once (λ a b d e. one_put _ _ a b d e)) (λ F. instance_once _)))))
       (λ F. meets_once at asked F)
   proofs_come_to_one env g hs at (p_unfold number (suc (suc n)) arguments) asked =
@@ -183,13 +183,15 @@ mutual
   proofs_come_to_one env g hs at (p_right p) None = refuses_once
   proofs_come_to_one env g hs at (p_right p) (Some (f_or A B)) = then_once (proofs_come_to_one env g hs at p (Some B)) (λ _. comes_once)
   proofs_come_to_one env g hs at (p_right p) (Some _) = refuses_once
-  proofs_come_to_one env g hs at (p_give argument p) None = refuses_once
+  proofs_come_to_one env g hs at (p_give (a_term m) p) None = refuses_once
+  proofs_come_to_one env g hs at (p_give (a_heap h) p) None = refuses_once
   proofs_come_to_one env g hs at (p_give (a_term m) p) (Some (f_ex_t t F)) =
       then_once (term_once env in_formula g at m (Some (y_mono t))) (λ v. then_once (puts_once v.term F) (λ goal.
       then_once (proofs_come_to_one env g hs at p (Some goal)) (λ _. comes_once)))
   proofs_come_to_one env g hs at (p_give (a_heap h) p) (Some (f_ex_h F)) =
       then_once needs_once (λ _. then_once (heap_once h F) (λ goal. then_once (proofs_come_to_one env g hs at p (Some goal)) (λ _. comes_once)))
-  proofs_come_to_one env g hs at (p_give argument p) (Some _) = refuses_once
+  proofs_come_to_one env g hs at (p_give (a_term m) p) (Some _) = refuses_once
+  proofs_come_to_one env g hs at (p_give (a_heap h) p) (Some _) = refuses_once
   proofs_come_to_one env g hs at p_trivial None = refuses_once
   proofs_come_to_one env g hs at p_trivial (Some f_tt) = comes_once
   proofs_come_to_one env g hs at p_trivial (Some _) = refuses_once

@@ -61,11 +61,11 @@ args_fit env g at (a_term m ∷ others) (term_sort t ∷ sorts) (goes_on {given 
     fits_term_arg (in_formula_fits (term_derived env in_formula g at m (Some (y_mono t)) v a)) (args_fit env g at others sorts b)
 args_fit env g at _ _ a = elim a [ ]
 
-these_fit : {env : Environment} {g : Context} {args : List ArgTree} {sorts : List ArgSort} {as bs : List ArgTree}
-    → FitsArgs env g args sorts as
-    → as ≡ bs
-    → FitsArgs env g args sorts bs
-these_fit {env = env} {g = g} {args = args} {sorts = sorts} d e = subst (λ (as : List ArgTree). FitsArgs env g args sorts as) e d
+these_fit : {env : Environment} {g : Context} {args : List ArgTree} {sorts : List ArgSort} {xs ys : List ArgTree}
+    → FitsArgs env g args sorts xs
+    → xs ≡ ys
+    → FitsArgs env g args sorts ys
+these_fit {env = env} {g = g} {args = args} {sorts = sorts} d e = subst (λ (xs : List ArgTree). FitsArgs env g args sorts xs) e d
 
 rewrite_proved : {env : Environment} {g : Context} {hs : List FormulaTree} {p q : ProofTree} {G : FormulaTree} (at : ℕ) (C : FormulaTree)
     (Rest : FormulaTree → Result FormulaTree Stop → Type 0) (F : FormulaTree)
@@ -143,14 +143,16 @@ module _ (env : Environment) where
     proof_proved g hs at (p_right p) None R a = elim a [ ]
     proof_proved g hs at (p_right p) (Some (f_or A B)) R (goes_on {given = P} a comes) = proves_right (proof_proved g hs at p (Some B) P a)
     proof_proved g hs at (p_right p) (Some _) R a = elim a [ ]
-    proof_proved g hs at (p_give argument p) None R a = elim a [ ]
+    proof_proved g hs at (p_give (a_term m) p) None R a = elim a [ ]
+    proof_proved g hs at (p_give (a_heap h) p) None R a = elim a [ ]
     proof_proved g hs at (p_give (a_term m) p) (Some (f_ex_t t F)) R
         (goes_on {given = v} a (goes_on {given = H} (goes_on (makes u) (goes_on w comes)) (goes_on {given = P} b comes))) =
         proves_give_term (in_formula_fits (term_derived env in_formula g at m (Some (y_mono t)) v a)) u (proof_proved g hs at p (Some H) P b)
     proof_proved g hs at (p_give (a_heap h) p) (Some (f_ex_h F)) R
         (goes_on (holds i) (goes_on {given = H} (goes_on w comes) (goes_on {given = P} b comes))) =
         proves_give_heap i (proof_proved g hs at p (Some H) P b)
-    proof_proved g hs at (p_give argument p) (Some _) R a = elim a [ ]
+    proof_proved g hs at (p_give (a_term m) p) (Some _) R a = elim a [ ]
+    proof_proved g hs at (p_give (a_heap h) p) (Some _) R a = elim a [ ]
     proof_proved g hs at p_trivial None R a = elim a [ ]
     proof_proved g hs at p_trivial (Some f_tt) R comes = proves_trivial
     proof_proved g hs at p_trivial (Some _) R a = elim a [ ]

@@ -48,7 +48,6 @@ finds_nothing : {A B : Type 0} {found : A → Type 0} {given : B} {rule other : 
     → ⊥
 finds_nothing (reaches (stops (finds_none d)) (is_limit l)) = elim l [ ]
 finds_nothing (reaches (goes_on d refuses) (is_limit l)) = elim l [ ]
-finds_nothing (reaches (goes_on d x) is_given) = elim x [ ]
 
 puts_reaches : {new : TermTree} {F R : FormulaTree} → SubFormula new sk_o 0 F R → Reaches (PutsInFormula new F) R
 puts_reaches d = then_reaches (makes_reaches _ d) (then_reaches (within_reaches _ _) comes_reaches)
@@ -107,7 +106,8 @@ proof_meets env g hs at (p_unfold number (suc (suc n)) arguments) e f = absurd (
 proof_meets env g hs at (p_both p q) e f = absurd (refuses_nothing f)
 proof_meets env g hs at (p_left p) e f = absurd (refuses_nothing f)
 proof_meets env g hs at (p_right p) e f = absurd (refuses_nothing f)
-proof_meets env g hs at (p_give argument p) e f = absurd (refuses_nothing f)
+proof_meets env g hs at (p_give (a_term m) p) e f = absurd (refuses_nothing f)
+proof_meets env g hs at (p_give (a_heap h) p) e f = absurd (refuses_nothing f)
 proof_meets env g hs at p_trivial e f = absurd (refuses_nothing f)
 proof_meets env g hs at p_refl e f = absurd (refuses_nothing f)
 proof_meets env g hs at (p_absurd p) e f = absurd (refuses_nothing f)
@@ -119,20 +119,20 @@ proof_meets env g hs at (p_block block) e f = absurd (refuses_nothing f)
 proof_meets env g hs at (p_at inner p) e f = proof_meets env g hs inner p e f
 
 -- a block whose first statement stands at a byte of its own
-unfoldable BlockAt : Environment → Context → List FormulaTree → ℕ → ℕ → BlockTree → FormulaTree → Result FormulaTree Stop → Type 0
+abbrev BlockAt : Environment → Context → List FormulaTree → ℕ → ℕ → BlockTree → FormulaTree → Result FormulaTree Stop → Type 0
 BlockAt env g hs at outer (b_end p) G = ProofComesTo env g hs at p (Some G)
 BlockAt env g hs at outer (b_then stmt rest) G = StmtComesTo env g hs at stmt G (λ h us goal. BlockComesTo env h us outer rest goal)
 
 block_from : (env : Environment) (g : Context) (hs : List FormulaTree) (at : ℕ) (block : BlockTree) (G : FormulaTree)
     → Reaches (BlockAt env g hs at at block G) G
     → Reaches (BlockComesTo env g hs at block G) G
-unfolding BlockAt BlockComesTo
+unfolding BlockComesTo
 block_from env g hs at (b_end p) G d = d
 block_from env g hs at (b_then stmt rest) G d = d
 
 module _ (env : Environment) where
   mutual
-    unfolding ProofComesTo BlockAt BlockComesTo StmtComesTo
+    unfolding ProofComesTo BlockComesTo StmtComesTo
 
     pub infer_reaches : {g : Context} {hs : List FormulaTree} {p : ProofTree} {F : FormulaTree} (at : ℕ)
         → Infers env g hs p F

@@ -2,6 +2,7 @@
 //! limit that stops it. A function without a body states laws by its contract.
 #![tactic(auto)]
 
+ghost use Rattle.theory_checking_proofs.specs.Examples.{CheckedProofs, RefusedProofs};
 ghost use Rattle.theory_checking_proofs.specs.Laws.{CheckedProofsProve, ProofsComeToOne, ProvedIsNotRefused, ProvedReaches};
 
 /// A proof comes to one thing at most.
@@ -22,4 +23,10 @@ pub fn proved_reaches()
 /// Such a proof comes to nothing else.
 pub fn proved_is_not_refused()
     ensures law { ProvedIsNotRefused }
+{}
+
+/// What small proofs come to, with the word and the byte of each refusal.
+pub fn worked_proofs()
+    ensures refused { RefusedProofs }
+    ensures checked { CheckedProofs }
 {}
