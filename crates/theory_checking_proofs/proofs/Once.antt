@@ -232,18 +232,18 @@ mutual
       → Once (BlockComesTo env g hs at block G)
   block_once env g hs at (b_end p) G = proofs_come_to_one env g hs at p (Some G)
   block_once env g hs at (b_then stmt rest) G =
-      stmt_once env g hs at stmt G (λ h us goal. BlockComesTo env h us at rest goal) (λ h us goal. block_once env h us at rest goal)
+      stmt_once env g hs at stmt G at rest (λ h us goal. block_once env h us at rest goal)
 
   stmt_once : (env : Environment) (g : Context) (hs : List FormulaTree) (at : ℕ) (stmt : StmtTree) (G : FormulaTree)
-      (Rest : Context → List FormulaTree → FormulaTree → Result FormulaTree Stop → Type 0)
-      → ((h : Context) (us : List FormulaTree) (goal : FormulaTree) → Once (Rest h us goal))
-      → Once (StmtComesTo env g hs at stmt G Rest)
-  stmt_once env g hs at d_intro (f_imp A B) Rest f = then_once (f g (hs ++ A ∷ []) B) (λ _. comes_once)
-  stmt_once env g hs at d_intro _ Rest f = refuses_once
-  stmt_once env g hs at d_gen (f_all_t t F) Rest f = then_once needs_once (λ _. then_once (f (en_term (y_mono t) ∷ g) (raised hs) F) (λ _. comes_once))
-  stmt_once env g hs at d_gen (f_all_h F) Rest f = then_once needs_once (λ _. then_once (f (en_heap ∷ g) (raised hs) F) (λ _. comes_once))
-  stmt_once env g hs at d_gen _ Rest f = refuses_once
-  stmt_once env g hs at (d_have F p) G Rest f =
+      (outer : ℕ) (rest : BlockTree)
+      → ((h : Context) (us : List FormulaTree) (goal : FormulaTree) → Once (BlockComesTo env h us outer rest goal))
+      → Once (StmtComesTo env g hs at stmt G (λ h us goal. BlockComesTo env h us outer rest goal))
+  stmt_once env g hs at d_intro (f_imp A B) outer rest f = then_once (f g (hs ++ A ∷ []) B) (λ _. comes_once)
+  stmt_once env g hs at d_intro _ outer rest f = refuses_once
+  stmt_once env g hs at d_gen (f_all_t t F) outer rest f = then_once needs_once (λ _. then_once (f (en_term (y_mono t) ∷ g) (raised hs) F) (λ _. comes_once))
+  stmt_once env g hs at d_gen (f_all_h F) outer rest f = then_once needs_once (λ _. then_once (f (en_heap ∷ g) (raised hs) F) (λ _. comes_once))
+  stmt_once env g hs at d_gen _ outer rest f = refuses_once
+  stmt_once env g hs at (d_have F p) G outer rest f =
       then_once (formula_once env g at F) (λ F'. then_once (proofs_come_to_one env g hs at p (Some F')) (λ _. f g (hs ++ F' ∷ []) G))
-  stmt_once env g hs at (d_open p) G Rest f = then_once (proofs_come_to_one env g hs at p None) (λ F. open_once g hs at G Rest F f)
-  stmt_once env g hs at (d_at inner stmt) G Rest f = stmt_once env g hs inner stmt G Rest f
+  stmt_once env g hs at (d_open p) G outer rest f = then_once (proofs_come_to_one env g hs at p None) (λ F. open_once g hs at G (λ h us goal. BlockComesTo env h us outer rest goal) F f)
+  stmt_once env g hs at (d_at inner stmt) G outer rest f = stmt_once env g hs inner stmt G outer rest f

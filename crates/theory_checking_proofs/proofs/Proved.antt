@@ -197,25 +197,24 @@ module _ (env : Environment) where
         → ProvesBlock env g hs block G
     block_proved g hs at (b_end p) G R a = block_end (proof_proved g hs at p (Some G) R a)
     block_proved g hs at (b_then stmt rest) G R a =
-        stmt_proved g hs at stmt G rest (λ h us goal. BlockComesTo env h us at rest goal)
+        stmt_proved g hs at stmt G at rest
         (λ h us goal S x. block_proved h us at rest goal S x) R a
 
-    stmt_proved : (g : Context) (hs : List FormulaTree) (at : ℕ) (stmt : StmtTree) (G : FormulaTree) (rest : BlockTree)
-        (Rest : Context → List FormulaTree → FormulaTree → Result FormulaTree Stop → Type 0)
-        → ((h : Context) (us : List FormulaTree) (goal S : FormulaTree) → Rest h us goal (Ok S) → ProvesBlock env h us rest goal)
+    stmt_proved : (g : Context) (hs : List FormulaTree) (at : ℕ) (stmt : StmtTree) (G : FormulaTree) (outer : ℕ) (rest : BlockTree)
+        → ((h : Context) (us : List FormulaTree) (goal S : FormulaTree) → BlockComesTo env h us outer rest goal (Ok S) → ProvesBlock env h us rest goal)
         → (R : FormulaTree)
-        → StmtComesTo env g hs at stmt G Rest (Ok R)
+        → StmtComesTo env g hs at stmt G (λ h us goal. BlockComesTo env h us outer rest goal) (Ok R)
         → ProvesBlock env g hs (b_then stmt rest) G
-    stmt_proved g hs at d_intro (f_imp A B) rest Rest f R (goes_on {given = S} a z) = block_intro (f g (hs ++ A ∷ []) B S a)
-    stmt_proved g hs at d_intro _ rest Rest f R a = elim a [ ]
-    stmt_proved g hs at d_gen (f_all_t t F) rest Rest f R (goes_on h (goes_on {given = S} a z)) =
+    stmt_proved g hs at d_intro (f_imp A B) outer rest f R (goes_on {given = S} a z) = block_intro (f g (hs ++ A ∷ []) B S a)
+    stmt_proved g hs at d_intro _ outer rest f R a = elim a [ ]
+    stmt_proved g hs at d_gen (f_all_t t F) outer rest f R (goes_on h (goes_on {given = S} a z)) =
         block_gen_term (f (en_term (y_mono t) ∷ g) (raised hs) F S a)
-    stmt_proved g hs at d_gen (f_all_h F) rest Rest f R (goes_on h (goes_on {given = S} a z)) = block_gen_heap (f (en_heap ∷ g) (raised hs) F S a)
-    stmt_proved g hs at d_gen _ rest Rest f R a = elim a [ ]
-    stmt_proved g hs at (d_have F p) G rest Rest f R (goes_on {given = H} a (goes_on {given = P} b c)) =
+    stmt_proved g hs at d_gen (f_all_h F) outer rest f R (goes_on h (goes_on {given = S} a z)) = block_gen_heap (f (en_heap ∷ g) (raised hs) F S a)
+    stmt_proved g hs at d_gen _ outer rest f R a = elim a [ ]
+    stmt_proved g hs at (d_have F p) G outer rest f R (goes_on {given = H} a (goes_on {given = P} b c)) =
         block_have (formula_derived env g at F a) (proof_proved g hs at p (Some H) P b) (f g (hs ++ H ∷ []) G R c)
-    stmt_proved g hs at (d_open p) G rest Rest f R (goes_on {given = F} a b) = open_proved at Rest F (proof_proved g hs at p None F a) f R b
-    stmt_proved g hs at (d_at inner stmt) G rest Rest f R a = block_at (stmt_proved g hs inner stmt G rest Rest f R a)
+    stmt_proved g hs at (d_open p) G outer rest f R (goes_on {given = F} a b) = open_proved at (λ h us goal. BlockComesTo env h us outer rest goal) F (proof_proved g hs at p None F a) f R b
+    stmt_proved g hs at (d_at inner stmt) G outer rest f R a = block_at (stmt_proved g hs inner stmt G outer rest f R a)
 
 pub checked_proofs_prove : CheckedProofsProve
 checked_proofs_prove = record {

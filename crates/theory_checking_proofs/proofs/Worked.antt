@@ -7,6 +7,7 @@ use Rattle.theory_counts.specs.Nodes.{nodes_mono}
 use Rattle.theory_canonical.specs.Eta.{expansion}
 use Rattle.theory_typing.specs.Positions.{plain_ty, plain_formula}
 use Rattle.theory_typing.specs.Contexts.{forms_word, type_here}
+use Rattle.theory_logic_axioms.specs.Names.{add_comm}
 use Rattle.theory_logic_axioms.specs.Table.{term_sort, argument_sorts, SideCondition}
 use Rattle.theory_checking.specs.Stops.{stops, goes_on, comes, refuses, holds, fails, finds, finds_none, makes}
 use Rattle.theory_checking.specs.Checking.{FormulaComesTo, TermComesTo}
@@ -32,7 +33,7 @@ refused_proofs = record {
   no_hypothesis = stops (stops (finds_none (λ F e. cc)));
   no_predicate = stops (finds_none (λ r e. cc));
   too_few =
-      stops (goes_on (finds refl) (goes_on comes (goes_on (finds refl) (goes_on (holds tt)
+      stops (goes_on (finds {given = add_comm} refl) (goes_on comes (goes_on (finds refl) (goes_on (holds tt)
       (goes_on (holds (All-cons IsNarrowSort (term_sort m_word) (term_sort m_word ∷ []) (omega arith)
       (All-cons IsNarrowSort (term_sort m_word) [] (omega arith) (All-nil IsNarrowSort))))
       (stops (stops (fails (λ e. cc)))))))));
