@@ -1,4 +1,5 @@
 pub mod Nodes
 pub mod Depth
+pub mod Sizes
 pub mod Laws
 pub mod Examples

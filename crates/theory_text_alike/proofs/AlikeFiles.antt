@@ -13,7 +13,8 @@ use Rattle.theory_text_items.specs.Items.{FileItem, an_item, a_proof}
 use Rattle.theory_text_items.specs.Declarations.{may_be_declared, new_name, a_definition, a_value, a_recursion, declares_such, how_many, under_monos}
 use Rattle.theory_text_items.specs.Declarations.{under_params, params_come, closed_params_come, behind_itself, declared_name, has_name, item_named}
 use Rattle.theory_text_items.specs.Declarations.{declaration_comes, declarations_come}
-use Rattle.theory_text_items.specs.Limits.{mono_size, sizes_of, are_within, items_within}
+use Rattle.theory_counts.specs.Sizes.{mono_size}
+use Rattle.theory_text_items.specs.Limits.{sizes_of, are_within, items_within}
 use Rattle.theory_text_items.specs.Resolving.{file_comes}
 use Rattle.theory_text_alike.specs.Alike.{AreAlike}
 use Rattle.theory_text_alike.proofs.PlainCounts.{nodes_ty_plain, nodes_term_plain, nodes_formula_plain, depth_ty_plain, depth_term_plain, depth_formula_plain}

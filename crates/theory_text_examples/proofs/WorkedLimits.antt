@@ -6,7 +6,8 @@ use Rattle.theory_counts.specs.Depth.{depth_mono, depth_ty}
 use Rattle.theory_items.specs.Items.{i_abbreviation, i_def}
 use Rattle.theory_text_names.specs.Stops.{too_large, ◌>>=◌}
 use Rattle.theory_text_items.specs.Items.{an_item}
-use Rattle.theory_text_items.specs.Limits.{ty_size, are_within, items_within}
+use Rattle.theory_counts.specs.Sizes.{ty_size}
+use Rattle.theory_text_items.specs.Limits.{are_within, items_within}
 use Rattle.htt_syntax.specs.Trees.{y_mono, t_unit, t_inst}
 use Rattle.theory_counts.specs.Nodes.{nodes_term}
 use Rattle.theory_counts.specs.Depth.{depth_term}

@@ -10,7 +10,8 @@ use Rattle.theory_text.specs.Phrases.{formula_comes}
 use Rattle.theory_text.specs.Proofs.{proof_comes}
 use Rattle.theory_text_items.specs.Items.{Resolved}
 use Rattle.theory_text_items.specs.Declarations.{declarations_come}
-use Rattle.theory_text_items.specs.Limits.{formula_size, proof_size, are_within, items_within}
+use Rattle.theory_counts.specs.Sizes.{formula_size, proof_size}
+use Rattle.theory_text_items.specs.Limits.{are_within, items_within}
 
 -- the declarations of a text
 abbrev pub file_comes : List ℕ → List RawDeclTree → Result Resolved Stop

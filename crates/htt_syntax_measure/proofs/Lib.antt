@@ -1,0 +1,4 @@
+pub mod MeasureLevels
+pub mod Loops
+pub mod Itself
+pub mod Rows
