@@ -1,0 +1,3 @@
+pub mod Adequacy
+pub mod Laws
+pub mod Examples
