@@ -4,10 +4,10 @@ use Rattle.htt_syntax.specs.declared.mono.Op.TheVariants.{Add}
 use Rattle.htt_syntax.specs.Trees.{TermTree, c_ret, m_word, t_var, t_word, t_bin, y_mono}
 use Rattle.theory_values.specs.Values.{Value, v_word, v_bool, v_loc, v_unit, v_pair, value_of_op}
 use Rattle.theory_values.specs.Heaps.{Heap, empty_heap}
-use Rattle.theory_meaning.specs.Closures.{RunValue, base, fun_of, fix_of, nothing, with_value, PureResult, gives, faults, RunResult, done, no_fuel}
+use Rattle.theory_meaning.specs.Closures.{RunValue, base, fun_of, fix_of, nothing, with_value, gives, faults, done, no_fuel}
 use Rattle.theory_meaning.specs.Meaning.{application_result, inner_result, then_run, runner_of}
-use Rattle.theory_canonical.specs.Skeletons.{sk_o, sk_c}
-use Rattle.theory_denotation.specs.Outcomes.{ended, out_of_fuel}
+use Rattle.theory_canonical.specs.Skeletons.{sk_o}
+use Rattle.theory_denotation.specs.Outcomes.{ended}
 use Rattle.theory_denotation.specs.Valuations.{den_term}
 use Rattle.theory_denotation.specs.Denotation.{term_den}
 use Rattle.theory_meaning_simulation.specs.Simulation.{Shaped}

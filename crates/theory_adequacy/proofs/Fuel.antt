@@ -13,7 +13,7 @@ use Rattle.theory_denotation.specs.Laws.{run_result}
 use Rattle.theory_denotation.proofs.StepsAgree.{agree}
 use Rattle.theory_meaning_simulation.specs.Simulation.{Shaped, GivesSo, AlikeOutcomes}
 use Rattle.theory_meaning_simulation.proofs.Results.{alloc_alike, get_alike, set_alike, free_alike}
-use Rattle.theory_adequacy.specs.Adequacy.{EventuallyGives, EndsShaped, EventuallyComes, Reaches}
+use Rattle.theory_adequacy.specs.Adequacy.{EventuallyGives, EndsShaped, Reaches}
 
 pub eventually_then : (r : ℕ → PureResult) (P Q : RunValue → Type 0) (f : ℕ → RunValue → PureResult)
     → EventuallyGives r P

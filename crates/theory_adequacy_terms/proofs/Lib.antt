@@ -1,0 +1,2 @@
+pub mod Adequate
+pub mod Same
