@@ -1,9 +1,8 @@
 //! Declarations of types, definitions, values and proofs.
 
-ghost use Rattle.std.specs.Prelude.{drop};
 ghost use Rattle.theory_grammar.specs.Reading.{body_reader, deeper, proof_decl_on, type_on, typed_on};
 ghost use Rattle.htt_parser_declarations.specs.Parts.{proof_body_on};
-ghost use Rattle.htt_parser_words.specs.Results.{Gives};
+ghost use Rattle.htt_parser_words.specs.Results.{ReadsAt};
 ghost use Rattle.htt_parser_trees.specs.DeclViews.{raw_body_tree, raw_decl_tree};
 ghost use Rattle.htt_parser_trees.specs.Trees.{decl_def, decl_val};
 
@@ -16,7 +15,7 @@ impl Declarations<'_> {
     /// What follows `type`.
     #[tactic(auto, using(htt_parser_words::proofs::Steps::steps), unfolding(htt_parser_words::proofs::Steps::reading))]
     pub(crate) fn type_declaration(&self, left: u32, at: usize) -> Result<(RawDecl, usize), Halted>
-        ensures { Gives self.now.proofs.phrases.cursor.tokens.now raw_decl_tree result (type_on (deeper 63 left) (drop at self.now.proofs.phrases.cursor.tokens.now)) }
+        ensures { ReadsAt self.now.proofs.phrases.cursor.tokens.now at raw_decl_tree result (type_on (deeper 63 left)) }
     {
         let (name, at) = self.proofs.phrases.cursor.name(at)?;
         let at = self.proofs.phrases.cursor.sign(at, Sign::EqualSign)?;
@@ -27,7 +26,7 @@ impl Declarations<'_> {
     /// What follows `def`.
     #[tactic(auto, using(htt_parser_words::proofs::Steps::steps), unfolding(htt_parser_words::proofs::Steps::reading, theory_grammar::specs::Reading::typed_on))]
     pub(crate) fn definition(&self, left: u32, at: usize) -> Result<(RawDecl, usize), Halted>
-        ensures { Gives self.now.proofs.phrases.cursor.tokens.now raw_decl_tree result (typed_on (deeper 63 left) decl_def (drop at self.now.proofs.phrases.cursor.tokens.now)) }
+        ensures { ReadsAt self.now.proofs.phrases.cursor.tokens.now at raw_decl_tree result (typed_on (deeper 63 left) decl_def) }
     {
         let (name, at) = self.proofs.phrases.cursor.name(at)?;
         let at = self.proofs.phrases.cursor.sign(at, Sign::ColonSign)?;
@@ -40,7 +39,7 @@ impl Declarations<'_> {
     /// What follows `val`.
     #[tactic(auto, using(htt_parser_words::proofs::Steps::steps), unfolding(htt_parser_words::proofs::Steps::reading, theory_grammar::specs::Reading::typed_on))]
     pub(crate) fn value(&self, left: u32, at: usize) -> Result<(RawDecl, usize), Halted>
-        ensures { Gives self.now.proofs.phrases.cursor.tokens.now raw_decl_tree result (typed_on (deeper 63 left) decl_val (drop at self.now.proofs.phrases.cursor.tokens.now)) }
+        ensures { ReadsAt self.now.proofs.phrases.cursor.tokens.now at raw_decl_tree result (typed_on (deeper 63 left) decl_val) }
     {
         let (name, at) = self.proofs.phrases.cursor.name(at)?;
         let at = self.proofs.phrases.cursor.sign(at, Sign::ColonSign)?;
@@ -53,7 +52,7 @@ impl Declarations<'_> {
     /// A proof as a body.
     #[tactic(auto, using(htt_parser_words::proofs::Steps::steps), unfolding(htt_parser_words::proofs::Steps::reading))]
     fn proof_body(&self, left: u32, at: usize) -> Result<(ProofBody, usize), Halted>
-        ensures { Gives self.now.proofs.phrases.cursor.tokens.now raw_body_tree result (proof_body_on (deeper 63 left) (drop at self.now.proofs.phrases.cursor.tokens.now)) }
+        ensures { ReadsAt self.now.proofs.phrases.cursor.tokens.now at raw_body_tree result (proof_body_on (deeper 63 left)) }
     {
         let (proof, at) = self.proofs.deeper_proof(left, at)?;
         Ok((ProofBody::Proof(proof), at))
@@ -62,7 +61,7 @@ impl Declarations<'_> {
     /// What proves an obligation.
     #[tactic(auto, unfolding(htt_parser_words::proofs::Steps::choosing, theory_grammar::specs::Reading::body_reader))]
     fn body(&self, left: u32, at: usize) -> Result<(ProofBody, usize), Halted>
-        ensures { Gives self.now.proofs.phrases.cursor.tokens.now raw_body_tree result (body_reader (deeper 63 left) (drop at self.now.proofs.phrases.cursor.tokens.now)) }
+        ensures { ReadsAt self.now.proofs.phrases.cursor.tokens.now at raw_body_tree result (body_reader (deeper 63 left)) }
     {
         match self.proofs.phrases.cursor.token(at) {
             Some(token) => match token.kind {
@@ -83,7 +82,7 @@ impl Declarations<'_> {
         from: u64,
         at: usize,
     ) -> Result<(RawDecl, usize), Halted>
-        ensures { Gives self.now.proofs.phrases.cursor.tokens.now raw_decl_tree result (proof_decl_on (deeper 63 left) from (drop at self.now.proofs.phrases.cursor.tokens.now)) }
+        ensures { ReadsAt self.now.proofs.phrases.cursor.tokens.now at raw_decl_tree result (proof_decl_on (deeper 63 left) from) }
     {
         let (name, at) = self.proofs.phrases.cursor.name(at)?;
         let at = self.proofs.phrases.cursor.sign(at, Sign::DotSign)?;

@@ -1,9 +1,9 @@
 //! The declarations of a text.
 
-ghost use Rattle.std.specs.Prelude.{◌-◌, [], drop, map};
+ghost use Rattle.std.specs.Prelude.{◌-◌, [], map};
 ghost use Rattle.theory_grammar.specs.Reading.{decl_reader, deeper, file_on};
 ghost use Rattle.htt_parser_declarations.specs.Parts.{put_decl};
-ghost use Rattle.htt_parser_words.specs.Results.{Gives, GivesMore, HasRoom};
+ghost use Rattle.htt_parser_words.specs.Results.{GivesMore, HasRoom, ReadsAt};
 ghost use Rattle.htt_parser_trees.specs.DeclViews.{raw_decl_tree};
 
 use crate::declarations::{DECLARATIONS, Declarations, LEVELS};
@@ -15,7 +15,7 @@ impl Declarations<'_> {
     /// A declaration in which so many levels may be entered.
     #[tactic(auto, unfolding(htt_parser_words::proofs::Steps::choosing, theory_grammar::specs::Reading::decl_reader))]
     fn declaration(&self, left: u32, at: usize) -> Result<(RawDecl, usize), Halted>
-        ensures { Gives self.now.proofs.phrases.cursor.tokens.now raw_decl_tree result (decl_reader (deeper 63 left) (drop at self.now.proofs.phrases.cursor.tokens.now)) }
+        ensures { ReadsAt self.now.proofs.phrases.cursor.tokens.now at raw_decl_tree result (decl_reader (deeper 63 left)) }
     {
         match self.proofs.phrases.cursor.token(at) {
             Some(token) => match token.kind {
@@ -61,7 +61,7 @@ impl Declarations<'_> {
     /// The declarations from a place to the end of the tokens.
     #[tactic(auto, using(htt_parser_words::proofs::Steps::steps), unfolding(htt_parser_words::proofs::Steps::reading))]
     pub fn declarations(&self, at: usize) -> Result<(Vec<RawDecl>, usize), Halted>
-        ensures { Gives self.now.proofs.phrases.cursor.tokens.now (λ decls. map raw_decl_tree decls.items) result (file_on (deeper 63 256) 10_000 (drop at self.now.proofs.phrases.cursor.tokens.now)) }
+        ensures { ReadsAt self.now.proofs.phrases.cursor.tokens.now at (λ decls. map raw_decl_tree decls.items) result (file_on (deeper 63 256) 10_000) }
     {
         let mut declarations = Vec::new(self.proofs.phrases.cursor.alloc);
         let mut room = DECLARATIONS;

@@ -1,13 +1,13 @@
 //! The names and parameters of predicates.
 
-ghost use Rattle.std.specs.Prelude.{ℕ, [], suc, drop, map};
+ghost use Rattle.std.specs.Prelude.{ℕ, [], suc, map};
 ghost use Rattle.htt_lexer_tokens.specs.declared.tokens.Sign.TheVariants.{CommaSign};
 ghost use Rattle.htt_lexer_tokens.specs.declared.tokens.Kind.TheVariants as kinds;
 ghost use Rattle.theory_grammar.specs.Phrases.{a_name_there};
 ghost use Rattle.theory_grammar.specs.Readers.{after_commas};
 ghost use Rattle.theory_grammar.specs.Reading.{deeper, mono_parameter_reader, mono_parameters_reader};
 ghost use Rattle.htt_parser_declarations.specs.Parts.{more_parameters_at, names_at, parameters_there, put_name, put_param};
-ghost use Rattle.htt_parser_words.specs.Results.{Gives, GivesMore, mapped};
+ghost use Rattle.htt_parser_words.specs.Results.{GivesMore, ReadsAt, mapped};
 ghost use Rattle.htt_parser_trees.specs.DeclViews.{raw_mono_param_tree};
 ghost use Rattle.htt_parser_trees.specs.Trees.{onto};
 
@@ -32,7 +32,7 @@ impl Declarations<'_> {
     /// Names with commas between them.
     #[tactic(auto, using(htt_parser_words::proofs::Steps::steps), unfolding(htt_parser_words::proofs::Steps::reading))]
     pub(crate) fn names(&self, at: usize) -> Result<(Vec<Span>, usize), Halted>
-        ensures { Gives self.now.proofs.phrases.cursor.tokens.now (λ names. names.items) result (names_at (drop at self.now.proofs.phrases.cursor.tokens.now)) }
+        ensures { ReadsAt self.now.proofs.phrases.cursor.tokens.now at (λ names. names.items) result names_at }
     {
         let (first, at) = self.proofs.phrases.cursor.name(at)?;
         let mut names = Vec::new(self.proofs.phrases.cursor.alloc);
@@ -53,7 +53,7 @@ impl Declarations<'_> {
     /// A parameter.
     #[tactic(auto, using(htt_parser_words::proofs::Steps::steps), unfolding(htt_parser_words::proofs::Steps::reading, theory_grammar::specs::Reading::mono_parameter_reader, htt_parser_trees::specs::DeclViews::raw_mono_param_tree))]
     fn parameter(&self, left: u32, at: usize) -> Result<(RawMonoParam, usize), Halted>
-        ensures { Gives self.now.proofs.phrases.cursor.tokens.now raw_mono_param_tree result (mono_parameter_reader (deeper 63 left) (drop at self.now.proofs.phrases.cursor.tokens.now)) }
+        ensures { ReadsAt self.now.proofs.phrases.cursor.tokens.now at raw_mono_param_tree result (mono_parameter_reader (deeper 63 left)) }
     {
         let (name, at) = self.proofs.phrases.cursor.name(at)?;
         let at = self.proofs.phrases.cursor.sign(at, Sign::ColonSign)?;
@@ -81,7 +81,7 @@ impl Declarations<'_> {
         parameters: Vec<RawMonoParam>,
         at: usize,
     ) -> Result<(Vec<RawMonoParam>, usize), Halted>
-        ensures { Gives self.now.proofs.phrases.cursor.tokens.now (λ all. map raw_mono_param_tree all.items) result (mapped (onto put_param parameters.items) (more_parameters_at (deeper 63 left) (drop at self.now.proofs.phrases.cursor.tokens.now))) }
+        ensures { ReadsAt self.now.proofs.phrases.cursor.tokens.now at (λ all. map raw_mono_param_tree all.items) result (λ ts. mapped (onto put_param parameters.items) (more_parameters_at (deeper 63 left) ts)) }
     {
         let mut parameters = parameters;
         let mut at = at;
@@ -100,7 +100,7 @@ impl Declarations<'_> {
     /// Parameters before a closing bracket, with commas between them.
     #[tactic(auto, using(htt_parser_words::proofs::Steps::steps), unfolding(htt_parser_words::proofs::Steps::reading))]
     fn parameters_inside(&self, left: u32, at: usize) -> Result<(Vec<RawMonoParam>, usize), Halted>
-        ensures { Gives self.now.proofs.phrases.cursor.tokens.now (λ all. map raw_mono_param_tree all.items) result (parameters_there (deeper 63 left) (drop at self.now.proofs.phrases.cursor.tokens.now)) }
+        ensures { ReadsAt self.now.proofs.phrases.cursor.tokens.now at (λ all. map raw_mono_param_tree all.items) result (parameters_there (deeper 63 left)) }
     {
         let mut parameters = Vec::new(self.proofs.phrases.cursor.alloc);
         if self.proofs.phrases.cursor.is_sign(at, Sign::CloseParenSign) {
@@ -118,7 +118,7 @@ impl Declarations<'_> {
         left: u32,
         at: usize,
     ) -> Result<(Vec<RawMonoParam>, usize), Halted>
-        ensures { Gives self.now.proofs.phrases.cursor.tokens.now (λ all. map raw_mono_param_tree all.items) result (mono_parameters_reader (deeper 63 left) (drop at self.now.proofs.phrases.cursor.tokens.now)) }
+        ensures { ReadsAt self.now.proofs.phrases.cursor.tokens.now at (λ all. map raw_mono_param_tree all.items) result (mono_parameters_reader (deeper 63 left)) }
     {
         let at = self.proofs.phrases.cursor.sign(at, Sign::OpenParenSign)?;
         let (parameters, at) = self.parameters_inside(left, at)?;

@@ -1,9 +1,9 @@
 //! Declarations of predicates.
 
-ghost use Rattle.std.specs.Prelude.{[], drop};
+ghost use Rattle.std.specs.Prelude.{[]};
 ghost use Rattle.theory_grammar.specs.Readers.{either};
 ghost use Rattle.theory_grammar.specs.Reading.{deeper, induct_on, pred_case, pred_decl_on, pred_names_on, pred_on};
-ghost use Rattle.htt_parser_words.specs.Results.{Gives};
+ghost use Rattle.htt_parser_words.specs.Results.{ReadsAt};
 ghost use Rattle.htt_parser_trees.specs.DeclViews.{raw_decl_tree};
 
 use crate::declarations::Declarations;
@@ -22,7 +22,7 @@ impl Declarations<'_> {
         names: Vec<Span>,
         at: usize,
     ) -> Result<(RawDecl, usize), Halted>
-        ensures { Gives self.now.proofs.phrases.cursor.tokens.now raw_decl_tree result (pred_on (deeper 63 left) name names.items (drop at self.now.proofs.phrases.cursor.tokens.now)) }
+        ensures { ReadsAt self.now.proofs.phrases.cursor.tokens.now at raw_decl_tree result (pred_on (deeper 63 left) name names.items) }
     {
         let (params, at) = self.parameters(left, at)?;
         let at = self.proofs.phrases.cursor.sign(at, Sign::EqualSign)?;
@@ -41,7 +41,7 @@ impl Declarations<'_> {
     /// What follows the name of a predicate without monotypes.
     #[tactic(auto, using(htt_parser_words::proofs::Steps::steps), unfolding(htt_parser_words::proofs::Steps::reading))]
     fn plain_predicate(&self, left: u32, name: Span, at: usize) -> Result<(RawDecl, usize), Halted>
-        ensures { Gives self.now.proofs.phrases.cursor.tokens.now raw_decl_tree result (pred_on (deeper 63 left) name [] (drop at self.now.proofs.phrases.cursor.tokens.now)) }
+        ensures { ReadsAt self.now.proofs.phrases.cursor.tokens.now at raw_decl_tree result (pred_on (deeper 63 left) name []) }
     {
         self.predicate(left, name, Vec::new(self.proofs.phrases.cursor.alloc), at)
     }
@@ -49,7 +49,7 @@ impl Declarations<'_> {
     /// What follows the bracket before the names of a predicate's monotypes.
     #[tactic(auto, using(htt_parser_words::proofs::Steps::steps), unfolding(htt_parser_words::proofs::Steps::reading))]
     fn named_predicate(&self, left: u32, name: Span, at: usize) -> Result<(RawDecl, usize), Halted>
-        ensures { Gives self.now.proofs.phrases.cursor.tokens.now raw_decl_tree result (pred_names_on (deeper 63 left) name (drop at self.now.proofs.phrases.cursor.tokens.now)) }
+        ensures { ReadsAt self.now.proofs.phrases.cursor.tokens.now at raw_decl_tree result (pred_names_on (deeper 63 left) name) }
     {
         let (names, at) = self.names(at)?;
         let at = self.proofs.phrases.cursor.sign(at, Sign::CloseBracketSign)?;
@@ -59,7 +59,7 @@ impl Declarations<'_> {
     /// What follows `induct` behind the name of a predicate.
     #[tactic(auto, using(htt_parser_words::proofs::Steps::steps), unfolding(htt_parser_words::proofs::Steps::reading, theory_grammar::specs::Reading::induct_on))]
     fn induction(&self, left: u32, name: Span, at: usize) -> Result<(RawDecl, usize), Halted>
-        ensures { Gives self.now.proofs.phrases.cursor.tokens.now raw_decl_tree result (induct_on (deeper 63 left) name (drop at self.now.proofs.phrases.cursor.tokens.now)) }
+        ensures { ReadsAt self.now.proofs.phrases.cursor.tokens.now at raw_decl_tree result (induct_on (deeper 63 left) name) }
     {
         let (index, at) = self.proofs.phrases.cursor.binder(at)?;
         let (params, at) = self.parameters(left, at)?;
@@ -85,7 +85,7 @@ impl Declarations<'_> {
     /// What follows the name of a predicate.
     #[tactic(auto, unfolding(htt_parser_words::proofs::Steps::choosing))]
     fn predicate_of(&self, left: u32, name: Span, at: usize) -> Result<(RawDecl, usize), Halted>
-        ensures { Gives self.now.proofs.phrases.cursor.tokens.now raw_decl_tree result (either (pred_case (deeper 63 left) name) (pred_on (deeper 63 left) name []) (drop at self.now.proofs.phrases.cursor.tokens.now)) }
+        ensures { ReadsAt self.now.proofs.phrases.cursor.tokens.now at raw_decl_tree result (either (pred_case (deeper 63 left) name) (pred_on (deeper 63 left) name [])) }
     {
         match self.proofs.phrases.cursor.token(at) {
             Some(token) => match token.kind {
@@ -104,7 +104,7 @@ impl Declarations<'_> {
         left: u32,
         at: usize,
     ) -> Result<(RawDecl, usize), Halted>
-        ensures { Gives self.now.proofs.phrases.cursor.tokens.now raw_decl_tree result (pred_decl_on (deeper 63 left) (drop at self.now.proofs.phrases.cursor.tokens.now)) }
+        ensures { ReadsAt self.now.proofs.phrases.cursor.tokens.now at raw_decl_tree result (pred_decl_on (deeper 63 left)) }
     {
         let (name, at) = self.proofs.phrases.cursor.name(at)?;
         self.predicate_of(left, name, at)

@@ -1,11 +1,9 @@
 //! Formulas that are no chains.
 
-ghost use Rattle.std.specs.Prelude.{[], drop};
+ghost use Rattle.std.specs.Prelude.{[]};
 ghost use Rattle.theory_grammar.specs.Phrases.{argument_case, at_heap_on, block_on, cell_on, emp_of_on, equal_on, fatom_reader, in_brackets_on, join_on, points_on, relation_case, relation_on, same_on, use_at_heap_on, use_at_on, use_case, use_monos_on, use_on, use_plain_on, use_terms_on};
 ghost use Rattle.theory_grammar.specs.Readers.{either, give, stop};
-ghost use Rattle.theory_grammar.specs.Reading.{deeper};
-ghost use Rattle.htt_parser_levels.specs.Levels.{IsLevel};
-ghost use Rattle.htt_parser_words.specs.Results.{Gives};
+ghost use Rattle.htt_parser_levels.specs.Levels.{IsLevel, Reads};
 ghost use Rattle.htt_parser_trees.specs.TreeViews.{raw_fatom_tree, raw_rel_tree, raw_term_tree};
 ghost use Rattle.htt_parser_trees.specs.Trees.{g_use, more_terms, no_terms};
 
@@ -17,14 +15,14 @@ use htt_parser_words::{Halted, Reason};
 use htt_syntax_seq::Seq;
 use sqlite_items::Boxed;
 
-impl<F: Fn(Wanted, usize) -> Result<(Found, usize), Halted>> Formulas<'_, F> {
+impl<F: Fn(Wanted, usize) -> Result<(Found, usize), Halted> + Copy> Formulas<'_, F> {
     /// A formula that is no chain.
     #[tactic(auto, using(htt_parser_trees::specs::TreeLevels::raw_fatom_tt, htt_parser_trees::specs::TreeLevels::raw_fatom_ff, htt_parser_trees::specs::TreeLevels::raw_fatom_emp), unfolding(htt_parser_words::proofs::Steps::choosing, theory_grammar::specs::Phrases::fatom_reader))]
     pub fn fatom(&self, at: usize) -> Result<(RawFatom, usize), Halted>
-        requires { IsLevel F.Fn self.now.terms.operands.level }
-        ensures { Gives self.now.terms.operands.level.cursor.tokens.now raw_fatom_tree result (fatom_reader (deeper 63 self.now.terms.operands.level.left) (drop at self.now.terms.operands.level.cursor.tokens.now)) }
+        requires { IsLevel F.Fn self.now.level }
+        ensures { Reads self.now.level at raw_fatom_tree result fatom_reader }
     {
-        let Some(token) = self.terms.operands.level.cursor.token(at) else {
+        let Some(token) = self.level.cursor.token(at) else {
             return self.relation(at);
         };
         match token.kind {
@@ -46,44 +44,24 @@ impl<F: Fn(Wanted, usize) -> Result<(Found, usize), Halted>> Formulas<'_, F> {
     /// What follows `Emp` at this byte.
     #[tactic(auto, using(htt_parser_words::proofs::Steps::steps, htt_parser_trees::specs::TreeLevels::raw_fatom_emp_of), unfolding(htt_parser_words::proofs::Steps::reading))]
     fn emp_of(&self, from: u64, at: usize) -> Result<(RawFatom, usize), Halted>
-        ensures { Gives self.now.terms.operands.level.cursor.tokens.now raw_fatom_tree result (emp_of_on from (drop at self.now.terms.operands.level.cursor.tokens.now)) }
+        ensures { Reads self.now.level at raw_fatom_tree result (λ d. emp_of_on from) }
     {
-        let at = self
-            .terms
-            .operands
-            .level
-            .cursor
-            .sign(at, Sign::OpenParenSign)?;
-        let (heap, at) = self.terms.operands.level.cursor.heap(at)?;
-        let at = self
-            .terms
-            .operands
-            .level
-            .cursor
-            .sign(at, Sign::CloseParenSign)?;
+        let at = self.level.cursor.sign(at, Sign::OpenParenSign)?;
+        let (heap, at) = self.level.cursor.heap(at)?;
+        let at = self.level.cursor.sign(at, Sign::CloseParenSign)?;
         Ok((RawFatom::EmpOf { at: from, heap }, at))
     }
 
     /// What follows `Same` at this byte.
     #[tactic(auto, using(htt_parser_words::proofs::Steps::steps, htt_parser_trees::specs::TreeLevels::raw_fatom_same), unfolding(htt_parser_words::proofs::Steps::reading))]
     fn same_heaps(&self, from: u64, at: usize) -> Result<(RawFatom, usize), Halted>
-        ensures { Gives self.now.terms.operands.level.cursor.tokens.now raw_fatom_tree result (same_on from (drop at self.now.terms.operands.level.cursor.tokens.now)) }
+        ensures { Reads self.now.level at raw_fatom_tree result (λ d. same_on from) }
     {
-        let at = self
-            .terms
-            .operands
-            .level
-            .cursor
-            .sign(at, Sign::OpenParenSign)?;
-        let (one, at) = self.terms.operands.level.cursor.heap(at)?;
-        let at = self.terms.operands.level.cursor.sign(at, Sign::CommaSign)?;
-        let (other, at) = self.terms.operands.level.cursor.heap(at)?;
-        let at = self
-            .terms
-            .operands
-            .level
-            .cursor
-            .sign(at, Sign::CloseParenSign)?;
+        let at = self.level.cursor.sign(at, Sign::OpenParenSign)?;
+        let (one, at) = self.level.cursor.heap(at)?;
+        let at = self.level.cursor.sign(at, Sign::CommaSign)?;
+        let (other, at) = self.level.cursor.heap(at)?;
+        let at = self.level.cursor.sign(at, Sign::CloseParenSign)?;
         Ok((
             RawFatom::Same {
                 at: from,
@@ -97,25 +75,15 @@ impl<F: Fn(Wanted, usize) -> Result<(Found, usize), Halted>> Formulas<'_, F> {
     /// What follows `Join` at this byte.
     #[tactic(auto, using(htt_parser_words::proofs::Steps::steps, htt_parser_trees::specs::TreeLevels::raw_fatom_join), unfolding(htt_parser_words::proofs::Steps::reading))]
     fn join(&self, from: u64, at: usize) -> Result<(RawFatom, usize), Halted>
-        ensures { Gives self.now.terms.operands.level.cursor.tokens.now raw_fatom_tree result (join_on from (drop at self.now.terms.operands.level.cursor.tokens.now)) }
+        ensures { Reads self.now.level at raw_fatom_tree result (λ d. join_on from) }
     {
-        let at = self
-            .terms
-            .operands
-            .level
-            .cursor
-            .sign(at, Sign::OpenParenSign)?;
-        let (whole, at) = self.terms.operands.level.cursor.heap(at)?;
-        let at = self.terms.operands.level.cursor.sign(at, Sign::CommaSign)?;
-        let (one, at) = self.terms.operands.level.cursor.heap(at)?;
-        let at = self.terms.operands.level.cursor.sign(at, Sign::CommaSign)?;
-        let (other, at) = self.terms.operands.level.cursor.heap(at)?;
-        let at = self
-            .terms
-            .operands
-            .level
-            .cursor
-            .sign(at, Sign::CloseParenSign)?;
+        let at = self.level.cursor.sign(at, Sign::OpenParenSign)?;
+        let (whole, at) = self.level.cursor.heap(at)?;
+        let at = self.level.cursor.sign(at, Sign::CommaSign)?;
+        let (one, at) = self.level.cursor.heap(at)?;
+        let at = self.level.cursor.sign(at, Sign::CommaSign)?;
+        let (other, at) = self.level.cursor.heap(at)?;
+        let at = self.level.cursor.sign(at, Sign::CloseParenSign)?;
         Ok((
             RawFatom::Join {
                 at: from,
@@ -130,32 +98,17 @@ impl<F: Fn(Wanted, usize) -> Result<(Found, usize), Halted>> Formulas<'_, F> {
     /// What follows `Cell` at this byte.
     #[tactic(auto, using(htt_parser_words::proofs::Steps::steps, htt_parser_trees::specs::TreeLevels::raw_fatom_cell), unfolding(htt_parser_words::proofs::Steps::reading))]
     fn cell(&self, from: u64, at: usize) -> Result<(RawFatom, usize), Halted>
-        requires { IsLevel F.Fn self.now.terms.operands.level }
-        ensures { Gives self.now.terms.operands.level.cursor.tokens.now raw_fatom_tree result (cell_on (deeper 63 self.now.terms.operands.level.left) from (drop at self.now.terms.operands.level.cursor.tokens.now)) }
+        requires { IsLevel F.Fn self.now.level }
+        ensures { Reads self.now.level at raw_fatom_tree result (λ d. cell_on d from) }
     {
-        let (mono, at) = self
-            .terms
-            .operands
-            .level
-            .cursor
-            .bracketed(self.terms.operands.level.left, at)?;
-        let at = self
-            .terms
-            .operands
-            .level
-            .cursor
-            .sign(at, Sign::OpenParenSign)?;
-        let (heap, at) = self.terms.operands.level.cursor.heap(at)?;
-        let at = self.terms.operands.level.cursor.sign(at, Sign::CommaSign)?;
-        let (place, at) = self.terms.operands.level.boxed_term(at)?;
-        let at = self.terms.operands.level.cursor.sign(at, Sign::CommaSign)?;
-        let (value, at) = self.terms.operands.level.boxed_term(at)?;
-        let at = self
-            .terms
-            .operands
-            .level
-            .cursor
-            .sign(at, Sign::CloseParenSign)?;
+        let (mono, at) = self.level.cursor.bracketed(self.level.left, at)?;
+        let at = self.level.cursor.sign(at, Sign::OpenParenSign)?;
+        let (heap, at) = self.level.cursor.heap(at)?;
+        let at = self.level.cursor.sign(at, Sign::CommaSign)?;
+        let (place, at) = self.level.boxed_term(at)?;
+        let at = self.level.cursor.sign(at, Sign::CommaSign)?;
+        let (value, at) = self.level.boxed_term(at)?;
+        let at = self.level.cursor.sign(at, Sign::CloseParenSign)?;
         Ok((
             RawFatom::Cell {
                 at: from,
@@ -171,30 +124,15 @@ impl<F: Fn(Wanted, usize) -> Result<(Found, usize), Halted>> Formulas<'_, F> {
     /// What follows `Block` at this byte.
     #[tactic(auto, using(htt_parser_words::proofs::Steps::steps, htt_parser_trees::specs::TreeLevels::raw_fatom_block), unfolding(htt_parser_words::proofs::Steps::reading))]
     fn block(&self, from: u64, at: usize) -> Result<(RawFatom, usize), Halted>
-        requires { IsLevel F.Fn self.now.terms.operands.level }
-        ensures { Gives self.now.terms.operands.level.cursor.tokens.now raw_fatom_tree result (block_on (deeper 63 self.now.terms.operands.level.left) from (drop at self.now.terms.operands.level.cursor.tokens.now)) }
+        requires { IsLevel F.Fn self.now.level }
+        ensures { Reads self.now.level at raw_fatom_tree result (λ d. block_on d from) }
     {
-        let (mono, at) = self
-            .terms
-            .operands
-            .level
-            .cursor
-            .bracketed(self.terms.operands.level.left, at)?;
-        let at = self
-            .terms
-            .operands
-            .level
-            .cursor
-            .sign(at, Sign::OpenParenSign)?;
-        let (heap, at) = self.terms.operands.level.cursor.heap(at)?;
-        let at = self.terms.operands.level.cursor.sign(at, Sign::CommaSign)?;
-        let (place, at) = self.terms.operands.level.boxed_term(at)?;
-        let at = self
-            .terms
-            .operands
-            .level
-            .cursor
-            .sign(at, Sign::CloseParenSign)?;
+        let (mono, at) = self.level.cursor.bracketed(self.level.left, at)?;
+        let at = self.level.cursor.sign(at, Sign::OpenParenSign)?;
+        let (heap, at) = self.level.cursor.heap(at)?;
+        let at = self.level.cursor.sign(at, Sign::CommaSign)?;
+        let (place, at) = self.level.boxed_term(at)?;
+        let at = self.level.cursor.sign(at, Sign::CloseParenSign)?;
         Ok((
             RawFatom::Block {
                 at: from,
@@ -209,39 +147,24 @@ impl<F: Fn(Wanted, usize) -> Result<(Found, usize), Halted>> Formulas<'_, F> {
     /// What follows `[` at this byte.
     #[tactic(auto, using(htt_parser_words::proofs::Steps::steps, htt_parser_trees::specs::TreeLevels::raw_fatom_brackets), unfolding(htt_parser_words::proofs::Steps::reading))]
     fn in_brackets(&self, from: u64, at: usize) -> Result<(RawFatom, usize), Halted>
-        requires { IsLevel F.Fn self.now.terms.operands.level }
-        ensures { Gives self.now.terms.operands.level.cursor.tokens.now raw_fatom_tree result (in_brackets_on (deeper 63 self.now.terms.operands.level.left) from (drop at self.now.terms.operands.level.cursor.tokens.now)) }
+        requires { IsLevel F.Fn self.now.level }
+        ensures { Reads self.now.level at raw_fatom_tree result (λ d. in_brackets_on d from) }
     {
-        let (formula, at) = self.terms.operands.level.boxed_formula(at)?;
-        let at = self
-            .terms
-            .operands
-            .level
-            .cursor
-            .sign(at, Sign::CloseBracketSign)?;
+        let (formula, at) = self.level.boxed_formula(at)?;
+        let at = self.level.cursor.sign(at, Sign::CloseBracketSign)?;
         Ok((RawFatom::Brackets { at: from, formula }, at))
     }
 
     /// What follows `@` at this byte.
     #[tactic(auto, using(htt_parser_words::proofs::Steps::steps, htt_parser_trees::specs::TreeLevels::raw_fatom_at_heap), unfolding(htt_parser_words::proofs::Steps::reading))]
     fn at_heap(&self, from: u64, at: usize) -> Result<(RawFatom, usize), Halted>
-        requires { IsLevel F.Fn self.now.terms.operands.level }
-        ensures { Gives self.now.terms.operands.level.cursor.tokens.now raw_fatom_tree result (at_heap_on (deeper 63 self.now.terms.operands.level.left) from (drop at self.now.terms.operands.level.cursor.tokens.now)) }
+        requires { IsLevel F.Fn self.now.level }
+        ensures { Reads self.now.level at raw_fatom_tree result (λ d. at_heap_on d from) }
     {
-        let (heap, at) = self.terms.operands.level.cursor.heap(at)?;
-        let at = self
-            .terms
-            .operands
-            .level
-            .cursor
-            .sign(at, Sign::OpenBracketSign)?;
-        let (formula, at) = self.terms.operands.level.boxed_formula(at)?;
-        let at = self
-            .terms
-            .operands
-            .level
-            .cursor
-            .sign(at, Sign::CloseBracketSign)?;
+        let (heap, at) = self.level.cursor.heap(at)?;
+        let at = self.level.cursor.sign(at, Sign::OpenBracketSign)?;
+        let (formula, at) = self.level.boxed_formula(at)?;
+        let at = self.level.cursor.sign(at, Sign::CloseBracketSign)?;
         Ok((
             RawFatom::AtHeap {
                 at: from,
@@ -255,20 +178,20 @@ impl<F: Fn(Wanted, usize) -> Result<(Found, usize), Halted>> Formulas<'_, F> {
     /// What follows `!` at this byte.
     #[tactic(auto, using(htt_parser_words::proofs::Steps::steps), unfolding(htt_parser_words::proofs::Steps::reading))]
     fn predicate(&self, from: u64, at: usize) -> Result<(RawFatom, usize), Halted>
-        requires { IsLevel F.Fn self.now.terms.operands.level }
-        ensures { Gives self.now.terms.operands.level.cursor.tokens.now raw_fatom_tree result (use_on (deeper 63 self.now.terms.operands.level.left) from (drop at self.now.terms.operands.level.cursor.tokens.now)) }
+        requires { IsLevel F.Fn self.now.level }
+        ensures { Reads self.now.level at raw_fatom_tree result (λ d. use_on d from) }
     {
-        let (name, at) = self.terms.operands.level.cursor.name(at)?;
+        let (name, at) = self.level.cursor.name(at)?;
         self.used(from, name, at)
     }
 
     /// What follows the name of a predicate.
     #[tactic(auto, unfolding(htt_parser_words::proofs::Steps::choosing))]
     fn used(&self, from: u64, name: Span, at: usize) -> Result<(RawFatom, usize), Halted>
-        requires { IsLevel F.Fn self.now.terms.operands.level }
-        ensures { Gives self.now.terms.operands.level.cursor.tokens.now raw_fatom_tree result (either (use_case (deeper 63 self.now.terms.operands.level.left) from name) stop (drop at self.now.terms.operands.level.cursor.tokens.now)) }
+        requires { IsLevel F.Fn self.now.level }
+        ensures { Reads self.now.level at raw_fatom_tree result (λ d. either (use_case d from name) stop) }
     {
-        match self.terms.operands.level.cursor.token(at) {
+        match self.level.cursor.token(at) {
             Some(token) => match token.kind {
                 Kind::Sign(Sign::OpenBracketSign) => self.used_at_monos(from, name, at + 1),
                 Kind::Sign(Sign::AtSign) => self.used_at_heap(from, name, at + 1),
@@ -281,34 +204,14 @@ impl<F: Fn(Wanted, usize) -> Result<(Found, usize), Halted>> Formulas<'_, F> {
 
     /// What follows the bracket before a predicate's monotypes.
     fn used_at_monos(&self, from: u64, name: Span, at: usize) -> Result<(RawFatom, usize), Halted>
-        requires { IsLevel F.Fn self.now.terms.operands.level }
-        ensures { Gives self.now.terms.operands.level.cursor.tokens.now raw_fatom_tree result (use_monos_on (deeper 63 self.now.terms.operands.level.left) from name (drop at self.now.terms.operands.level.cursor.tokens.now)) }
+        requires { IsLevel F.Fn self.now.level }
+        ensures { Reads self.now.level at raw_fatom_tree result (λ d. use_monos_on d from name) }
     {
-        let (monos, at) = self
-            .terms
-            .operands
-            .level
-            .cursor
-            .monos(self.terms.operands.level.left, at)?;
-        let at = self
-            .terms
-            .operands
-            .level
-            .cursor
-            .sign(at, Sign::CloseBracketSign)?;
-        let at = self
-            .terms
-            .operands
-            .level
-            .cursor
-            .sign(at, Sign::OpenParenSign)?;
-        let (terms, at) = self.terms.arguments(at)?;
-        let at = self
-            .terms
-            .operands
-            .level
-            .cursor
-            .sign(at, Sign::CloseParenSign)?;
+        let (monos, at) = self.level.cursor.monos(self.level.left, at)?;
+        let at = self.level.cursor.sign(at, Sign::CloseBracketSign)?;
+        let at = self.level.cursor.sign(at, Sign::OpenParenSign)?;
+        let (terms, at) = self.terms().arguments(at)?;
+        let at = self.level.cursor.sign(at, Sign::CloseParenSign)?;
         let monos = Seq::of(monos);
         let terms = Seq::of(terms);
         Ok((
@@ -325,30 +228,15 @@ impl<F: Fn(Wanted, usize) -> Result<(Found, usize), Halted>> Formulas<'_, F> {
     /// What follows `@` behind a predicate's name.
     #[tactic(auto, using(htt_parser_words::proofs::Steps::steps, htt_parser_trees::specs::TreeLevels::raw_fatom_use_at_heap), unfolding(htt_parser_words::proofs::Steps::reading))]
     fn used_at_heap(&self, from: u64, name: Span, at: usize) -> Result<(RawFatom, usize), Halted>
-        requires { IsLevel F.Fn self.now.terms.operands.level }
-        ensures { Gives self.now.terms.operands.level.cursor.tokens.now raw_fatom_tree result (use_at_heap_on (deeper 63 self.now.terms.operands.level.left) from name (drop at self.now.terms.operands.level.cursor.tokens.now)) }
+        requires { IsLevel F.Fn self.now.level }
+        ensures { Reads self.now.level at raw_fatom_tree result (λ d. use_at_heap_on d from name) }
     {
-        let (heap, at) = self.terms.operands.level.cursor.heap(at)?;
-        let at = self
-            .terms
-            .operands
-            .level
-            .cursor
-            .sign(at, Sign::OpenParenSign)?;
-        let (index, at) = self.terms.operands.level.boxed_term(at)?;
-        let at = self
-            .terms
-            .operands
-            .level
-            .cursor
-            .sign(at, Sign::SemicolonSign)?;
-        let (terms, at) = self.terms.arguments(at)?;
-        let at = self
-            .terms
-            .operands
-            .level
-            .cursor
-            .sign(at, Sign::CloseParenSign)?;
+        let (heap, at) = self.level.cursor.heap(at)?;
+        let at = self.level.cursor.sign(at, Sign::OpenParenSign)?;
+        let (index, at) = self.level.boxed_term(at)?;
+        let at = self.level.cursor.sign(at, Sign::SemicolonSign)?;
+        let (terms, at) = self.terms().arguments(at)?;
+        let at = self.level.cursor.sign(at, Sign::CloseParenSign)?;
         Ok((
             RawFatom::UseAtHeap {
                 at: from,
@@ -364,25 +252,19 @@ impl<F: Fn(Wanted, usize) -> Result<(Found, usize), Halted>> Formulas<'_, F> {
     /// What follows `(` behind a predicate's name.
     #[tactic(auto, using(htt_parser_words::proofs::Steps::steps, htt_parser_trees::specs::TreeLevels::raw_fatom_use), unfolding(htt_parser_words::proofs::Steps::reading))]
     fn used_plainly(&self, from: u64, name: Span, at: usize) -> Result<(RawFatom, usize), Halted>
-        requires { IsLevel F.Fn self.now.terms.operands.level }
-        ensures { Gives self.now.terms.operands.level.cursor.tokens.now raw_fatom_tree result (use_plain_on (deeper 63 self.now.terms.operands.level.left) from name (drop at self.now.terms.operands.level.cursor.tokens.now)) }
+        requires { IsLevel F.Fn self.now.level }
+        ensures { Reads self.now.level at raw_fatom_tree result (λ d. use_plain_on d from name) }
     {
-        if self
-            .terms
-            .operands
-            .level
-            .cursor
-            .is_sign(at, Sign::CloseParenSign)
-        {
+        if self.level.cursor.is_sign(at, Sign::CloseParenSign) {
             let use_alone = RawFatom::Use {
                 at: from,
                 name,
-                monos: Seq::of(Vec::new(self.terms.operands.level.cursor.alloc)),
-                arguments: Seq::of(Vec::new(self.terms.operands.level.cursor.alloc)),
+                monos: Seq::of(Vec::new(self.level.cursor.alloc)),
+                arguments: Seq::of(Vec::new(self.level.cursor.alloc)),
             };
             return Ok((use_alone, at + 1));
         }
-        let (first, at) = self.terms.operands.level.deeper_term(at)?;
+        let (first, at) = self.level.deeper_term(at)?;
         self.after_argument(from, name, first, at)
     }
 
@@ -395,10 +277,10 @@ impl<F: Fn(Wanted, usize) -> Result<(Found, usize), Halted>> Formulas<'_, F> {
         first: RawTerm,
         at: usize,
     ) -> Result<(RawFatom, usize), Halted>
-        requires { IsLevel F.Fn self.now.terms.operands.level }
-        ensures { Gives self.now.terms.operands.level.cursor.tokens.now raw_fatom_tree result (either (argument_case (deeper 63 self.now.terms.operands.level.left) from name (raw_term_tree first)) stop (drop at self.now.terms.operands.level.cursor.tokens.now)) }
+        requires { IsLevel F.Fn self.now.level }
+        ensures { Reads self.now.level at raw_fatom_tree result (λ d. either (argument_case d from name (raw_term_tree first)) stop) }
     {
-        match self.terms.operands.level.cursor.token(at) {
+        match self.level.cursor.token(at) {
             Some(token) => match token.kind {
                 Kind::Sign(Sign::SemicolonSign) => { self.used_at_index(from, name, first, at + 1) }
                 Kind::Sign(Sign::CommaSign) => self.used_at_terms(from, name, first, at + 1),
@@ -418,17 +300,12 @@ impl<F: Fn(Wanted, usize) -> Result<(Found, usize), Halted>> Formulas<'_, F> {
         index: RawTerm,
         at: usize,
     ) -> Result<(RawFatom, usize), Halted>
-        requires { IsLevel F.Fn self.now.terms.operands.level }
-        ensures { Gives self.now.terms.operands.level.cursor.tokens.now raw_fatom_tree result (use_at_on (deeper 63 self.now.terms.operands.level.left) from name (raw_term_tree index) (drop at self.now.terms.operands.level.cursor.tokens.now)) }
+        requires { IsLevel F.Fn self.now.level }
+        ensures { Reads self.now.level at raw_fatom_tree result (λ d. use_at_on d from name (raw_term_tree index)) }
     {
-        let index = Boxed::new(self.terms.operands.level.cursor.alloc, index)?;
-        let (terms, at) = self.terms.arguments(at)?;
-        let at = self
-            .terms
-            .operands
-            .level
-            .cursor
-            .sign(at, Sign::CloseParenSign)?;
+        let index = Boxed::new(self.level.cursor.alloc, index)?;
+        let (terms, at) = self.terms().arguments(at)?;
+        let at = self.level.cursor.sign(at, Sign::CloseParenSign)?;
         Ok((
             RawFatom::UseAt {
                 at: from,
@@ -448,21 +325,16 @@ impl<F: Fn(Wanted, usize) -> Result<(Found, usize), Halted>> Formulas<'_, F> {
         first: RawTerm,
         at: usize,
     ) -> Result<(RawFatom, usize), Halted>
-        requires { IsLevel F.Fn self.now.terms.operands.level }
-        ensures { Gives self.now.terms.operands.level.cursor.tokens.now raw_fatom_tree result (use_terms_on (deeper 63 self.now.terms.operands.level.left) from name (raw_term_tree first) (drop at self.now.terms.operands.level.cursor.tokens.now)) }
+        requires { IsLevel F.Fn self.now.level }
+        ensures { Reads self.now.level at raw_fatom_tree result (λ d. use_terms_on d from name (raw_term_tree first)) }
     {
-        let (second, at) = self.terms.operands.level.deeper_term(at)?;
-        let mut terms = Vec::new(self.terms.operands.level.cursor.alloc);
+        let (second, at) = self.level.deeper_term(at)?;
+        let mut terms = Vec::new(self.level.cursor.alloc);
         terms.push(first)?;
         terms.push(second)?;
-        let (terms, at) = self.terms.more_terms(terms, at)?;
-        let at = self
-            .terms
-            .operands
-            .level
-            .cursor
-            .sign(at, Sign::CloseParenSign)?;
-        let none = Vec::new(self.terms.operands.level.cursor.alloc);
+        let (terms, at) = self.terms().more_terms(terms, at)?;
+        let at = self.level.cursor.sign(at, Sign::CloseParenSign)?;
+        let none = Vec::new(self.level.cursor.alloc);
         let monos = Seq::of(none);
         let terms = Seq::of(terms);
         Ok((
@@ -485,15 +357,15 @@ impl<F: Fn(Wanted, usize) -> Result<(Found, usize), Halted>> Formulas<'_, F> {
         first: RawTerm,
         at: usize,
     ) -> Result<(RawFatom, usize), Halted>
-        ensures { Gives self.now.terms.operands.level.cursor.tokens.now raw_fatom_tree result (give (g_use from name [] (more_terms (raw_term_tree first) no_terms)) (drop at self.now.terms.operands.level.cursor.tokens.now)) }
+        ensures { Reads self.now.level at raw_fatom_tree result (λ d. give (g_use from name [] (more_terms (raw_term_tree first) no_terms))) }
     {
-        let mut terms = Vec::new(self.terms.operands.level.cursor.alloc);
+        let mut terms = Vec::new(self.level.cursor.alloc);
         terms.push(first)?;
         Ok((
             RawFatom::Use {
                 at: from,
                 name,
-                monos: Seq::of(Vec::new(self.terms.operands.level.cursor.alloc)),
+                monos: Seq::of(Vec::new(self.level.cursor.alloc)),
                 arguments: Seq::of(terms),
             },
             at,
@@ -503,20 +375,20 @@ impl<F: Fn(Wanted, usize) -> Result<(Found, usize), Halted>> Formulas<'_, F> {
     /// An equation, or what a place holds.
     #[tactic(auto, using(htt_parser_words::proofs::Steps::steps), unfolding(htt_parser_words::proofs::Steps::reading))]
     fn relation(&self, at: usize) -> Result<(RawFatom, usize), Halted>
-        requires { IsLevel F.Fn self.now.terms.operands.level }
-        ensures { Gives self.now.terms.operands.level.cursor.tokens.now raw_fatom_tree result (relation_on (deeper 63 self.now.terms.operands.level.left) (drop at self.now.terms.operands.level.cursor.tokens.now)) }
+        requires { IsLevel F.Fn self.now.level }
+        ensures { Reads self.now.level at raw_fatom_tree result relation_on }
     {
-        let (rel, at) = self.terms.operands.boxed_rel(at)?;
+        let (rel, at) = self.operands().boxed_rel(at)?;
         self.related(rel, at)
     }
 
     /// What follows the left side of a relation.
     #[tactic(auto, unfolding(htt_parser_words::proofs::Steps::choosing))]
     fn related(&self, rel: Boxed<RawRel>, at: usize) -> Result<(RawFatom, usize), Halted>
-        requires { IsLevel F.Fn self.now.terms.operands.level }
-        ensures { Gives self.now.terms.operands.level.cursor.tokens.now raw_fatom_tree result (either (relation_case (deeper 63 self.now.terms.operands.level.left) (raw_rel_tree rel)) stop (drop at self.now.terms.operands.level.cursor.tokens.now)) }
+        requires { IsLevel F.Fn self.now.level }
+        ensures { Reads self.now.level at raw_fatom_tree result (λ d. either (relation_case d (raw_rel_tree rel)) stop) }
     {
-        match self.terms.operands.level.cursor.token(at) {
+        match self.level.cursor.token(at) {
             Some(token) => match token.kind {
                 Kind::Sign(Sign::EqualSign) => self.equation(rel, at + 1),
                 Kind::Sign(Sign::PointsToSign) => self.points_to(rel, at + 1),
@@ -529,16 +401,11 @@ impl<F: Fn(Wanted, usize) -> Result<(Found, usize), Halted>> Formulas<'_, F> {
     /// What follows `=`.
     #[tactic(auto, using(htt_parser_words::proofs::Steps::steps, htt_parser_trees::specs::TreeLevels::raw_fatom_eq), unfolding(htt_parser_words::proofs::Steps::reading))]
     fn equation(&self, one: Boxed<RawRel>, at: usize) -> Result<(RawFatom, usize), Halted>
-        requires { IsLevel F.Fn self.now.terms.operands.level }
-        ensures { Gives self.now.terms.operands.level.cursor.tokens.now raw_fatom_tree result (equal_on (deeper 63 self.now.terms.operands.level.left) (raw_rel_tree one) (drop at self.now.terms.operands.level.cursor.tokens.now)) }
+        requires { IsLevel F.Fn self.now.level }
+        ensures { Reads self.now.level at raw_fatom_tree result (λ d. equal_on d (raw_rel_tree one)) }
     {
-        let (mono, at) = self
-            .terms
-            .operands
-            .level
-            .cursor
-            .bracketed(self.terms.operands.level.left, at)?;
-        let (other, at) = self.terms.operands.boxed_rel(at)?;
+        let (mono, at) = self.level.cursor.bracketed(self.level.left, at)?;
+        let (other, at) = self.operands().boxed_rel(at)?;
         Ok((
             RawFatom::Eq {
                 left: one,
@@ -552,25 +419,14 @@ impl<F: Fn(Wanted, usize) -> Result<(Found, usize), Halted>> Formulas<'_, F> {
     /// What follows `|->`.
     #[tactic(auto, using(htt_parser_words::proofs::Steps::steps, htt_parser_trees::specs::TreeLevels::raw_fatom_points_to, htt_parser_trees::specs::TreeLevels::raw_fatom_points_to_any), unfolding(htt_parser_words::proofs::Steps::reading))]
     fn points_to(&self, place: Boxed<RawRel>, at: usize) -> Result<(RawFatom, usize), Halted>
-        requires { IsLevel F.Fn self.now.terms.operands.level }
-        ensures { Gives self.now.terms.operands.level.cursor.tokens.now raw_fatom_tree result (points_on (deeper 63 self.now.terms.operands.level.left) (raw_rel_tree place) (drop at self.now.terms.operands.level.cursor.tokens.now)) }
+        requires { IsLevel F.Fn self.now.level }
+        ensures { Reads self.now.level at raw_fatom_tree result (λ d. points_on d (raw_rel_tree place)) }
     {
-        let (mono, at) = self
-            .terms
-            .operands
-            .level
-            .cursor
-            .bracketed(self.terms.operands.level.left, at)?;
-        if self
-            .terms
-            .operands
-            .level
-            .cursor
-            .is_sign(at, Sign::UnderscoreSign)
-        {
+        let (mono, at) = self.level.cursor.bracketed(self.level.left, at)?;
+        if self.level.cursor.is_sign(at, Sign::UnderscoreSign) {
             return Ok((RawFatom::PointsToAny { place, mono }, at + 1));
         }
-        let (value, at) = self.terms.operands.boxed_rel(at)?;
+        let (value, at) = self.operands().boxed_rel(at)?;
         Ok((RawFatom::PointsTo { place, mono, value }, at))
     }
 }

@@ -1,5 +1,5 @@
 -- What is read one level deeper, and what reads it.
-use Rattle.std.specs.Prelude.{ℕ, drop, Result}
+use Rattle.std.specs.Prelude.{ℕ, drop, Option, Result}
 use denote.Param.Members.{Shared}
 use denote.Param.Always.{always_fn}
 use Rattle.htt_parser_trees.specs.Trees.{RawTyTree, RawTermTree, RawCompTree, RawFormulaTree, RawDisjTree, RawConjTree}
@@ -11,7 +11,7 @@ use Rattle.theory_grammar.specs.Readers.{Reader, give, ◌>>=◌}
 use Rattle.theory_grammar.specs.Phrases.{Deeper}
 use Rattle.theory_grammar.specs.Reading.{deeper}
 use Rattle.htt_parser_words.specs.declared.cursor.Halted.{Halted}
-use Rattle.htt_parser_words.specs.Results.{Gives}
+use Rattle.htt_parser_words.specs.Results.{Gives, GivesMore, ReadsAt}
 use Rattle.htt_parser_levels.specs.declared.found.Found.{Found}
 use Rattle.htt_parser_levels.specs.declared.found.Found.TheVariants as found
 use Rattle.htt_parser_levels.specs.declared.found.Wanted.{Wanted}
@@ -53,3 +53,28 @@ IsLevel calls level =
     × ((what : Wanted) (at : ℕ) (r : Result (Found × ℕ) Halted) → calls.post level.deeper (what, (at, tt)) r →
     Gives level.cursor.tokens.now found_tree r
     (wanted_at (deeper 63 level.left) what (drop at level.cursor.tokens.now)))
+
+-- ---- what a function that reads at a level must answer: what the reader answers that goes so much deeper
+
+abbrev pub Reads : {F X Y : Type 0}
+    → Level F
+    → ℕ
+    → (X → Y)
+    → Result (X × ℕ) Halted
+    → (Deeper → Reader Y)
+    → Type 0
+Reads level at view result reader =
+    ReadsAt level.cursor.tokens.now at view result (reader (deeper 63 level.left))
+
+-- of a list: one member more, if there is one, and then the rest
+abbrev pub ReadsMore : {F X T : Type 0}
+    → Level F
+    → ℕ
+    → (X → T → T)
+    → T
+    → Result (Option (X × ℕ)) Halted
+    → (Deeper → Reader T)
+    → (Deeper → Reader T)
+    → Type 0
+ReadsMore level at put nothing result now rest =
+    GivesMore level.cursor.tokens.now put nothing result (now (deeper 63 level.left)) (rest (deeper 63 level.left)) at

@@ -1,9 +1,7 @@
 //! A level, and what is read one level deeper.
 
-ghost use Rattle.std.specs.Prelude.{drop};
 ghost use Rattle.theory_grammar.specs.Reading.{deeper};
-ghost use Rattle.htt_parser_levels.specs.Levels.{IsLevel};
-ghost use Rattle.htt_parser_words.specs.Results.{Gives};
+ghost use Rattle.htt_parser_levels.specs.Levels.{IsLevel, Reads};
 ghost use Rattle.htt_parser_trees.specs.TreeLevels.{raw_comp_tree};
 ghost use Rattle.htt_parser_trees.specs.TreeViews.{raw_conj_tree, raw_disj_tree, raw_formula_tree, raw_star_tree, raw_term_tree, raw_ty_tree};
 
@@ -24,7 +22,7 @@ impl<F: Fn(Wanted, usize) -> Result<(Found, usize), Halted>> Level<'_, F> {
     /// A type one level deeper.
     pub fn deeper_ty(&self, at: usize) -> Result<(RawTy, usize), Halted>
         requires { IsLevel F.Fn self.now }
-        ensures { Gives self.now.cursor.tokens.now raw_ty_tree result ((deeper 63 self.now.left).ty (drop at self.now.cursor.tokens.now)) }
+        ensures { Reads self.now at raw_ty_tree result (λ d. d.ty) }
     {
         let (found, at) = (self.deeper)(Wanted::Type, at)?;
         match found {
@@ -36,7 +34,7 @@ impl<F: Fn(Wanted, usize) -> Result<(Found, usize), Halted>> Level<'_, F> {
     /// A term one level deeper.
     pub fn deeper_term(&self, at: usize) -> Result<(RawTerm, usize), Halted>
         requires { IsLevel F.Fn self.now }
-        ensures { Gives self.now.cursor.tokens.now raw_term_tree result ((deeper 63 self.now.left).term (drop at self.now.cursor.tokens.now)) }
+        ensures { Reads self.now at raw_term_tree result (λ d. d.term) }
     {
         let (found, at) = (self.deeper)(Wanted::Term, at)?;
         match found {
@@ -48,7 +46,7 @@ impl<F: Fn(Wanted, usize) -> Result<(Found, usize), Halted>> Level<'_, F> {
     /// A computation one level deeper.
     pub fn deeper_comp(&self, at: usize) -> Result<(RawComp, usize), Halted>
         requires { IsLevel F.Fn self.now }
-        ensures { Gives self.now.cursor.tokens.now raw_comp_tree result ((deeper 63 self.now.left).comp (drop at self.now.cursor.tokens.now)) }
+        ensures { Reads self.now at raw_comp_tree result (λ d. d.comp) }
     {
         let (found, at) = (self.deeper)(Wanted::Computation, at)?;
         match found {
@@ -60,7 +58,7 @@ impl<F: Fn(Wanted, usize) -> Result<(Found, usize), Halted>> Level<'_, F> {
     /// A formula one level deeper.
     pub fn deeper_formula(&self, at: usize) -> Result<(RawFormula, usize), Halted>
         requires { IsLevel F.Fn self.now }
-        ensures { Gives self.now.cursor.tokens.now raw_formula_tree result ((deeper 63 self.now.left).formula (drop at self.now.cursor.tokens.now)) }
+        ensures { Reads self.now at raw_formula_tree result (λ d. d.formula) }
     {
         let (found, at) = (self.deeper)(Wanted::Formula, at)?;
         match found {
@@ -72,7 +70,7 @@ impl<F: Fn(Wanted, usize) -> Result<(Found, usize), Halted>> Level<'_, F> {
     /// A chain of `\/` one level deeper.
     pub fn deeper_disj(&self, at: usize) -> Result<(RawDisj, usize), Halted>
         requires { IsLevel F.Fn self.now }
-        ensures { Gives self.now.cursor.tokens.now raw_disj_tree result ((deeper 63 self.now.left).disj (drop at self.now.cursor.tokens.now)) }
+        ensures { Reads self.now at raw_disj_tree result (λ d. d.disj) }
     {
         let (found, at) = (self.deeper)(Wanted::Disjunction, at)?;
         match found {
@@ -84,7 +82,7 @@ impl<F: Fn(Wanted, usize) -> Result<(Found, usize), Halted>> Level<'_, F> {
     /// A chain of `/\` one level deeper.
     pub fn deeper_conj(&self, at: usize) -> Result<(RawConj, usize), Halted>
         requires { IsLevel F.Fn self.now }
-        ensures { Gives self.now.cursor.tokens.now raw_conj_tree result ((deeper 63 self.now.left).conj (drop at self.now.cursor.tokens.now)) }
+        ensures { Reads self.now at raw_conj_tree result (λ d. d.conj) }
     {
         let (found, at) = (self.deeper)(Wanted::Conjunction, at)?;
         match found {
@@ -96,7 +94,7 @@ impl<F: Fn(Wanted, usize) -> Result<(Found, usize), Halted>> Level<'_, F> {
     /// A chain of `**` one level deeper.
     pub fn deeper_star(&self, at: usize) -> Result<(RawStar, usize), Halted>
         requires { IsLevel F.Fn self.now }
-        ensures { Gives self.now.cursor.tokens.now raw_star_tree result ((deeper 63 self.now.left).star (drop at self.now.cursor.tokens.now)) }
+        ensures { Reads self.now at raw_star_tree result (λ d. d.star) }
     {
         let (found, at) = (self.deeper)(Wanted::Star, at)?;
         match found {
@@ -108,7 +106,7 @@ impl<F: Fn(Wanted, usize) -> Result<(Found, usize), Halted>> Level<'_, F> {
     /// A type one level deeper, in a box.
     pub fn boxed_ty(&self, at: usize) -> Result<(Boxed<RawTy>, usize), Halted>
         requires { IsLevel F.Fn self.now }
-        ensures { Gives self.now.cursor.tokens.now raw_ty_tree result ((deeper 63 self.now.left).ty (drop at self.now.cursor.tokens.now)) }
+        ensures { Reads self.now at raw_ty_tree result (λ d. d.ty) }
     {
         let (ty, at) = self.deeper_ty(at)?;
         Ok((Boxed::new(self.cursor.alloc, ty)?, at))
@@ -117,7 +115,7 @@ impl<F: Fn(Wanted, usize) -> Result<(Found, usize), Halted>> Level<'_, F> {
     /// A term one level deeper, in a box.
     pub fn boxed_term(&self, at: usize) -> Result<(Boxed<RawTerm>, usize), Halted>
         requires { IsLevel F.Fn self.now }
-        ensures { Gives self.now.cursor.tokens.now raw_term_tree result ((deeper 63 self.now.left).term (drop at self.now.cursor.tokens.now)) }
+        ensures { Reads self.now at raw_term_tree result (λ d. d.term) }
     {
         let (term, at) = self.deeper_term(at)?;
         Ok((Boxed::new(self.cursor.alloc, term)?, at))
@@ -126,7 +124,7 @@ impl<F: Fn(Wanted, usize) -> Result<(Found, usize), Halted>> Level<'_, F> {
     /// A formula one level deeper, in a box.
     pub fn boxed_formula(&self, at: usize) -> Result<(Boxed<RawFormula>, usize), Halted>
         requires { IsLevel F.Fn self.now }
-        ensures { Gives self.now.cursor.tokens.now raw_formula_tree result ((deeper 63 self.now.left).formula (drop at self.now.cursor.tokens.now)) }
+        ensures { Reads self.now at raw_formula_tree result (λ d. d.formula) }
     {
         let (formula, at) = self.deeper_formula(at)?;
         Ok((Boxed::new(self.cursor.alloc, formula)?, at))

@@ -1,11 +1,8 @@
 //! Atoms of terms.
 
-ghost use Rattle.std.specs.Prelude.{drop};
 ghost use Rattle.theory_grammar.specs.Phrases.{annotated_on, atom_reader, bracket_case, bracket_on, equality_on, pair_on, place_on, selection_on};
 ghost use Rattle.theory_grammar.specs.Readers.{either, stop};
-ghost use Rattle.theory_grammar.specs.Reading.{deeper};
-ghost use Rattle.htt_parser_levels.specs.Levels.{IsLevel};
-ghost use Rattle.htt_parser_words.specs.Results.{Gives};
+ghost use Rattle.htt_parser_levels.specs.Levels.{IsLevel, Reads};
 ghost use Rattle.htt_parser_trees.specs.TreeViews.{raw_atom_tree, raw_term_tree};
 
 use crate::operands::Operands;
@@ -20,7 +17,7 @@ impl<F: Fn(Wanted, usize) -> Result<(Found, usize), Halted>> Operands<'_, F> {
     #[tactic(auto, using(htt_parser_trees::specs::TreeLevels::raw_atom_name, htt_parser_trees::specs::TreeLevels::raw_atom_number, htt_parser_trees::specs::TreeLevels::raw_atom_true, htt_parser_trees::specs::TreeLevels::raw_atom_false, htt_parser_trees::specs::TreeLevels::raw_atom_null), unfolding(htt_parser_words::proofs::Steps::choosing, theory_grammar::specs::Phrases::atom_reader))]
     pub fn atom(&self, at: usize) -> Result<(RawAtom, usize), Halted>
         requires { IsLevel F.Fn self.now.level }
-        ensures { Gives self.now.level.cursor.tokens.now raw_atom_tree result (atom_reader (deeper 63 self.now.level.left) (drop at self.now.level.cursor.tokens.now)) }
+        ensures { Reads self.now.level at raw_atom_tree result atom_reader }
     {
         let Some(token) = self.level.cursor.token(at) else {
             return Err(Halted::At(Reason::Expected, at));
@@ -48,7 +45,7 @@ impl<F: Fn(Wanted, usize) -> Result<(Found, usize), Halted>> Operands<'_, F> {
     /// What follows `place` at this byte.
     #[tactic(auto, using(htt_parser_words::proofs::Steps::steps, htt_parser_trees::specs::TreeLevels::raw_atom_place), unfolding(htt_parser_words::proofs::Steps::reading))]
     fn place(&self, from: u64, at: usize) -> Result<(RawAtom, usize), Halted>
-        ensures { Gives self.now.level.cursor.tokens.now raw_atom_tree result (place_on from (drop at self.now.level.cursor.tokens.now)) }
+        ensures { Reads self.now.level at raw_atom_tree result (λ d. place_on from) }
     {
         let (value, at) = self.level.cursor.number(at)?;
         Ok((RawAtom::Place { at: from, value }, at))
@@ -58,7 +55,7 @@ impl<F: Fn(Wanted, usize) -> Result<(Found, usize), Halted>> Operands<'_, F> {
     #[tactic(auto, using(htt_parser_words::proofs::Steps::steps, htt_parser_trees::specs::TreeLevels::raw_atom_eq), unfolding(htt_parser_words::proofs::Steps::reading))]
     fn equality(&self, from: u64, at: usize) -> Result<(RawAtom, usize), Halted>
         requires { IsLevel F.Fn self.now.level }
-        ensures { Gives self.now.level.cursor.tokens.now raw_atom_tree result (equality_on (deeper 63 self.now.level.left) from (drop at self.now.level.cursor.tokens.now)) }
+        ensures { Reads self.now.level at raw_atom_tree result (λ d. equality_on d from) }
     {
         let (mono, at) = self.level.cursor.bracketed(self.level.left, at)?;
         let at = self.level.cursor.sign(at, Sign::OpenParenSign)?;
@@ -81,7 +78,7 @@ impl<F: Fn(Wanted, usize) -> Result<(Found, usize), Halted>> Operands<'_, F> {
     #[tactic(auto, using(htt_parser_words::proofs::Steps::steps, htt_parser_trees::specs::TreeLevels::raw_atom_sel), unfolding(htt_parser_words::proofs::Steps::reading))]
     fn selection(&self, from: u64, at: usize) -> Result<(RawAtom, usize), Halted>
         requires { IsLevel F.Fn self.now.level }
-        ensures { Gives self.now.level.cursor.tokens.now raw_atom_tree result (selection_on (deeper 63 self.now.level.left) from (drop at self.now.level.cursor.tokens.now)) }
+        ensures { Reads self.now.level at raw_atom_tree result (λ d. selection_on d from) }
     {
         let (mono, at) = self.level.cursor.bracketed(self.level.left, at)?;
         let at = self.level.cursor.sign(at, Sign::OpenParenSign)?;
@@ -107,7 +104,7 @@ impl<F: Fn(Wanted, usize) -> Result<(Found, usize), Halted>> Operands<'_, F> {
     #[tactic(auto, using(htt_parser_words::proofs::Steps::steps, htt_parser_trees::specs::TreeLevels::raw_atom_unit), unfolding(htt_parser_words::proofs::Steps::reading))]
     fn bracket(&self, from: u64, at: usize) -> Result<(RawAtom, usize), Halted>
         requires { IsLevel F.Fn self.now.level }
-        ensures { Gives self.now.level.cursor.tokens.now raw_atom_tree result (bracket_on (deeper 63 self.now.level.left) from (drop at self.now.level.cursor.tokens.now)) }
+        ensures { Reads self.now.level at raw_atom_tree result (λ d. bracket_on d from) }
     {
         if self.level.cursor.is_sign(at, Sign::CloseParenSign) {
             return Ok((RawAtom::Unit { at: from }, at + 1));
@@ -125,7 +122,7 @@ impl<F: Fn(Wanted, usize) -> Result<(Found, usize), Halted>> Operands<'_, F> {
         at: usize,
     ) -> Result<(RawAtom, usize), Halted>
         requires { IsLevel F.Fn self.now.level }
-        ensures { Gives self.now.level.cursor.tokens.now raw_atom_tree result (either (bracket_case (deeper 63 self.now.level.left) from (raw_term_tree term)) stop (drop at self.now.level.cursor.tokens.now)) }
+        ensures { Reads self.now.level at raw_atom_tree result (λ d. either (bracket_case d from (raw_term_tree term)) stop) }
     {
         let Some(token) = self.level.cursor.token(at) else {
             return Err(Halted::At(Reason::Expected, at));
@@ -142,7 +139,7 @@ impl<F: Fn(Wanted, usize) -> Result<(Found, usize), Halted>> Operands<'_, F> {
     #[tactic(auto, using(htt_parser_words::proofs::Steps::steps, htt_parser_trees::specs::TreeLevels::raw_atom_pair), unfolding(htt_parser_words::proofs::Steps::reading))]
     fn pair(&self, from: u64, first: Boxed<RawTerm>, at: usize) -> Result<(RawAtom, usize), Halted>
         requires { IsLevel F.Fn self.now.level }
-        ensures { Gives self.now.level.cursor.tokens.now raw_atom_tree result (pair_on (deeper 63 self.now.level.left) from (raw_term_tree first) (drop at self.now.level.cursor.tokens.now)) }
+        ensures { Reads self.now.level at raw_atom_tree result (λ d. pair_on d from (raw_term_tree first)) }
     {
         let (second, at) = self.level.boxed_term(at)?;
         let at = self.level.cursor.sign(at, Sign::CloseParenSign)?;
@@ -165,7 +162,7 @@ impl<F: Fn(Wanted, usize) -> Result<(Found, usize), Halted>> Operands<'_, F> {
         at: usize,
     ) -> Result<(RawAtom, usize), Halted>
         requires { IsLevel F.Fn self.now.level }
-        ensures { Gives self.now.level.cursor.tokens.now raw_atom_tree result (annotated_on (deeper 63 self.now.level.left) from (raw_term_tree term) (drop at self.now.level.cursor.tokens.now)) }
+        ensures { Reads self.now.level at raw_atom_tree result (λ d. annotated_on d from (raw_term_tree term)) }
     {
         let (ty, at) = self.level.boxed_ty(at)?;
         let at = self.level.cursor.sign(at, Sign::CloseParenSign)?;

@@ -4,11 +4,10 @@
 ghost use Rattle.std.specs.Prelude.{◌≡◌, ◌<◌, ◌-◌, ◌^◌, drop, IsSome, option_map};
 ghost use Rattle.theory_grammar.specs.Beginnings.{prod_sign_of, sum_sign_of};
 ghost use Rattle.theory_grammar.specs.Phrases.{appl_reader, apply_on, parts_on, prod_reader, prod_on, rel_reader, sum_reader, sum_on, unary_on};
-ghost use Rattle.theory_grammar.specs.Reading.{deeper};
 ghost use Rattle.htt_parser_operands.specs.Parts.{atom_part_on, mono_part_on};
 ghost use Rattle.htt_parser_operands.specs.Signs.{first_sign, plus_tree, times_tree};
-ghost use Rattle.htt_parser_levels.specs.Levels.{IsLevel};
-ghost use Rattle.htt_parser_words.specs.Results.{Gives, GivesMore, HasRoom};
+ghost use Rattle.htt_parser_levels.specs.Levels.{IsLevel, Reads, ReadsMore};
+ghost use Rattle.htt_parser_words.specs.Results.{HasRoom};
 ghost use Rattle.htt_parser_trees.specs.TreeLevels.{raw_parts_tree, raw_prod_rest, raw_prod_tree, raw_sum_rest, raw_sum_tree};
 ghost use Rattle.htt_parser_trees.specs.TreeViews.{raw_appl_tree, raw_part_tree, raw_prod_operand_tree, raw_rel_tree, raw_sum_operand_tree};
 ghost use Rattle.htt_parser_trees.specs.Trees.{no_parts, s_end, x_end};
@@ -28,7 +27,7 @@ impl<F: Fn(Wanted, usize) -> Result<(Found, usize), Halted>> Operands<'_, F> {
     /// An atom or a monotype that a head is applied to, if there is one.
     fn part(&self, room: u32, at: usize) -> Result<Option<(RawPart, usize)>, Halted>
         requires { IsLevel F.Fn self.now.level }
-        ensures gives { GivesMore self.now.level.cursor.tokens.now raw_part_tree no_parts result (parts_on (deeper 63 self.now.level.left) room) (parts_on (deeper 63 self.now.level.left) (room - 1)) at }
+        ensures gives { ReadsMore self.now.level at raw_part_tree no_parts result (λ d. parts_on d room) (λ d. parts_on d (room - 1)) }
         ensures room { HasRoom result room }
     {
         if self.level.cursor.is_sign(at, Sign::OpenBracketSign) {
@@ -42,7 +41,7 @@ impl<F: Fn(Wanted, usize) -> Result<(Found, usize), Halted>> Operands<'_, F> {
 
     /// A monotype that a head is applied to, from its bracket on.
     fn mono_part(&self, room: u32, at: usize) -> Result<Option<(RawPart, usize)>, Halted>
-        ensures gives { GivesMore self.now.level.cursor.tokens.now raw_part_tree no_parts result (mono_part_on (deeper 63 self.now.level.left) room) (parts_on (deeper 63 self.now.level.left) (room - 1)) at }
+        ensures gives { ReadsMore self.now.level at raw_part_tree no_parts result (λ d. mono_part_on d room) (λ d. parts_on d (room - 1)) }
         ensures room { HasRoom result room }
     {
         let at = self.level.cursor.sign(at, Sign::OpenBracketSign)?;
@@ -57,7 +56,7 @@ impl<F: Fn(Wanted, usize) -> Result<(Found, usize), Halted>> Operands<'_, F> {
     /// An atom that a head is applied to.
     fn atom_part(&self, room: u32, at: usize) -> Result<Option<(RawPart, usize)>, Halted>
         requires { IsLevel F.Fn self.now.level }
-        ensures gives { GivesMore self.now.level.cursor.tokens.now raw_part_tree no_parts result (atom_part_on (deeper 63 self.now.level.left) room) (parts_on (deeper 63 self.now.level.left) (room - 1)) at }
+        ensures gives { ReadsMore self.now.level at raw_part_tree no_parts result (λ d. atom_part_on d room) (λ d. parts_on d (room - 1)) }
         ensures room { HasRoom result room }
     {
         if room == 0 {
@@ -70,7 +69,7 @@ impl<F: Fn(Wanted, usize) -> Result<(Found, usize), Halted>> Operands<'_, F> {
     /// What a head is applied to.
     fn parts(&self, at: usize) -> Result<(Vec<RawPart>, usize), Halted>
         requires { IsLevel F.Fn self.now.level }
-        ensures { Gives self.now.level.cursor.tokens.now (λ parts. raw_parts_tree parts.items) result (parts_on (deeper 63 self.now.level.left) 63 (drop at self.now.level.cursor.tokens.now)) }
+        ensures { Reads self.now.level at (λ parts. raw_parts_tree parts.items) result (λ d. parts_on d 63) }
     {
         let mut parts = Vec::new(self.level.cursor.alloc);
         let mut room = FURTHER;
@@ -87,7 +86,7 @@ impl<F: Fn(Wanted, usize) -> Result<(Found, usize), Halted>> Operands<'_, F> {
     #[tactic(auto, using(htt_parser_words::proofs::Steps::steps, htt_parser_trees::specs::TreeLevels::raw_appl_unary), unfolding(htt_parser_words::proofs::Steps::reading))]
     fn unary(&self, word: UnaryWord, from: u64, at: usize) -> Result<(RawAppl, usize), Halted>
         requires { IsLevel F.Fn self.now.level }
-        ensures { Gives self.now.level.cursor.tokens.now raw_appl_tree result (unary_on (deeper 63 self.now.level.left) word from (drop at self.now.level.cursor.tokens.now)) }
+        ensures { Reads self.now.level at raw_appl_tree result (λ d. unary_on d word from) }
     {
         let (operand, at) = self.atom(at)?;
         Ok((
@@ -104,7 +103,7 @@ impl<F: Fn(Wanted, usize) -> Result<(Found, usize), Halted>> Operands<'_, F> {
     #[tactic(auto, using(htt_parser_words::proofs::Steps::steps, htt_parser_trees::specs::TreeLevels::raw_appl_apply), unfolding(htt_parser_words::proofs::Steps::reading))]
     fn apply(&self, at: usize) -> Result<(RawAppl, usize), Halted>
         requires { IsLevel F.Fn self.now.level }
-        ensures { Gives self.now.level.cursor.tokens.now raw_appl_tree result (apply_on (deeper 63 self.now.level.left) (drop at self.now.level.cursor.tokens.now)) }
+        ensures { Reads self.now.level at raw_appl_tree result apply_on }
     {
         let (head, at) = self.atom(at)?;
         let (parts, at) = self.parts(at)?;
@@ -121,7 +120,7 @@ impl<F: Fn(Wanted, usize) -> Result<(Found, usize), Halted>> Operands<'_, F> {
     #[tactic(auto, unfolding(htt_parser_words::proofs::Steps::choosing, theory_grammar::specs::Phrases::appl_reader))]
     pub fn appl(&self, at: usize) -> Result<(RawAppl, usize), Halted>
         requires { IsLevel F.Fn self.now.level }
-        ensures { Gives self.now.level.cursor.tokens.now raw_appl_tree result (appl_reader (deeper 63 self.now.level.left) (drop at self.now.level.cursor.tokens.now)) }
+        ensures { Reads self.now.level at raw_appl_tree result appl_reader }
     {
         match self.level.cursor.token(at) {
             Some(token) => match token.kind {
@@ -154,7 +153,7 @@ impl<F: Fn(Wanted, usize) -> Result<(Found, usize), Halted>> Operands<'_, F> {
     /// A further operand of a product.
     fn prod_operand(&self, room: u32, at: usize) -> Result<Option<(ProdOperand, usize)>, Halted>
         requires { IsLevel F.Fn self.now.level }
-        ensures gives { GivesMore self.now.level.cursor.tokens.now raw_prod_operand_tree x_end result (prod_on (deeper 63 self.now.level.left) room) (prod_on (deeper 63 self.now.level.left) (room - 1)) at }
+        ensures gives { ReadsMore self.now.level at raw_prod_operand_tree x_end result (λ d. prod_on d room) (λ d. prod_on d (room - 1)) }
         ensures room { HasRoom result room }
     {
         let Some(sign) = self.times_sign(at) else {
@@ -174,7 +173,7 @@ impl<F: Fn(Wanted, usize) -> Result<(Found, usize), Halted>> Operands<'_, F> {
     /// The further operands of a product.
     fn prod_rest(&self, at: usize) -> Result<(Vec<ProdOperand>, usize), Halted>
         requires { IsLevel F.Fn self.now.level }
-        ensures { Gives self.now.level.cursor.tokens.now (λ operands. raw_prod_rest operands.items) result (prod_on (deeper 63 self.now.level.left) 63 (drop at self.now.level.cursor.tokens.now)) }
+        ensures { Reads self.now.level at (λ operands. raw_prod_rest operands.items) result (λ d. prod_on d 63) }
     {
         let mut operands = Vec::new(self.level.cursor.alloc);
         let mut room = FURTHER;
@@ -191,7 +190,7 @@ impl<F: Fn(Wanted, usize) -> Result<(Found, usize), Halted>> Operands<'_, F> {
     #[tactic(auto, using(htt_parser_words::proofs::Steps::steps), unfolding(htt_parser_words::proofs::Steps::reading, theory_grammar::specs::Phrases::prod_reader, htt_parser_trees::specs::TreeLevels::raw_prod_tree))]
     fn prod(&self, at: usize) -> Result<(RawProd, usize), Halted>
         requires { IsLevel F.Fn self.now.level }
-        ensures { Gives self.now.level.cursor.tokens.now raw_prod_tree result (prod_reader (deeper 63 self.now.level.left) (drop at self.now.level.cursor.tokens.now)) }
+        ensures { Reads self.now.level at raw_prod_tree result prod_reader }
     {
         let (first, at) = self.appl(at)?;
         let (rest, at) = self.prod_rest(at)?;
@@ -218,7 +217,7 @@ impl<F: Fn(Wanted, usize) -> Result<(Found, usize), Halted>> Operands<'_, F> {
     /// A further operand of a sum.
     fn sum_operand(&self, room: u32, at: usize) -> Result<Option<(SumOperand, usize)>, Halted>
         requires { IsLevel F.Fn self.now.level }
-        ensures gives { GivesMore self.now.level.cursor.tokens.now raw_sum_operand_tree s_end result (sum_on (deeper 63 self.now.level.left) room) (sum_on (deeper 63 self.now.level.left) (room - 1)) at }
+        ensures gives { ReadsMore self.now.level at raw_sum_operand_tree s_end result (λ d. sum_on d room) (λ d. sum_on d (room - 1)) }
         ensures room { HasRoom result room }
     {
         let Some(sign) = self.plus_sign(at) else {
@@ -238,7 +237,7 @@ impl<F: Fn(Wanted, usize) -> Result<(Found, usize), Halted>> Operands<'_, F> {
     /// The further operands of a sum.
     fn sum_rest(&self, at: usize) -> Result<(Vec<SumOperand>, usize), Halted>
         requires { IsLevel F.Fn self.now.level }
-        ensures { Gives self.now.level.cursor.tokens.now (λ operands. raw_sum_rest operands.items) result (sum_on (deeper 63 self.now.level.left) 63 (drop at self.now.level.cursor.tokens.now)) }
+        ensures { Reads self.now.level at (λ operands. raw_sum_rest operands.items) result (λ d. sum_on d 63) }
     {
         let mut operands = Vec::new(self.level.cursor.alloc);
         let mut room = FURTHER;
@@ -255,7 +254,7 @@ impl<F: Fn(Wanted, usize) -> Result<(Found, usize), Halted>> Operands<'_, F> {
     #[tactic(auto, using(htt_parser_words::proofs::Steps::steps), unfolding(htt_parser_words::proofs::Steps::reading, theory_grammar::specs::Phrases::sum_reader, htt_parser_trees::specs::TreeLevels::raw_sum_tree))]
     fn sum(&self, at: usize) -> Result<(RawSum, usize), Halted>
         requires { IsLevel F.Fn self.now.level }
-        ensures { Gives self.now.level.cursor.tokens.now raw_sum_tree result (sum_reader (deeper 63 self.now.level.left) (drop at self.now.level.cursor.tokens.now)) }
+        ensures { Reads self.now.level at raw_sum_tree result sum_reader }
     {
         let (first, at) = self.prod(at)?;
         let (rest, at) = self.sum_rest(at)?;
@@ -272,7 +271,7 @@ impl<F: Fn(Wanted, usize) -> Result<(Found, usize), Halted>> Operands<'_, F> {
     #[tactic(auto, using(htt_parser_words::proofs::Steps::steps, htt_parser_trees::specs::TreeLevels::raw_rel_sum, htt_parser_trees::specs::TreeLevels::raw_rel_less), unfolding(htt_parser_words::proofs::Steps::reading, theory_grammar::specs::Phrases::rel_reader))]
     fn rel(&self, at: usize) -> Result<(RawRel, usize), Halted>
         requires { IsLevel F.Fn self.now.level }
-        ensures { Gives self.now.level.cursor.tokens.now raw_rel_tree result (rel_reader (deeper 63 self.now.level.left) (drop at self.now.level.cursor.tokens.now)) }
+        ensures { Reads self.now.level at raw_rel_tree result rel_reader }
     {
         let (first, at) = self.sum(at)?;
         if !self.level.cursor.is_sign(at, Sign::LessSign) {
@@ -285,7 +284,7 @@ impl<F: Fn(Wanted, usize) -> Result<(Found, usize), Halted>> Operands<'_, F> {
     /// A sum or a comparison, in a box.
     pub fn boxed_rel(&self, at: usize) -> Result<(Boxed<RawRel>, usize), Halted>
         requires { IsLevel F.Fn self.now.level }
-        ensures { Gives self.now.level.cursor.tokens.now raw_rel_tree result (rel_reader (deeper 63 self.now.level.left) (drop at self.now.level.cursor.tokens.now)) }
+        ensures { Reads self.now.level at raw_rel_tree result rel_reader }
     {
         let (rel, at) = self.rel(at)?;
         Ok((Boxed::new(self.level.cursor.alloc, rel)?, at))

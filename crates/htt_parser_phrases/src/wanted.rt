@@ -1,12 +1,11 @@
 //! A phrase that is wanted at a level.
 
-ghost use Rattle.std.specs.Prelude.{◌≡◌, drop};
-ghost use Rattle.theory_grammar.specs.Reading.{at_level, deeper};
-ghost use Rattle.htt_parser_levels.specs.Levels.{IsLevel, found_tree, wanted_at};
+ghost use Rattle.std.specs.Prelude.{◌≡◌};
+ghost use Rattle.theory_grammar.specs.Reading.{at_level};
+ghost use Rattle.htt_parser_levels.specs.Levels.{IsLevel, Reads, found_tree, wanted_at};
 ghost use Rattle.htt_parser_levels.specs.declared.found.Wanted.TheVariants as wanted;
 ghost use Rattle.htt_parser_phrases.specs.Wanted.{begins_wanted};
 ghost use Rattle.htt_parser_words.specs.Beginnings.{begins_of};
-ghost use Rattle.htt_parser_words.specs.Results.{Gives};
 
 use htt_parser_formulas::Formulas;
 use htt_parser_levels::{Found, Wanted};
@@ -26,97 +25,97 @@ pub fn phrase_of(what: Wanted) -> Phrase
 }
 
 /// A type at a level, as what was found.
-fn found_ty<F: Fn(Wanted, usize) -> Result<(Found, usize), Halted>>(
+fn found_ty<F: Fn(Wanted, usize) -> Result<(Found, usize), Halted> + Copy>(
     formulas: &Formulas<'_, F>,
     at: usize,
 ) -> Result<(Found, usize), Halted>
-    requires { IsLevel F.Fn formulas.now.terms.operands.level }
-    ensures { Gives formulas.now.terms.operands.level.cursor.tokens.now found_tree result (wanted_at (at_level (deeper 63 formulas.now.terms.operands.level.left)) wanted.Type (drop at formulas.now.terms.operands.level.cursor.tokens.now)) }
+    requires { IsLevel F.Fn formulas.now.level }
+    ensures { Reads formulas.now.level at found_tree result (λ d. wanted_at (at_level d) wanted.Type) }
 {
-    let (ty, at) = formulas.terms.ty(at)?;
+    let (ty, at) = formulas.terms().ty(at)?;
     Ok((Found::Type(ty), at))
 }
 
 /// A term at a level, as what was found.
-fn found_term<F: Fn(Wanted, usize) -> Result<(Found, usize), Halted>>(
+fn found_term<F: Fn(Wanted, usize) -> Result<(Found, usize), Halted> + Copy>(
     formulas: &Formulas<'_, F>,
     at: usize,
 ) -> Result<(Found, usize), Halted>
-    requires { IsLevel F.Fn formulas.now.terms.operands.level }
-    ensures { Gives formulas.now.terms.operands.level.cursor.tokens.now found_tree result (wanted_at (at_level (deeper 63 formulas.now.terms.operands.level.left)) wanted.Term (drop at formulas.now.terms.operands.level.cursor.tokens.now)) }
+    requires { IsLevel F.Fn formulas.now.level }
+    ensures { Reads formulas.now.level at found_tree result (λ d. wanted_at (at_level d) wanted.Term) }
 {
-    let (term, at) = formulas.terms.term(at)?;
+    let (term, at) = formulas.terms().term(at)?;
     Ok((Found::Term(term), at))
 }
 
 /// A computation at a level, as what was found.
-fn found_comp<F: Fn(Wanted, usize) -> Result<(Found, usize), Halted>>(
+fn found_comp<F: Fn(Wanted, usize) -> Result<(Found, usize), Halted> + Copy>(
     formulas: &Formulas<'_, F>,
     at: usize,
 ) -> Result<(Found, usize), Halted>
-    requires { IsLevel F.Fn formulas.now.terms.operands.level }
-    ensures { Gives formulas.now.terms.operands.level.cursor.tokens.now found_tree result (wanted_at (at_level (deeper 63 formulas.now.terms.operands.level.left)) wanted.Computation (drop at formulas.now.terms.operands.level.cursor.tokens.now)) }
+    requires { IsLevel F.Fn formulas.now.level }
+    ensures { Reads formulas.now.level at found_tree result (λ d. wanted_at (at_level d) wanted.Computation) }
 {
-    let (comp, at) = formulas.terms.comp(at)?;
+    let (comp, at) = formulas.terms().comp(at)?;
     Ok((Found::Computation(comp), at))
 }
 
 /// A formula at a level, as what was found.
-fn found_formula<F: Fn(Wanted, usize) -> Result<(Found, usize), Halted>>(
+fn found_formula<F: Fn(Wanted, usize) -> Result<(Found, usize), Halted> + Copy>(
     formulas: &Formulas<'_, F>,
     at: usize,
 ) -> Result<(Found, usize), Halted>
-    requires { IsLevel F.Fn formulas.now.terms.operands.level }
-    ensures { Gives formulas.now.terms.operands.level.cursor.tokens.now found_tree result (wanted_at (at_level (deeper 63 formulas.now.terms.operands.level.left)) wanted.Formula (drop at formulas.now.terms.operands.level.cursor.tokens.now)) }
+    requires { IsLevel F.Fn formulas.now.level }
+    ensures { Reads formulas.now.level at found_tree result (λ d. wanted_at (at_level d) wanted.Formula) }
 {
     let (formula, at) = formulas.formula(at)?;
     Ok((Found::Formula(formula), at))
 }
 
 /// A chain of `\/` at a level, as what was found.
-fn found_disj<F: Fn(Wanted, usize) -> Result<(Found, usize), Halted>>(
+fn found_disj<F: Fn(Wanted, usize) -> Result<(Found, usize), Halted> + Copy>(
     formulas: &Formulas<'_, F>,
     at: usize,
 ) -> Result<(Found, usize), Halted>
-    requires { IsLevel F.Fn formulas.now.terms.operands.level }
-    ensures { Gives formulas.now.terms.operands.level.cursor.tokens.now found_tree result (wanted_at (at_level (deeper 63 formulas.now.terms.operands.level.left)) wanted.Disjunction (drop at formulas.now.terms.operands.level.cursor.tokens.now)) }
+    requires { IsLevel F.Fn formulas.now.level }
+    ensures { Reads formulas.now.level at found_tree result (λ d. wanted_at (at_level d) wanted.Disjunction) }
 {
     let (disj, at) = formulas.disj(at)?;
     Ok((Found::Disjunction(disj), at))
 }
 
 /// A chain of `/\` at a level, as what was found.
-fn found_conj<F: Fn(Wanted, usize) -> Result<(Found, usize), Halted>>(
+fn found_conj<F: Fn(Wanted, usize) -> Result<(Found, usize), Halted> + Copy>(
     formulas: &Formulas<'_, F>,
     at: usize,
 ) -> Result<(Found, usize), Halted>
-    requires { IsLevel F.Fn formulas.now.terms.operands.level }
-    ensures { Gives formulas.now.terms.operands.level.cursor.tokens.now found_tree result (wanted_at (at_level (deeper 63 formulas.now.terms.operands.level.left)) wanted.Conjunction (drop at formulas.now.terms.operands.level.cursor.tokens.now)) }
+    requires { IsLevel F.Fn formulas.now.level }
+    ensures { Reads formulas.now.level at found_tree result (λ d. wanted_at (at_level d) wanted.Conjunction) }
 {
     let (conj, at) = formulas.conj(at)?;
     Ok((Found::Conjunction(conj), at))
 }
 
 /// A chain of `**` at a level, as what was found.
-fn found_star<F: Fn(Wanted, usize) -> Result<(Found, usize), Halted>>(
+fn found_star<F: Fn(Wanted, usize) -> Result<(Found, usize), Halted> + Copy>(
     formulas: &Formulas<'_, F>,
     at: usize,
 ) -> Result<(Found, usize), Halted>
-    requires { IsLevel F.Fn formulas.now.terms.operands.level }
-    ensures { Gives formulas.now.terms.operands.level.cursor.tokens.now found_tree result (wanted_at (at_level (deeper 63 formulas.now.terms.operands.level.left)) wanted.Star (drop at formulas.now.terms.operands.level.cursor.tokens.now)) }
+    requires { IsLevel F.Fn formulas.now.level }
+    ensures { Reads formulas.now.level at found_tree result (λ d. wanted_at (at_level d) wanted.Star) }
 {
     let (star, at) = formulas.star(at)?;
     Ok((Found::Star(star), at))
 }
 
 /// What is wanted, read at a level.
-pub fn read_at<F: Fn(Wanted, usize) -> Result<(Found, usize), Halted>>(
+pub fn read_at<F: Fn(Wanted, usize) -> Result<(Found, usize), Halted> + Copy>(
     formulas: &Formulas<'_, F>,
     what: Wanted,
     at: usize,
 ) -> Result<(Found, usize), Halted>
-    requires { IsLevel F.Fn formulas.now.terms.operands.level }
-    ensures { Gives formulas.now.terms.operands.level.cursor.tokens.now found_tree result (wanted_at (at_level (deeper 63 formulas.now.terms.operands.level.left)) what (drop at formulas.now.terms.operands.level.cursor.tokens.now)) }
+    requires { IsLevel F.Fn formulas.now.level }
+    ensures { Reads formulas.now.level at found_tree result (λ d. wanted_at (at_level d) what) }
 {
     match what {
         Wanted::Type => found_ty(formulas, at),

@@ -5,10 +5,10 @@ ghost use Rattle.theory_grammar.specs.Reading.{arg_reader, args_on, args_there, 
 ghost use Rattle.htt_lexer_tokens.specs.declared.tokens.Kind.TheVariants as kinds;
 ghost use Rattle.htt_lexer_tokens.specs.declared.tokens.Sign.TheVariants.{CommaSign};
 ghost use Rattle.htt_parser_proofs.specs.Parts.{put_arg, term_arg_on};
-ghost use Rattle.htt_parser_words.specs.Results.{Gives, GivesMore, HasRoom, mapped};
+ghost use Rattle.htt_parser_words.specs.Results.{GivesMore, HasRoom, ReadsAt, mapped};
 ghost use Rattle.htt_parser_trees.specs.ProofViews.{raw_arg_tree, raw_motive_tree};
 ghost use Rattle.htt_parser_trees.specs.Trees.{onto};
-ghost use Rattle.std.specs.Prelude.{[], drop, map, suc, ℕ, ◌-◌};
+ghost use Rattle.std.specs.Prelude.{[], map, suc, ℕ, ◌-◌};
 
 use crate::proofs::{FURTHER, Proofs};
 use htt_lexer_tokens::{Kind, Sign};
@@ -19,7 +19,7 @@ impl Proofs<'_> {
     /// A term as an argument.
     #[tactic(auto, using(htt_parser_words::proofs::Steps::steps), unfolding(htt_parser_words::proofs::Steps::reading))]
     fn term_argument(&self, left: u32, at: usize) -> Result<(RawArg, usize), Halted>
-        ensures { Gives self.now.phrases.cursor.tokens.now raw_arg_tree result (term_arg_on (deeper 63 left) (drop at self.now.phrases.cursor.tokens.now)) }
+        ensures { ReadsAt self.now.phrases.cursor.tokens.now at raw_arg_tree result (term_arg_on (deeper 63 left)) }
     {
         let (term, at) = self.phrases.deeper_term(left, at)?;
         Ok((RawArg::Term(term), at))
@@ -28,7 +28,7 @@ impl Proofs<'_> {
     /// What follows `@` at this byte.
     #[tactic(auto, using(htt_parser_words::proofs::Steps::steps), unfolding(htt_parser_words::proofs::Steps::reading))]
     fn heap_argument(&self, from: u64, at: usize) -> Result<(RawArg, usize), Halted>
-        ensures { Gives self.now.phrases.cursor.tokens.now raw_arg_tree result (heap_arg_on from (drop at self.now.phrases.cursor.tokens.now)) }
+        ensures { ReadsAt self.now.phrases.cursor.tokens.now at raw_arg_tree result (heap_arg_on from) }
     {
         let (heap, at) = self.phrases.cursor.heap(at)?;
         Ok((RawArg::Heap { at: from, heap }, at))
@@ -37,7 +37,7 @@ impl Proofs<'_> {
     /// An argument.
     #[tactic(auto, unfolding(htt_parser_words::proofs::Steps::choosing, theory_grammar::specs::Reading::arg_reader))]
     pub(crate) fn argument(&self, left: u32, at: usize) -> Result<(RawArg, usize), Halted>
-        ensures { Gives self.now.phrases.cursor.tokens.now raw_arg_tree result (arg_reader (deeper 63 left) (drop at self.now.phrases.cursor.tokens.now)) }
+        ensures { ReadsAt self.now.phrases.cursor.tokens.now at raw_arg_tree result (arg_reader (deeper 63 left)) }
     {
         match self.phrases.cursor.token(at) {
             Some(token) => match token.kind {
@@ -68,7 +68,7 @@ impl Proofs<'_> {
         arguments: Vec<RawArg>,
         at: usize,
     ) -> Result<(Vec<RawArg>, usize), Halted>
-        ensures { Gives self.now.phrases.cursor.tokens.now (λ all. map raw_arg_tree all.items) result (mapped (onto put_arg arguments.items) (more_args (deeper 63 left) (drop at self.now.phrases.cursor.tokens.now))) }
+        ensures { ReadsAt self.now.phrases.cursor.tokens.now at (λ all. map raw_arg_tree all.items) result (λ ts. mapped (onto put_arg arguments.items) (more_args (deeper 63 left) ts)) }
     {
         let mut arguments = arguments;
         let mut at = at;
@@ -91,7 +91,7 @@ impl Proofs<'_> {
         left: u32,
         at: usize,
     ) -> Result<(Vec<RawArg>, usize), Halted>
-        ensures { Gives self.now.phrases.cursor.tokens.now (λ all. map raw_arg_tree all.items) result (more_args (deeper 63 left) (drop at self.now.phrases.cursor.tokens.now)) }
+        ensures { ReadsAt self.now.phrases.cursor.tokens.now at (λ all. map raw_arg_tree all.items) result (more_args (deeper 63 left)) }
     {
         self.more_arguments(left, Vec::new(self.phrases.cursor.alloc), at)
     }
@@ -99,7 +99,7 @@ impl Proofs<'_> {
     /// Arguments before a closing bracket, with commas between them.
     #[tactic(auto, using(htt_parser_words::proofs::Steps::steps, htt_parser_levels::proofs::Choices::if_first_yes, htt_parser_levels::proofs::Choices::if_first_no), unfolding(htt_parser_words::proofs::Steps::reading, theory_grammar::specs::Reading::args_there))]
     pub(crate) fn arguments(&self, left: u32, at: usize) -> Result<(Vec<RawArg>, usize), Halted>
-        ensures { Gives self.now.phrases.cursor.tokens.now (λ all. map raw_arg_tree all.items) result (args_there (deeper 63 left) (drop at self.now.phrases.cursor.tokens.now)) }
+        ensures { ReadsAt self.now.phrases.cursor.tokens.now at (λ all. map raw_arg_tree all.items) result (args_there (deeper 63 left)) }
     {
         let mut arguments = Vec::new(self.phrases.cursor.alloc);
         if self.phrases.cursor.is_sign(at, Sign::CloseParenSign) {
@@ -142,7 +142,7 @@ impl Proofs<'_> {
         left: u32,
         at: usize,
     ) -> Result<(Vec<RawArg>, usize), Halted>
-        ensures { Gives self.now.phrases.cursor.tokens.now (λ all. map raw_arg_tree all.items) result (args_on (deeper 63 left) 62 (drop at self.now.phrases.cursor.tokens.now)) }
+        ensures { ReadsAt self.now.phrases.cursor.tokens.now at (λ all. map raw_arg_tree all.items) result (args_on (deeper 63 left) 62) }
     {
         let mut arguments = Vec::new(self.phrases.cursor.alloc);
         let mut room = FURTHER;
@@ -158,7 +158,7 @@ impl Proofs<'_> {
     /// What a rule's formula is a case of.
     #[tactic(auto, using(htt_parser_words::proofs::Steps::steps), unfolding(htt_parser_words::proofs::Steps::reading, theory_grammar::specs::Reading::motive_reader, htt_parser_trees::specs::ProofViews::raw_motive_tree))]
     pub(crate) fn motive(&self, left: u32, at: usize) -> Result<(RawMotive, usize), Halted>
-        ensures { Gives self.now.phrases.cursor.tokens.now raw_motive_tree result (motive_reader (deeper 63 left) (drop at self.now.phrases.cursor.tokens.now)) }
+        ensures { ReadsAt self.now.phrases.cursor.tokens.now at raw_motive_tree result (motive_reader (deeper 63 left)) }
     {
         let (name, at) = self.phrases.cursor.binder(at)?;
         let at = self.phrases.cursor.sign(at, Sign::DotSign)?;

@@ -2,10 +2,10 @@
 
 ghost use Rattle.theory_grammar.specs.Readers.{either, stop};
 ghost use Rattle.theory_grammar.specs.Reading.{axiom_case, axiom_monos_on, axiom_on, axiom_plain_on, deeper, inst_more, lem_on, unfold_on};
-ghost use Rattle.htt_parser_words.specs.Results.{Gives};
+ghost use Rattle.htt_parser_words.specs.Results.{ReadsAt};
 ghost use Rattle.htt_parser_trees.specs.ProofLevels.{raw_proof_tree};
 ghost use Rattle.htt_parser_trees.specs.ProofViews.{raw_end_tree};
-ghost use Rattle.std.specs.Prelude.{drop, ◌-◌};
+ghost use Rattle.std.specs.Prelude.{◌-◌};
 
 use crate::proofs::Proofs;
 use htt_lexer_tokens::{Kind, Sign};
@@ -18,7 +18,7 @@ impl Proofs<'_> {
     /// What follows `axiom` at this byte.
     #[tactic(auto, using(htt_parser_words::proofs::Steps::steps), unfolding(htt_parser_words::proofs::Steps::reading))]
     pub(crate) fn axiom(&self, left: u32, from: u64, at: usize) -> Result<(RawEnd, usize), Halted>
-        ensures { Gives self.now.phrases.cursor.tokens.now raw_end_tree result (axiom_on (deeper 63 left) from (drop at self.now.phrases.cursor.tokens.now)) }
+        ensures { ReadsAt self.now.phrases.cursor.tokens.now at raw_end_tree result (axiom_on (deeper 63 left) from) }
     {
         let (name, at) = self.phrases.cursor.name(at)?;
         self.axiom_use(left, from, name, at)
@@ -33,7 +33,7 @@ impl Proofs<'_> {
         name: Span,
         at: usize,
     ) -> Result<(RawEnd, usize), Halted>
-        ensures { Gives self.now.phrases.cursor.tokens.now raw_end_tree result (either (axiom_case (deeper 63 left) from name) stop (drop at self.now.phrases.cursor.tokens.now)) }
+        ensures { ReadsAt self.now.phrases.cursor.tokens.now at raw_end_tree result (either (axiom_case (deeper 63 left) from name) stop) }
     {
         match self.phrases.cursor.token(at) {
             Some(token) => match token.kind {
@@ -49,7 +49,7 @@ impl Proofs<'_> {
     /// What follows the dot behind a predicate's name, which an axiom unfolds.
     #[tactic(auto, using(htt_parser_words::proofs::Steps::steps, htt_parser_trees::specs::ProofLevels::raw_end_unfold), unfolding(htt_parser_words::proofs::Steps::reading))]
     fn unfold(&self, left: u32, from: u64, name: Span, at: usize) -> Result<(RawEnd, usize), Halted>
-        ensures { Gives self.now.phrases.cursor.tokens.now raw_end_tree result (unfold_on (deeper 63 left) from name (drop at self.now.phrases.cursor.tokens.now)) }
+        ensures { ReadsAt self.now.phrases.cursor.tokens.now at raw_end_tree result (unfold_on (deeper 63 left) from name) }
     {
         let (number, at) = self.phrases.cursor.number(at)?;
         let at = self.phrases.cursor.sign(at, Sign::OpenParenSign)?;
@@ -77,7 +77,7 @@ impl Proofs<'_> {
         name: Span,
         at: usize,
     ) -> Result<(RawEnd, usize), Halted>
-        ensures { Gives self.now.phrases.cursor.tokens.now raw_end_tree result (axiom_monos_on (deeper 63 left) from name (drop at self.now.phrases.cursor.tokens.now)) }
+        ensures { ReadsAt self.now.phrases.cursor.tokens.now at raw_end_tree result (axiom_monos_on (deeper 63 left) from name) }
     {
         let (monos, at) = self.phrases.cursor.monos(left, at)?;
         let at = self.phrases.cursor.sign(at, Sign::CloseBracketSign)?;
@@ -104,7 +104,7 @@ impl Proofs<'_> {
         name: Span,
         at: usize,
     ) -> Result<(RawEnd, usize), Halted>
-        ensures { Gives self.now.phrases.cursor.tokens.now raw_end_tree result (axiom_plain_on (deeper 63 left) from name (drop at self.now.phrases.cursor.tokens.now)) }
+        ensures { ReadsAt self.now.phrases.cursor.tokens.now at raw_end_tree result (axiom_plain_on (deeper 63 left) from name) }
     {
         let (arguments, at) = self.arguments(left, at)?;
         let at = self.phrases.cursor.sign(at, Sign::CloseParenSign)?;
@@ -122,7 +122,7 @@ impl Proofs<'_> {
     /// What follows `lem` at this byte.
     #[tactic(auto, using(htt_parser_words::proofs::Steps::steps, htt_parser_trees::specs::ProofLevels::raw_end_lem), unfolding(htt_parser_words::proofs::Steps::reading))]
     pub(crate) fn lem(&self, left: u32, from: u64, at: usize) -> Result<(RawEnd, usize), Halted>
-        ensures { Gives self.now.phrases.cursor.tokens.now raw_end_tree result (lem_on (deeper 63 left) from (drop at self.now.phrases.cursor.tokens.now)) }
+        ensures { ReadsAt self.now.phrases.cursor.tokens.now at raw_end_tree result (lem_on (deeper 63 left) from) }
     {
         let at = self.phrases.cursor.sign(at, Sign::OpenBracketSign)?;
         let (formula, at) = self.phrases.deeper_formula(left, at)?;
@@ -139,7 +139,7 @@ impl Proofs<'_> {
         head: Boxed<RawProof>,
         at: usize,
     ) -> Result<(RawEnd, usize), Halted>
-        ensures { Gives self.now.phrases.cursor.tokens.now raw_end_tree result (inst_more (deeper 63 left) from 63 (raw_proof_tree head) (drop at self.now.phrases.cursor.tokens.now)) }
+        ensures { ReadsAt self.now.phrases.cursor.tokens.now at raw_end_tree result (inst_more (deeper 63 left) from 63 (raw_proof_tree head)) }
     {
         let (first, at) = self.argument(left, at)?;
         let (rest, at) = self.further_arguments(left, at)?;

@@ -3,11 +3,11 @@
 ghost use Rattle.theory_grammar.specs.Reading.{app_more, app_on, both_on, deeper, end_reader, give_on, inst_on, proofs_on, unary_reader};
 ghost use Rattle.htt_parser_proofs.specs.Levels.{IsProofLevel};
 ghost use Rattle.htt_parser_proofs.specs.Parts.{put_proof};
-ghost use Rattle.htt_parser_words.specs.Results.{Gives, GivesMore, HasRoom};
+ghost use Rattle.htt_parser_words.specs.Results.{GivesMore, HasRoom, ReadsAt};
 ghost use Rattle.htt_parser_trees.specs.ProofLevels.{raw_proof_tree, raw_proof_trees};
 ghost use Rattle.htt_parser_trees.specs.ProofViews.{raw_end_tree};
 ghost use Rattle.htt_parser_trees.specs.Trees.{no_proofs};
-ghost use Rattle.std.specs.Prelude.{drop, ◌-◌};
+ghost use Rattle.std.specs.Prelude.{◌-◌};
 
 use crate::level::ProofLevel;
 use crate::proofs::FURTHER;
@@ -22,7 +22,7 @@ impl<F: Fn(usize) -> Result<(RawProof, usize), Halted> + Copy> ProofLevel<'_, F>
     #[tactic(auto, using(htt_parser_trees::specs::ProofLevels::raw_end_name, htt_parser_trees::specs::ProofLevels::raw_end_trivial, htt_parser_trees::specs::ProofLevels::raw_end_refl), unfolding(htt_parser_words::proofs::Steps::choosing, theory_grammar::specs::Reading::end_reader))]
     pub fn end(&self, at: usize) -> Result<(RawEnd, usize), Halted>
         requires { IsProofLevel F.Fn self.now }
-        ensures { Gives self.now.proofs.phrases.cursor.tokens.now raw_end_tree result (end_reader (deeper 63 self.now.left) (drop at self.now.proofs.phrases.cursor.tokens.now)) }
+        ensures { ReadsAt self.now.proofs.phrases.cursor.tokens.now at raw_end_tree result (end_reader (deeper 63 self.now.left)) }
     {
         let Some(token) = self.proofs.phrases.cursor.token(at) else {
             return Err(Halted::At(Reason::Expected, at));
@@ -63,7 +63,7 @@ impl<F: Fn(usize) -> Result<(RawProof, usize), Halted> + Copy> ProofLevel<'_, F>
     #[tactic(auto, using(htt_parser_words::proofs::Steps::steps, htt_parser_trees::specs::ProofLevels::raw_end_unary), unfolding(htt_parser_words::proofs::Steps::reading, theory_grammar::specs::Reading::unary_reader))]
     fn unary(&self, from: u64, rule: UnaryRule, at: usize) -> Result<(RawEnd, usize), Halted>
         requires { IsProofLevel F.Fn self.now }
-        ensures { Gives self.now.proofs.phrases.cursor.tokens.now raw_end_tree result (unary_reader (deeper 63 self.now.left) from rule (drop at self.now.proofs.phrases.cursor.tokens.now)) }
+        ensures { ReadsAt self.now.proofs.phrases.cursor.tokens.now at raw_end_tree result (unary_reader (deeper 63 self.now.left) from rule) }
     {
         let at = self.proofs.phrases.cursor.sign(at, Sign::OpenParenSign)?;
         let (proof, at) = self.boxed_proof(at)?;
@@ -82,7 +82,7 @@ impl<F: Fn(usize) -> Result<(RawProof, usize), Halted> + Copy> ProofLevel<'_, F>
     #[tactic(auto, using(htt_parser_words::proofs::Steps::steps, htt_parser_trees::specs::ProofLevels::raw_end_both), unfolding(htt_parser_words::proofs::Steps::reading))]
     fn both(&self, from: u64, at: usize) -> Result<(RawEnd, usize), Halted>
         requires { IsProofLevel F.Fn self.now }
-        ensures { Gives self.now.proofs.phrases.cursor.tokens.now raw_end_tree result (both_on (deeper 63 self.now.left) from (drop at self.now.proofs.phrases.cursor.tokens.now)) }
+        ensures { ReadsAt self.now.proofs.phrases.cursor.tokens.now at raw_end_tree result (both_on (deeper 63 self.now.left) from) }
     {
         let at = self.proofs.phrases.cursor.sign(at, Sign::OpenParenSign)?;
         let (one, at) = self.boxed_proof(at)?;
@@ -103,7 +103,7 @@ impl<F: Fn(usize) -> Result<(RawProof, usize), Halted> + Copy> ProofLevel<'_, F>
     #[tactic(auto, using(htt_parser_words::proofs::Steps::steps, htt_parser_trees::specs::ProofLevels::raw_end_give), unfolding(htt_parser_words::proofs::Steps::reading))]
     fn give(&self, from: u64, at: usize) -> Result<(RawEnd, usize), Halted>
         requires { IsProofLevel F.Fn self.now }
-        ensures { Gives self.now.proofs.phrases.cursor.tokens.now raw_end_tree result (give_on (deeper 63 self.now.left) from (drop at self.now.proofs.phrases.cursor.tokens.now)) }
+        ensures { ReadsAt self.now.proofs.phrases.cursor.tokens.now at raw_end_tree result (give_on (deeper 63 self.now.left) from) }
     {
         let at = self.proofs.phrases.cursor.sign(at, Sign::OpenParenSign)?;
         let (argument, at) = self.proofs.argument(self.left, at)?;
@@ -124,7 +124,7 @@ impl<F: Fn(usize) -> Result<(RawProof, usize), Halted> + Copy> ProofLevel<'_, F>
     #[tactic(auto, using(htt_parser_words::proofs::Steps::steps, crate::proofs::Further::further_is), unfolding(htt_parser_words::proofs::Steps::reading))]
     fn app(&self, from: u64, at: usize) -> Result<(RawEnd, usize), Halted>
         requires { IsProofLevel F.Fn self.now }
-        ensures { Gives self.now.proofs.phrases.cursor.tokens.now raw_end_tree result (app_on (deeper 63 self.now.left) from (drop at self.now.proofs.phrases.cursor.tokens.now)) }
+        ensures { ReadsAt self.now.proofs.phrases.cursor.tokens.now at raw_end_tree result (app_on (deeper 63 self.now.left) from) }
     {
         let at = self.proofs.phrases.cursor.sign(at, Sign::OpenParenSign)?;
         let (head, at) = self.boxed_proof(at)?;
@@ -141,7 +141,7 @@ impl<F: Fn(usize) -> Result<(RawProof, usize), Halted> + Copy> ProofLevel<'_, F>
         at: usize,
     ) -> Result<(RawEnd, usize), Halted>
         requires { IsProofLevel F.Fn self.now }
-        ensures { Gives self.now.proofs.phrases.cursor.tokens.now raw_end_tree result (app_more (deeper 63 self.now.left) from 63 (raw_proof_tree head) (drop at self.now.proofs.phrases.cursor.tokens.now)) }
+        ensures { ReadsAt self.now.proofs.phrases.cursor.tokens.now at raw_end_tree result (app_more (deeper 63 self.now.left) from 63 (raw_proof_tree head)) }
     {
         let (first, at) = self.boxed_proof(at)?;
         let (rest, at) = self.further_proofs(at)?;
@@ -183,7 +183,7 @@ impl<F: Fn(usize) -> Result<(RawProof, usize), Halted> + Copy> ProofLevel<'_, F>
     #[tactic(auto, using(htt_parser_words::proofs::Steps::steps), unfolding(htt_parser_words::proofs::Steps::reading))]
     fn further_proofs(&self, at: usize) -> Result<(Vec<RawProof>, usize), Halted>
         requires { IsProofLevel F.Fn self.now }
-        ensures { Gives self.now.proofs.phrases.cursor.tokens.now (λ all. raw_proof_trees all.items) result (proofs_on (deeper 63 self.now.left) 62 (drop at self.now.proofs.phrases.cursor.tokens.now)) }
+        ensures { ReadsAt self.now.proofs.phrases.cursor.tokens.now at (λ all. raw_proof_trees all.items) result (proofs_on (deeper 63 self.now.left) 62) }
     {
         let mut proofs = Vec::new(self.proofs.phrases.cursor.alloc);
         let mut room = FURTHER;
@@ -200,7 +200,7 @@ impl<F: Fn(usize) -> Result<(RawProof, usize), Halted> + Copy> ProofLevel<'_, F>
     #[tactic(auto, using(htt_parser_words::proofs::Steps::steps, crate::proofs::Further::further_is), unfolding(htt_parser_words::proofs::Steps::reading))]
     fn inst(&self, from: u64, at: usize) -> Result<(RawEnd, usize), Halted>
         requires { IsProofLevel F.Fn self.now }
-        ensures { Gives self.now.proofs.phrases.cursor.tokens.now raw_end_tree result (inst_on (deeper 63 self.now.left) from (drop at self.now.proofs.phrases.cursor.tokens.now)) }
+        ensures { ReadsAt self.now.proofs.phrases.cursor.tokens.now at raw_end_tree result (inst_on (deeper 63 self.now.left) from) }
     {
         let at = self.proofs.phrases.cursor.sign(at, Sign::OpenParenSign)?;
         let (head, at) = self.boxed_proof(at)?;

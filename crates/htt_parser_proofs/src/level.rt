@@ -1,9 +1,8 @@
 //! A level of proofs, and what is read one level deeper.
 
-ghost use Rattle.std.specs.Prelude.{drop};
 ghost use Rattle.theory_grammar.specs.Reading.{deeper};
 ghost use Rattle.htt_parser_proofs.specs.Levels.{IsProofLevel};
-ghost use Rattle.htt_parser_words.specs.Results.{Gives};
+ghost use Rattle.htt_parser_words.specs.Results.{ReadsAt};
 ghost use Rattle.htt_parser_trees.specs.ProofLevels.{raw_proof_tree};
 
 use crate::proofs::Proofs;
@@ -24,7 +23,7 @@ impl<F: Fn(usize) -> Result<(RawProof, usize), Halted> + Copy> ProofLevel<'_, F>
     /// A proof one level deeper.
     pub fn deeper_proof(&self, at: usize) -> Result<(RawProof, usize), Halted>
         requires { IsProofLevel F.Fn self.now }
-        ensures { Gives self.now.proofs.phrases.cursor.tokens.now raw_proof_tree result ((deeper 63 self.now.left).proof (drop at self.now.proofs.phrases.cursor.tokens.now)) }
+        ensures { ReadsAt self.now.proofs.phrases.cursor.tokens.now at raw_proof_tree result (deeper 63 self.now.left).proof }
     {
         (self.deeper)(at)
     }
@@ -32,7 +31,7 @@ impl<F: Fn(usize) -> Result<(RawProof, usize), Halted> + Copy> ProofLevel<'_, F>
     /// A proof one level deeper, in a box.
     pub fn boxed_proof(&self, at: usize) -> Result<(Boxed<RawProof>, usize), Halted>
         requires { IsProofLevel F.Fn self.now }
-        ensures { Gives self.now.proofs.phrases.cursor.tokens.now raw_proof_tree result ((deeper 63 self.now.left).proof (drop at self.now.proofs.phrases.cursor.tokens.now)) }
+        ensures { ReadsAt self.now.proofs.phrases.cursor.tokens.now at raw_proof_tree result (deeper 63 self.now.left).proof }
     {
         let (proof, at) = self.deeper_proof(at)?;
         Ok((Boxed::new(self.proofs.phrases.cursor.alloc, proof)?, at))

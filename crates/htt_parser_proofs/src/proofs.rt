@@ -1,8 +1,7 @@
 //! What proofs are read from, with the recursion over the levels.
 
-ghost use Rattle.std.specs.Prelude.{drop};
 ghost use Rattle.theory_grammar.specs.Reading.{deeper};
-ghost use Rattle.htt_parser_words.specs.Results.{Gives};
+ghost use Rattle.htt_parser_words.specs.Results.{ReadsAt};
 ghost use Rattle.htt_parser_trees.specs.ProofLevels.{raw_proof_tree};
 
 use crate::level::ProofLevel;
@@ -22,7 +21,7 @@ pub(crate) const FURTHER: u32 = 62;
 impl Proofs<'_> {
     /// A proof one level deeper, where so many levels may be entered.
     pub fn deeper_proof(&self, left: u32, at: usize) -> Result<(RawProof, usize), Halted>
-        ensures { Gives self.now.phrases.cursor.tokens.now raw_proof_tree result ((deeper 63 left).proof (drop at self.now.phrases.cursor.tokens.now)) }
+        ensures { ReadsAt self.now.phrases.cursor.tokens.now at raw_proof_tree result (deeper 63 left).proof }
     {
         if left == 0 {
             return Err(
@@ -36,7 +35,7 @@ impl Proofs<'_> {
             proofs: *self,
             left: below,
             deeper: |at: usize| -> Result<(RawProof, usize), Halted>
-                ensures { Gives self.entry.now.phrases.cursor.tokens.now raw_proof_tree result ((deeper 63 below).proof (drop at self.entry.now.phrases.cursor.tokens.now)) }
+                ensures { ReadsAt self.entry.now.phrases.cursor.tokens.now at raw_proof_tree result (deeper 63 below).proof }
             { self.deeper_proof(below, at) },
         };
         level.proof(at)

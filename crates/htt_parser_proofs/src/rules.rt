@@ -3,11 +3,10 @@
 ghost use Rattle.theory_grammar.specs.Reading.{case_on, deeper, induct_end_on, rewrite_on, split_on, the_on};
 ghost use Rattle.htt_parser_proofs.specs.Levels.{IsProofLevel};
 ghost use Rattle.htt_parser_proofs.specs.Parts.{induct_rest_on};
-ghost use Rattle.htt_parser_words.specs.Results.{Gives};
+ghost use Rattle.htt_parser_words.specs.Results.{ReadsAt};
 ghost use Rattle.htt_parser_trees.specs.ProofLevels.{raw_proof_tree};
 ghost use Rattle.htt_parser_trees.specs.ProofViews.{raw_end_tree, raw_motive_tree};
 ghost use Rattle.htt_parser_trees.specs.TreeViews.{raw_term_tree};
-ghost use Rattle.std.specs.Prelude.{drop};
 
 use crate::level::ProofLevel;
 use htt_lexer_tokens::Sign;
@@ -20,7 +19,7 @@ impl<F: Fn(usize) -> Result<(RawProof, usize), Halted> + Copy> ProofLevel<'_, F>
     #[tactic(auto, using(htt_parser_words::proofs::Steps::steps, htt_parser_trees::specs::ProofLevels::raw_end_case), unfolding(htt_parser_words::proofs::Steps::reading))]
     pub fn case(&self, from: u64, at: usize) -> Result<(RawEnd, usize), Halted>
         requires { IsProofLevel F.Fn self.now }
-        ensures { Gives self.now.proofs.phrases.cursor.tokens.now raw_end_tree result (case_on (deeper 63 self.now.left) from (drop at self.now.proofs.phrases.cursor.tokens.now)) }
+        ensures { ReadsAt self.now.proofs.phrases.cursor.tokens.now at raw_end_tree result (case_on (deeper 63 self.now.left) from) }
     {
         let at = self.proofs.phrases.cursor.sign(at, Sign::OpenParenSign)?;
         let (proof, at) = self.boxed_proof(at)?;
@@ -50,7 +49,7 @@ impl<F: Fn(usize) -> Result<(RawProof, usize), Halted> + Copy> ProofLevel<'_, F>
     #[tactic(auto, using(htt_parser_words::proofs::Steps::steps, htt_parser_trees::specs::ProofLevels::raw_end_rewrite), unfolding(htt_parser_words::proofs::Steps::reading))]
     pub fn rewrite(&self, from: u64, at: usize) -> Result<(RawEnd, usize), Halted>
         requires { IsProofLevel F.Fn self.now }
-        ensures { Gives self.now.proofs.phrases.cursor.tokens.now raw_end_tree result (rewrite_on (deeper 63 self.now.left) from (drop at self.now.proofs.phrases.cursor.tokens.now)) }
+        ensures { ReadsAt self.now.proofs.phrases.cursor.tokens.now at raw_end_tree result (rewrite_on (deeper 63 self.now.left) from) }
     {
         let at = self.proofs.phrases.cursor.sign(at, Sign::OpenParenSign)?;
         let (equation, at) = self.boxed_proof(at)?;
@@ -74,7 +73,7 @@ impl<F: Fn(usize) -> Result<(RawProof, usize), Halted> + Copy> ProofLevel<'_, F>
     #[tactic(auto, using(htt_parser_words::proofs::Steps::steps, htt_parser_trees::specs::ProofLevels::raw_end_induct), unfolding(htt_parser_words::proofs::Steps::reading))]
     pub fn induct(&self, from: u64, at: usize) -> Result<(RawEnd, usize), Halted>
         requires { IsProofLevel F.Fn self.now }
-        ensures { Gives self.now.proofs.phrases.cursor.tokens.now raw_end_tree result (induct_end_on (deeper 63 self.now.left) from (drop at self.now.proofs.phrases.cursor.tokens.now)) }
+        ensures { ReadsAt self.now.proofs.phrases.cursor.tokens.now at raw_end_tree result (induct_end_on (deeper 63 self.now.left) from) }
     {
         let at = self.proofs.phrases.cursor.sign(at, Sign::OpenParenSign)?;
         let (motive, at) = self.proofs.motive(self.left, at)?;
@@ -97,7 +96,7 @@ impl<F: Fn(usize) -> Result<(RawProof, usize), Halted> + Copy> ProofLevel<'_, F>
         at: usize,
     ) -> Result<(RawEnd, usize), Halted>
         requires { IsProofLevel F.Fn self.now }
-        ensures { Gives self.now.proofs.phrases.cursor.tokens.now raw_end_tree result (induct_rest_on (deeper 63 self.now.left) from (raw_motive_tree motive) (raw_term_tree term) (raw_proof_tree zero) (drop at self.now.proofs.phrases.cursor.tokens.now)) }
+        ensures { ReadsAt self.now.proofs.phrases.cursor.tokens.now at raw_end_tree result (induct_rest_on (deeper 63 self.now.left) from (raw_motive_tree motive) (raw_term_tree term) (raw_proof_tree zero)) }
     {
         let (name, at) = self.proofs.phrases.cursor.binder(at)?;
         let (below, at) = self.proofs.phrases.cursor.name(at)?;
@@ -124,7 +123,7 @@ impl<F: Fn(usize) -> Result<(RawProof, usize), Halted> + Copy> ProofLevel<'_, F>
     #[tactic(auto, using(htt_parser_words::proofs::Steps::steps, htt_parser_trees::specs::ProofLevels::raw_end_split), unfolding(htt_parser_words::proofs::Steps::reading))]
     pub fn split(&self, from: u64, at: usize) -> Result<(RawEnd, usize), Halted>
         requires { IsProofLevel F.Fn self.now }
-        ensures { Gives self.now.proofs.phrases.cursor.tokens.now raw_end_tree result (split_on (deeper 63 self.now.left) from (drop at self.now.proofs.phrases.cursor.tokens.now)) }
+        ensures { ReadsAt self.now.proofs.phrases.cursor.tokens.now at raw_end_tree result (split_on (deeper 63 self.now.left) from) }
     {
         let at = self.proofs.phrases.cursor.sign(at, Sign::OpenParenSign)?;
         let (motive, at) = self.proofs.motive(self.left, at)?;
@@ -151,7 +150,7 @@ impl<F: Fn(usize) -> Result<(RawProof, usize), Halted> + Copy> ProofLevel<'_, F>
     #[tactic(auto, using(htt_parser_words::proofs::Steps::steps, htt_parser_trees::specs::ProofLevels::raw_end_the), unfolding(htt_parser_words::proofs::Steps::reading))]
     pub fn the(&self, from: u64, at: usize) -> Result<(RawEnd, usize), Halted>
         requires { IsProofLevel F.Fn self.now }
-        ensures { Gives self.now.proofs.phrases.cursor.tokens.now raw_end_tree result (the_on (deeper 63 self.now.left) from (drop at self.now.proofs.phrases.cursor.tokens.now)) }
+        ensures { ReadsAt self.now.proofs.phrases.cursor.tokens.now at raw_end_tree result (the_on (deeper 63 self.now.left) from) }
     {
         let at = self.proofs.phrases.cursor.sign(at, Sign::OpenBracketSign)?;
         let (formula, at) = self.proofs.phrases.deeper_formula(self.left, at)?;

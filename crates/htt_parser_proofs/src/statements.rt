@@ -3,7 +3,7 @@
 ghost use Rattle.theory_grammar.specs.Reading.{deeper, gen_on, have_on, intro_on, open_on, proof_reader, stmt_reader};
 ghost use Rattle.htt_parser_proofs.specs.Levels.{IsProofLevel};
 ghost use Rattle.htt_parser_proofs.specs.Parts.{ended_at, have_rest_on, put_stmt};
-ghost use Rattle.htt_parser_words.specs.Results.{Gives, mapped};
+ghost use Rattle.htt_parser_words.specs.Results.{ReadsAt, mapped};
 ghost use Rattle.htt_parser_trees.specs.ProofLevels.{raw_proof_tree};
 ghost use Rattle.htt_parser_trees.specs.ProofViews.{raw_stmt_tree};
 ghost use Rattle.htt_parser_trees.specs.TreeViews.{raw_formula_tree};
@@ -21,7 +21,7 @@ impl Proofs<'_> {
     /// What follows `intro` at this byte.
     #[tactic(auto, using(htt_parser_words::proofs::Steps::steps, htt_parser_trees::specs::ProofLevels::raw_stmt_intro), unfolding(htt_parser_words::proofs::Steps::reading))]
     fn intro(&self, from: u64, at: usize) -> Result<(RawStmt, usize), Halted>
-        ensures { Gives self.now.phrases.cursor.tokens.now raw_stmt_tree result (intro_on from (drop at self.now.phrases.cursor.tokens.now)) }
+        ensures { ReadsAt self.now.phrases.cursor.tokens.now at raw_stmt_tree result (intro_on from) }
     {
         let (name, at) = self.phrases.cursor.name(at)?;
         let at = self.phrases.cursor.sign(at, Sign::SemicolonSign)?;
@@ -31,7 +31,7 @@ impl Proofs<'_> {
     /// What follows `gen` at this byte.
     #[tactic(auto, using(htt_parser_words::proofs::Steps::steps, htt_parser_trees::specs::ProofLevels::raw_stmt_gen), unfolding(htt_parser_words::proofs::Steps::reading))]
     fn generalize(&self, from: u64, at: usize) -> Result<(RawStmt, usize), Halted>
-        ensures { Gives self.now.phrases.cursor.tokens.now raw_stmt_tree result (gen_on from (drop at self.now.phrases.cursor.tokens.now)) }
+        ensures { ReadsAt self.now.phrases.cursor.tokens.now at raw_stmt_tree result (gen_on from) }
     {
         let (name, at) = self.phrases.cursor.binder(at)?;
         let at = self.phrases.cursor.sign(at, Sign::SemicolonSign)?;
@@ -44,7 +44,7 @@ impl<F: Fn(usize) -> Result<(RawProof, usize), Halted> + Copy> ProofLevel<'_, F>
     #[tactic(auto, using(htt_parser_words::proofs::Steps::steps, htt_parser_trees::specs::ProofLevels::raw_stmt_open), unfolding(htt_parser_words::proofs::Steps::reading))]
     fn open(&self, from: u64, at: usize) -> Result<(RawStmt, usize), Halted>
         requires { IsProofLevel F.Fn self.now }
-        ensures { Gives self.now.proofs.phrases.cursor.tokens.now raw_stmt_tree result (open_on (deeper 63 self.now.left) from (drop at self.now.proofs.phrases.cursor.tokens.now)) }
+        ensures { ReadsAt self.now.proofs.phrases.cursor.tokens.now at raw_stmt_tree result (open_on (deeper 63 self.now.left) from) }
     {
         let (name, at) = self.proofs.phrases.cursor.binder(at)?;
         let (hypothesis, at) = self.proofs.phrases.cursor.name(at)?;
@@ -66,7 +66,7 @@ impl<F: Fn(usize) -> Result<(RawProof, usize), Halted> + Copy> ProofLevel<'_, F>
     #[tactic(auto, using(htt_parser_words::proofs::Steps::steps, htt_parser_trees::specs::ProofLevels::raw_stmt_have), unfolding(htt_parser_words::proofs::Steps::reading))]
     fn have(&self, from: u64, at: usize) -> Result<(RawStmt, usize), Halted>
         requires { IsProofLevel F.Fn self.now }
-        ensures { Gives self.now.proofs.phrases.cursor.tokens.now raw_stmt_tree result (have_on (deeper 63 self.now.left) from (drop at self.now.proofs.phrases.cursor.tokens.now)) }
+        ensures { ReadsAt self.now.proofs.phrases.cursor.tokens.now at raw_stmt_tree result (have_on (deeper 63 self.now.left) from) }
     {
         let (hypothesis, at) = self.proofs.phrases.cursor.name(at)?;
         let at = self.proofs.phrases.cursor.sign(at, Sign::ColonSign)?;
@@ -86,7 +86,7 @@ impl<F: Fn(usize) -> Result<(RawProof, usize), Halted> + Copy> ProofLevel<'_, F>
         at: usize,
     ) -> Result<(RawStmt, usize), Halted>
         requires { IsProofLevel F.Fn self.now }
-        ensures { Gives self.now.proofs.phrases.cursor.tokens.now raw_stmt_tree result (have_rest_on (deeper 63 self.now.left) from hypothesis (raw_formula_tree formula) (drop at self.now.proofs.phrases.cursor.tokens.now)) }
+        ensures { ReadsAt self.now.proofs.phrases.cursor.tokens.now at raw_stmt_tree result (have_rest_on (deeper 63 self.now.left) from hypothesis (raw_formula_tree formula)) }
     {
         let at = self.proofs.phrases.cursor.sign(at, Sign::EqualSign)?;
         let (proof, at) = self.deeper_proof(at)?;
@@ -106,7 +106,7 @@ impl<F: Fn(usize) -> Result<(RawProof, usize), Halted> + Copy> ProofLevel<'_, F>
     #[tactic(auto, unfolding(htt_parser_words::proofs::Steps::choosing, theory_grammar::specs::Reading::stmt_reader))]
     fn statement(&self, at: usize) -> Result<(RawStmt, usize), Halted>
         requires { IsProofLevel F.Fn self.now }
-        ensures { Gives self.now.proofs.phrases.cursor.tokens.now raw_stmt_tree result (stmt_reader (deeper 63 self.now.left) (drop at self.now.proofs.phrases.cursor.tokens.now)) }
+        ensures { ReadsAt self.now.proofs.phrases.cursor.tokens.now at raw_stmt_tree result (stmt_reader (deeper 63 self.now.left)) }
     {
         match self.proofs.phrases.cursor.token(at) {
             Some(token) => match token.kind {
@@ -124,7 +124,7 @@ impl<F: Fn(usize) -> Result<(RawProof, usize), Halted> + Copy> ProofLevel<'_, F>
     #[tactic(auto, using(htt_parser_words::proofs::Steps::steps), unfolding(htt_parser_words::proofs::Steps::reading))]
     fn ended(&self, statements: Vec<RawStmt>, at: usize) -> Result<(RawProof, usize), Halted>
         requires { IsProofLevel F.Fn self.now }
-        ensures { Gives self.now.proofs.phrases.cursor.tokens.now raw_proof_tree result (mapped (onto put_stmt statements.items) (ended_at (deeper 63 self.now.left) (drop at self.now.proofs.phrases.cursor.tokens.now))) }
+        ensures { ReadsAt self.now.proofs.phrases.cursor.tokens.now at raw_proof_tree result (λ ts. mapped (onto put_stmt statements.items) (ended_at (deeper 63 self.now.left) ts)) }
     {
         let (end, at) = self.end(at)?;
         Ok((
@@ -140,7 +140,7 @@ impl<F: Fn(usize) -> Result<(RawProof, usize), Halted> + Copy> ProofLevel<'_, F>
     #[tactic(auto, using(htt_parser_words::proofs::Steps::steps), unfolding(htt_parser_words::proofs::Steps::reading))]
     pub fn proof(&self, at: usize) -> Result<(RawProof, usize), Halted>
         requires { IsProofLevel F.Fn self.now }
-        ensures { Gives self.now.proofs.phrases.cursor.tokens.now raw_proof_tree result (proof_reader (deeper 63 self.now.left) (drop at self.now.proofs.phrases.cursor.tokens.now)) }
+        ensures { ReadsAt self.now.proofs.phrases.cursor.tokens.now at raw_proof_tree result (proof_reader (deeper 63 self.now.left)) }
     {
         let mut statements = Vec::new(self.proofs.phrases.cursor.alloc);
         let mut at = at;

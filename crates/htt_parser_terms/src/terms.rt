@@ -4,8 +4,8 @@ ghost use Rattle.std.specs.Prelude.{◌≡◌, ℕ, suc, drop};
 ghost use Rattle.theory_grammar.specs.Phrases.{do_on, fix_on, fun_binder_on, fun_mono_on, fun_on, params_on, rel_term_on, term_reader, terms_on, terms_there, triple_reader};
 ghost use Rattle.theory_grammar.specs.Readers.{measured};
 ghost use Rattle.theory_grammar.specs.Reading.{deeper};
-ghost use Rattle.htt_parser_levels.specs.Levels.{IsLevel};
-ghost use Rattle.htt_parser_words.specs.Results.{Gives, GivesMore, mapped};
+ghost use Rattle.htt_parser_levels.specs.Levels.{IsLevel, Reads, ReadsMore};
+ghost use Rattle.htt_parser_words.specs.Results.{Gives, mapped};
 ghost use Rattle.htt_parser_trees.specs.TreeLevels.{raw_params_tree, raw_term_trees, raw_triple_tree};
 ghost use Rattle.htt_parser_trees.specs.TreeViews.{raw_param_tree, raw_term_tree, raw_ty_tree};
 ghost use Rattle.htt_parser_trees.specs.Trees.{more_params, more_terms, no_params, no_terms, onto};
@@ -29,14 +29,14 @@ fn parameter(binder: Binder, ty: RawTy) -> RawParam
     }
 }
 
-impl<F: Fn(Wanted, usize) -> Result<(Found, usize), Halted>> Terms<'_, F> {
+impl<F: Fn(Wanted, usize) -> Result<(Found, usize), Halted> + Copy> Terms<'_, F> {
     /// A term.
     #[tactic(auto, unfolding(htt_parser_words::proofs::Steps::choosing, theory_grammar::specs::Phrases::term_reader))]
     pub fn term(&self, at: usize) -> Result<(RawTerm, usize), Halted>
-        requires { IsLevel F.Fn self.now.operands.level }
-        ensures { Gives self.now.operands.level.cursor.tokens.now raw_term_tree result (term_reader (deeper 63 self.now.operands.level.left) (drop at self.now.operands.level.cursor.tokens.now)) }
+        requires { IsLevel F.Fn self.now.level }
+        ensures { Reads self.now.level at raw_term_tree result term_reader }
     {
-        match self.operands.level.cursor.token(at) {
+        match self.level.cursor.token(at) {
             Some(token) => match token.kind {
                 Kind::Keyword(Keyword::FunWord) => self.function(token.from, at + 1),
                 Kind::Keyword(Keyword::DoWord) => self.do_block(token.from, at + 1),
@@ -50,15 +50,10 @@ impl<F: Fn(Wanted, usize) -> Result<(Found, usize), Halted>> Terms<'_, F> {
     /// What follows `fun` at this byte.
     #[tactic(auto, using(htt_parser_words::proofs::Steps::steps), unfolding(htt_parser_words::proofs::Steps::reading))]
     fn function(&self, from: u64, at: usize) -> Result<(RawTerm, usize), Halted>
-        requires { IsLevel F.Fn self.now.operands.level }
-        ensures { Gives self.now.operands.level.cursor.tokens.now raw_term_tree result (fun_on (deeper 63 self.now.operands.level.left) from (drop at self.now.operands.level.cursor.tokens.now)) }
+        requires { IsLevel F.Fn self.now.level }
+        ensures { Reads self.now.level at raw_term_tree result (λ d. fun_on d from) }
     {
-        if self
-            .operands
-            .level
-            .cursor
-            .is_sign(at, Sign::OpenBracketSign)
-        {
+        if self.level.cursor.is_sign(at, Sign::OpenBracketSign) {
             self.mono_function(from, at + 1)
         } else {
             self.term_function(from, at)
@@ -68,13 +63,13 @@ impl<F: Fn(Wanted, usize) -> Result<(Found, usize), Halted>> Terms<'_, F> {
     /// What follows `fun [`.
     #[tactic(auto, using(htt_parser_words::proofs::Steps::steps, htt_parser_trees::specs::TreeLevels::raw_term_fun_mono), unfolding(htt_parser_words::proofs::Steps::reading))]
     fn mono_function(&self, from: u64, at: usize) -> Result<(RawTerm, usize), Halted>
-        requires { IsLevel F.Fn self.now.operands.level }
-        ensures { Gives self.now.operands.level.cursor.tokens.now raw_term_tree result (fun_mono_on (deeper 63 self.now.operands.level.left) from (drop at self.now.operands.level.cursor.tokens.now)) }
+        requires { IsLevel F.Fn self.now.level }
+        ensures { Reads self.now.level at raw_term_tree result (λ d. fun_mono_on d from) }
     {
-        let (parameter, at) = self.operands.level.cursor.name(at)?;
-        let at = self.operands.level.cursor.sign(at, Sign::CloseBracketSign)?;
-        let at = self.operands.level.cursor.sign(at, Sign::DotSign)?;
-        let (body, at) = self.operands.level.boxed_term(at)?;
+        let (parameter, at) = self.level.cursor.name(at)?;
+        let at = self.level.cursor.sign(at, Sign::CloseBracketSign)?;
+        let at = self.level.cursor.sign(at, Sign::DotSign)?;
+        let (body, at) = self.level.boxed_term(at)?;
         Ok((
             RawTerm::FunMono {
                 at: from,
@@ -88,12 +83,12 @@ impl<F: Fn(Wanted, usize) -> Result<(Found, usize), Halted>> Terms<'_, F> {
     /// What follows `fun` where it binds a term.
     #[tactic(auto, using(htt_parser_words::proofs::Steps::steps, htt_parser_trees::specs::TreeLevels::raw_term_fun), unfolding(htt_parser_words::proofs::Steps::reading))]
     fn term_function(&self, from: u64, at: usize) -> Result<(RawTerm, usize), Halted>
-        requires { IsLevel F.Fn self.now.operands.level }
-        ensures { Gives self.now.operands.level.cursor.tokens.now raw_term_tree result (fun_binder_on (deeper 63 self.now.operands.level.left) from (drop at self.now.operands.level.cursor.tokens.now)) }
+        requires { IsLevel F.Fn self.now.level }
+        ensures { Reads self.now.level at raw_term_tree result (λ d. fun_binder_on d from) }
     {
-        let (parameter, at) = self.operands.level.cursor.binder(at)?;
-        let at = self.operands.level.cursor.sign(at, Sign::DotSign)?;
-        let (body, at) = self.operands.level.boxed_term(at)?;
+        let (parameter, at) = self.level.cursor.binder(at)?;
+        let at = self.level.cursor.sign(at, Sign::DotSign)?;
+        let (body, at) = self.level.boxed_term(at)?;
         Ok((
             RawTerm::Fun {
                 at: from,
@@ -107,71 +102,71 @@ impl<F: Fn(Wanted, usize) -> Result<(Found, usize), Halted>> Terms<'_, F> {
     /// What follows `do` at this byte.
     #[tactic(auto, using(htt_parser_words::proofs::Steps::steps, htt_parser_trees::specs::TreeLevels::raw_term_do), unfolding(htt_parser_words::proofs::Steps::reading))]
     fn do_block(&self, from: u64, at: usize) -> Result<(RawTerm, usize), Halted>
-        requires { IsLevel F.Fn self.now.operands.level }
-        ensures { Gives self.now.operands.level.cursor.tokens.now raw_term_tree result (do_on (deeper 63 self.now.operands.level.left) from (drop at self.now.operands.level.cursor.tokens.now)) }
+        requires { IsLevel F.Fn self.now.level }
+        ensures { Reads self.now.level at raw_term_tree result (λ d. do_on d from) }
     {
-        let (comp, at) = self.operands.level.deeper_comp(at)?;
-        let body = Boxed::new(self.operands.level.cursor.alloc, comp)?;
+        let (comp, at) = self.level.deeper_comp(at)?;
+        let body = Boxed::new(self.level.cursor.alloc, comp)?;
         Ok((RawTerm::Do { at: from, body }, at))
     }
 
     /// What follows `fix` at this byte.
     #[tactic(auto, using(htt_parser_words::proofs::Steps::steps, htt_parser_trees::specs::TreeLevels::raw_term_fix), unfolding(htt_parser_words::proofs::Steps::reading))]
     fn fix(&self, from: u64, at: usize) -> Result<(RawTerm, usize), Halted>
-        requires { IsLevel F.Fn self.now.operands.level }
-        ensures { Gives self.now.operands.level.cursor.tokens.now raw_term_tree result (fix_on (deeper 63 self.now.operands.level.left) from (drop at self.now.operands.level.cursor.tokens.now)) }
+        requires { IsLevel F.Fn self.now.level }
+        ensures { Reads self.now.level at raw_term_tree result (λ d. fix_on d from) }
     {
-        let (name, at) = self.operands.level.cursor.name(at)?;
+        let (name, at) = self.level.cursor.name(at)?;
         let (params, at) = self.params(at)?;
-        let at = self.operands.level.cursor.sign(at, Sign::ColonSign)?;
-        let at = self.operands.level.cursor.sign(at, Sign::OpenBraceSign)?;
+        let at = self.level.cursor.sign(at, Sign::ColonSign)?;
+        let at = self.level.cursor.sign(at, Sign::OpenBraceSign)?;
         let (triple, at) = self.triple(at)?;
-        let at = self.operands.level.cursor.sign(at, Sign::DotSign)?;
-        let (body, at) = self.operands.level.deeper_comp(at)?;
+        let at = self.level.cursor.sign(at, Sign::DotSign)?;
+        let (body, at) = self.level.deeper_comp(at)?;
         let fix = RawFix {
             name,
             params: Seq::of(params),
             triple,
             body,
         };
-        let fix = Boxed::new(self.operands.level.cursor.alloc, fix)?;
+        let fix = Boxed::new(self.level.cursor.alloc, fix)?;
         Ok((RawTerm::Fix { at: from, fix }, at))
     }
 
     /// A sum or a comparison as a term.
     #[tactic(auto, using(htt_parser_words::proofs::Steps::steps, htt_parser_trees::specs::TreeLevels::raw_term_rel), unfolding(htt_parser_words::proofs::Steps::reading))]
     fn rel_term(&self, at: usize) -> Result<(RawTerm, usize), Halted>
-        requires { IsLevel F.Fn self.now.operands.level }
-        ensures { Gives self.now.operands.level.cursor.tokens.now raw_term_tree result (rel_term_on (deeper 63 self.now.operands.level.left) (drop at self.now.operands.level.cursor.tokens.now)) }
+        requires { IsLevel F.Fn self.now.level }
+        ensures { Reads self.now.level at raw_term_tree result rel_term_on }
     {
-        let (rel, at) = self.operands.boxed_rel(at)?;
+        let (rel, at) = self.operands().boxed_rel(at)?;
         Ok((RawTerm::Rel(rel), at))
     }
 
     /// A parameter in brackets, if there is one.
     #[tactic(auto, using(htt_parser_words::proofs::Steps::steps), unfolding(htt_parser_words::proofs::Steps::reading, theory_grammar::specs::Phrases::params_on))]
     fn param(&self, at: usize) -> Result<Option<(RawParam, usize)>, Halted>
-        requires { IsLevel F.Fn self.now.operands.level }
-        ensures { (n : ℕ) → GivesMore self.now.operands.level.cursor.tokens.now raw_param_tree no_params result (params_on (deeper 63 self.now.operands.level.left) (suc n)) (params_on (deeper 63 self.now.operands.level.left) n) at }
+        requires { IsLevel F.Fn self.now.level }
+        ensures { (n : ℕ) → ReadsMore self.now.level at raw_param_tree no_params result (λ d. params_on d (suc n)) (λ d. params_on d n) }
     {
-        if !self.operands.level.cursor.is_sign(at, Sign::OpenParenSign) {
+        if !self.level.cursor.is_sign(at, Sign::OpenParenSign) {
             return Ok(None);
         }
-        let (binder, at) = self.operands.level.cursor.binder(at + 1)?;
-        let at = self.operands.level.cursor.sign(at, Sign::ColonSign)?;
-        let (ty, at) = self.operands.level.deeper_ty(at)?;
-        let at = self.operands.level.cursor.sign(at, Sign::CloseParenSign)?;
+        let (binder, at) = self.level.cursor.binder(at + 1)?;
+        let at = self.level.cursor.sign(at, Sign::ColonSign)?;
+        let (ty, at) = self.level.deeper_ty(at)?;
+        let at = self.level.cursor.sign(at, Sign::CloseParenSign)?;
         Ok(Some((parameter(binder, ty), at)))
     }
 
     /// Parameters, each in brackets.
     fn params(&self, at: usize) -> Result<(Vec<RawParam>, usize), Halted>
-        requires { IsLevel F.Fn self.now.operands.level }
-        ensures { Gives self.now.operands.level.cursor.tokens.now (λ params. raw_params_tree params.items) result (measured (params_on (deeper 63 self.now.operands.level.left)) (drop at self.now.operands.level.cursor.tokens.now)) }
+        requires { IsLevel F.Fn self.now.level }
+        ensures { Reads self.now.level at (λ params. raw_params_tree params.items) result (λ d. measured (params_on d)) }
     {
-        let mut params = Vec::new(self.operands.level.cursor.alloc);
+        let mut params = Vec::new(self.level.cursor.alloc);
         let mut at = at;
-        for _ in at..self.operands.level.cursor.tokens.len() {
+        for _ in at..self.level.cursor.tokens.len() {
             match self.param(at)? {
                 None => break,
                 Some((param, next)) => {
@@ -186,21 +181,17 @@ impl<F: Fn(Wanted, usize) -> Result<(Found, usize), Halted>> Terms<'_, F> {
     /// What follows the first brace of a triple.
     #[tactic(auto, using(htt_parser_words::proofs::Steps::steps), unfolding(htt_parser_words::proofs::Steps::reading, theory_grammar::specs::Phrases::triple_reader, htt_parser_trees::specs::TreeLevels::raw_triple_tree))]
     pub fn triple(&self, at: usize) -> Result<(RawTriple, usize), Halted>
-        requires { IsLevel F.Fn self.now.operands.level }
-        ensures { Gives self.now.operands.level.cursor.tokens.now raw_triple_tree result (triple_reader (deeper 63 self.now.operands.level.left) (drop at self.now.operands.level.cursor.tokens.now)) }
+        requires { IsLevel F.Fn self.now.level }
+        ensures { Reads self.now.level at raw_triple_tree result triple_reader }
     {
-        let (pre, at) = self.operands.level.deeper_formula(at)?;
-        let at = self.operands.level.cursor.sign(at, Sign::CloseBraceSign)?;
-        let (name, at) = self.operands.level.cursor.binder(at)?;
-        let at = self.operands.level.cursor.sign(at, Sign::ColonSign)?;
-        let (result, at) = self
-            .operands
-            .level
-            .cursor
-            .mono(self.operands.level.left, at)?;
-        let at = self.operands.level.cursor.sign(at, Sign::OpenBraceSign)?;
-        let (post, at) = self.operands.level.deeper_formula(at)?;
-        let at = self.operands.level.cursor.sign(at, Sign::CloseBraceSign)?;
+        let (pre, at) = self.level.deeper_formula(at)?;
+        let at = self.level.cursor.sign(at, Sign::CloseBraceSign)?;
+        let (name, at) = self.level.cursor.binder(at)?;
+        let at = self.level.cursor.sign(at, Sign::ColonSign)?;
+        let (result, at) = self.level.cursor.mono(self.level.left, at)?;
+        let at = self.level.cursor.sign(at, Sign::OpenBraceSign)?;
+        let (post, at) = self.level.deeper_formula(at)?;
+        let at = self.level.cursor.sign(at, Sign::CloseBraceSign)?;
         Ok((
             RawTriple {
                 pre,
@@ -215,13 +206,13 @@ impl<F: Fn(Wanted, usize) -> Result<(Found, usize), Halted>> Terms<'_, F> {
     /// A comma and a term, if there is a comma.
     #[tactic(auto, using(htt_parser_words::proofs::Steps::steps), unfolding(htt_parser_words::proofs::Steps::reading, theory_grammar::specs::Phrases::terms_on))]
     fn more_term(&self, at: usize) -> Result<Option<(RawTerm, usize)>, Halted>
-        requires { IsLevel F.Fn self.now.operands.level }
-        ensures { (n : ℕ) → GivesMore self.now.operands.level.cursor.tokens.now (λ m. more_terms (raw_term_tree m)) no_terms result (terms_on (deeper 63 self.now.operands.level.left) (suc n)) (terms_on (deeper 63 self.now.operands.level.left) n) at }
+        requires { IsLevel F.Fn self.now.level }
+        ensures { (n : ℕ) → ReadsMore self.now.level at (λ m. more_terms (raw_term_tree m)) no_terms result (λ d. terms_on d (suc n)) (λ d. terms_on d n) }
     {
-        if !self.operands.level.cursor.is_sign(at, Sign::CommaSign) {
+        if !self.level.cursor.is_sign(at, Sign::CommaSign) {
             return Ok(None);
         }
-        let (term, at) = self.operands.level.deeper_term(at + 1)?;
+        let (term, at) = self.level.deeper_term(at + 1)?;
         Ok(Some((term, at)))
     }
 
@@ -231,12 +222,12 @@ impl<F: Fn(Wanted, usize) -> Result<(Found, usize), Halted>> Terms<'_, F> {
         terms: Vec<RawTerm>,
         at: usize,
     ) -> Result<(Vec<RawTerm>, usize), Halted>
-        requires { IsLevel F.Fn self.now.operands.level }
-        ensures { Gives self.now.operands.level.cursor.tokens.now (λ all. raw_term_trees all.items) result (mapped (onto (λ m. more_terms (raw_term_tree m)) terms.items) (measured (terms_on (deeper 63 self.now.operands.level.left)) (drop at self.now.operands.level.cursor.tokens.now))) }
+        requires { IsLevel F.Fn self.now.level }
+        ensures { Reads self.now.level at (λ all. raw_term_trees all.items) result (λ d ts. mapped (onto (λ m. more_terms (raw_term_tree m)) terms.items) (measured (terms_on d) ts)) }
     {
         let mut terms = terms;
         let mut at = at;
-        for _ in at..self.operands.level.cursor.tokens.len() {
+        for _ in at..self.level.cursor.tokens.len() {
             match self.more_term(at)? {
                 None => break,
                 Some((term, next)) => {
@@ -250,14 +241,14 @@ impl<F: Fn(Wanted, usize) -> Result<(Found, usize), Halted>> Terms<'_, F> {
 
     /// Terms before a closing bracket, with commas between them.
     pub fn arguments(&self, at: usize) -> Result<(Vec<RawTerm>, usize), Halted>
-        requires { IsLevel F.Fn self.now.operands.level }
-        ensures { Gives self.now.operands.level.cursor.tokens.now (λ terms. raw_term_trees terms.items) result (terms_there (deeper 63 self.now.operands.level.left) (drop at self.now.operands.level.cursor.tokens.now)) }
+        requires { IsLevel F.Fn self.now.level }
+        ensures { Reads self.now.level at (λ terms. raw_term_trees terms.items) result terms_there }
     {
-        let mut terms = Vec::new(self.operands.level.cursor.alloc);
-        if self.operands.level.cursor.is_sign(at, Sign::CloseParenSign) {
+        let mut terms = Vec::new(self.level.cursor.alloc);
+        if self.level.cursor.is_sign(at, Sign::CloseParenSign) {
             return Ok((terms, at));
         }
-        let (first, at) = self.operands.level.deeper_term(at)?;
+        let (first, at) = self.level.deeper_term(at)?;
         terms.push(first)?;
         self.more_terms(terms, at)
     }

@@ -3,9 +3,7 @@
 ghost use Rattle.std.specs.Prelude.{◌≡◌, drop};
 ghost use Rattle.theory_grammar.specs.Phrases.{all_on, function_binder, function_case, function_on, hoare_on, mono_ty_on, starts_function, ty_reader, ty_case};
 ghost use Rattle.theory_grammar.specs.Readers.{either, stop};
-ghost use Rattle.theory_grammar.specs.Reading.{deeper};
-ghost use Rattle.htt_parser_levels.specs.Levels.{IsLevel};
-ghost use Rattle.htt_parser_words.specs.Results.{Gives};
+ghost use Rattle.htt_parser_levels.specs.Levels.{IsLevel, Reads};
 ghost use Rattle.htt_parser_trees.specs.TreeViews.{raw_ty_tree};
 
 use crate::readers::Terms;
@@ -15,16 +13,16 @@ use htt_parser_trees::RawTy;
 use htt_parser_words::{Halted, Reason};
 use sqlite_items::Boxed;
 
-impl<F: Fn(Wanted, usize) -> Result<(Found, usize), Halted>> Terms<'_, F> {
+impl<F: Fn(Wanted, usize) -> Result<(Found, usize), Halted> + Copy> Terms<'_, F> {
     /// Whether what follows `(` is `_`, or a name and `:`.
     fn function_binder(&self, at: usize) -> bool
-        ensures { result ≡ function_binder (drop at self.now.operands.level.cursor.tokens.now) }
+        ensures { result ≡ function_binder (drop at self.now.level.cursor.tokens.now) }
     {
-        match self.operands.level.cursor.token(at) {
+        match self.level.cursor.token(at) {
             Some(token) => {
                 token.kind == Kind::Sign(Sign::UnderscoreSign)
                     || (token.kind == Kind::Name
-                        && self.operands.level.cursor.is_sign(at + 1, Sign::ColonSign))
+                        && self.level.cursor.is_sign(at + 1, Sign::ColonSign))
             }
             None => false,
         }
@@ -32,9 +30,9 @@ impl<F: Fn(Wanted, usize) -> Result<(Found, usize), Halted>> Terms<'_, F> {
 
     /// Whether a type of a function begins here: `(` and `_`, or `(`, a name and `:`.
     fn starts_function(&self, at: usize) -> bool
-        ensures { result ≡ starts_function (drop at self.now.operands.level.cursor.tokens.now) }
+        ensures { result ≡ starts_function (drop at self.now.level.cursor.tokens.now) }
     {
-        match self.operands.level.cursor.token(at) {
+        match self.level.cursor.token(at) {
             Some(token) => {
                 token.kind == Kind::Sign(Sign::OpenParenSign) && self.function_binder(at + 1)
             }
@@ -44,8 +42,8 @@ impl<F: Fn(Wanted, usize) -> Result<(Found, usize), Halted>> Terms<'_, F> {
 
     /// A type.
     pub fn ty(&self, at: usize) -> Result<(RawTy, usize), Halted>
-        requires { IsLevel F.Fn self.now.operands.level }
-        ensures { Gives self.now.operands.level.cursor.tokens.now raw_ty_tree result (ty_reader (deeper 63 self.now.operands.level.left) (drop at self.now.operands.level.cursor.tokens.now)) }
+        requires { IsLevel F.Fn self.now.level }
+        ensures { Reads self.now.level at raw_ty_tree result ty_reader }
     {
         if self.starts_function(at) {
             self.function_ty(at)
@@ -57,10 +55,10 @@ impl<F: Fn(Wanted, usize) -> Result<(Found, usize), Halted>> Terms<'_, F> {
     /// A type of a function.
     #[tactic(auto, unfolding(htt_parser_words::proofs::Steps::choosing))]
     fn function_ty(&self, at: usize) -> Result<(RawTy, usize), Halted>
-        requires { IsLevel F.Fn self.now.operands.level }
-        ensures { Gives self.now.operands.level.cursor.tokens.now raw_ty_tree result (either (function_case (deeper 63 self.now.operands.level.left)) stop (drop at self.now.operands.level.cursor.tokens.now)) }
+        requires { IsLevel F.Fn self.now.level }
+        ensures { Reads self.now.level at raw_ty_tree result (λ d. either (function_case d) stop) }
     {
-        match self.operands.level.cursor.token(at) {
+        match self.level.cursor.token(at) {
             Some(token) => match token.kind {
                 Kind::Sign(Sign::OpenParenSign) => self.parameter_ty(token.from, at + 1),
                 _ => Err(Halted::At(Reason::Expected, at)),
@@ -72,15 +70,15 @@ impl<F: Fn(Wanted, usize) -> Result<(Found, usize), Halted>> Terms<'_, F> {
     /// What follows `(` in a type of a function.
     #[tactic(auto, using(htt_parser_words::proofs::Steps::steps, htt_parser_trees::specs::TreeLevels::raw_ty_fun), unfolding(htt_parser_words::proofs::Steps::reading))]
     fn parameter_ty(&self, from: u64, at: usize) -> Result<(RawTy, usize), Halted>
-        requires { IsLevel F.Fn self.now.operands.level }
-        ensures { Gives self.now.operands.level.cursor.tokens.now raw_ty_tree result (function_on (deeper 63 self.now.operands.level.left) from (drop at self.now.operands.level.cursor.tokens.now)) }
+        requires { IsLevel F.Fn self.now.level }
+        ensures { Reads self.now.level at raw_ty_tree result (λ d. function_on d from) }
     {
-        let (parameter, at) = self.operands.level.cursor.binder(at)?;
-        let at = self.operands.level.cursor.sign(at, Sign::ColonSign)?;
-        let (argument, at) = self.operands.level.boxed_ty(at)?;
-        let at = self.operands.level.cursor.sign(at, Sign::CloseParenSign)?;
-        let at = self.operands.level.cursor.sign(at, Sign::ArrowSign)?;
-        let (answer, at) = self.operands.level.boxed_ty(at)?;
+        let (parameter, at) = self.level.cursor.binder(at)?;
+        let at = self.level.cursor.sign(at, Sign::ColonSign)?;
+        let (argument, at) = self.level.boxed_ty(at)?;
+        let at = self.level.cursor.sign(at, Sign::CloseParenSign)?;
+        let at = self.level.cursor.sign(at, Sign::ArrowSign)?;
+        let (answer, at) = self.level.boxed_ty(at)?;
         Ok((
             RawTy::Fun {
                 at: from,
@@ -95,10 +93,10 @@ impl<F: Fn(Wanted, usize) -> Result<(Found, usize), Halted>> Terms<'_, F> {
     /// A type that is none of a function.
     #[tactic(auto, unfolding(htt_parser_words::proofs::Steps::choosing))]
     fn other_ty(&self, at: usize) -> Result<(RawTy, usize), Halted>
-        requires { IsLevel F.Fn self.now.operands.level }
-        ensures { Gives self.now.operands.level.cursor.tokens.now raw_ty_tree result (either (ty_case (deeper 63 self.now.operands.level.left)) (mono_ty_on (deeper 63 self.now.operands.level.left)) (drop at self.now.operands.level.cursor.tokens.now)) }
+        requires { IsLevel F.Fn self.now.level }
+        ensures { Reads self.now.level at raw_ty_tree result (λ d. either (ty_case d) (mono_ty_on d)) }
     {
-        match self.operands.level.cursor.token(at) {
+        match self.level.cursor.token(at) {
             Some(token) => match token.kind {
                 Kind::Sign(Sign::OpenBracketSign) => self.all_ty(token.from, at + 1),
                 Kind::Sign(Sign::OpenBraceSign) => self.hoare_ty(token.from, at + 1),
@@ -111,13 +109,13 @@ impl<F: Fn(Wanted, usize) -> Result<(Found, usize), Halted>> Terms<'_, F> {
     /// What follows `[` in a type over all monotypes.
     #[tactic(auto, using(htt_parser_words::proofs::Steps::steps, htt_parser_trees::specs::TreeLevels::raw_ty_all), unfolding(htt_parser_words::proofs::Steps::reading))]
     fn all_ty(&self, from: u64, at: usize) -> Result<(RawTy, usize), Halted>
-        requires { IsLevel F.Fn self.now.operands.level }
-        ensures { Gives self.now.operands.level.cursor.tokens.now raw_ty_tree result (all_on (deeper 63 self.now.operands.level.left) from (drop at self.now.operands.level.cursor.tokens.now)) }
+        requires { IsLevel F.Fn self.now.level }
+        ensures { Reads self.now.level at raw_ty_tree result (λ d. all_on d from) }
     {
-        let (parameter, at) = self.operands.level.cursor.name(at)?;
-        let at = self.operands.level.cursor.sign(at, Sign::CloseBracketSign)?;
-        let at = self.operands.level.cursor.sign(at, Sign::ArrowSign)?;
-        let (body, at) = self.operands.level.boxed_ty(at)?;
+        let (parameter, at) = self.level.cursor.name(at)?;
+        let at = self.level.cursor.sign(at, Sign::CloseBracketSign)?;
+        let at = self.level.cursor.sign(at, Sign::ArrowSign)?;
+        let (body, at) = self.level.boxed_ty(at)?;
         Ok((
             RawTy::All {
                 at: from,
@@ -131,24 +129,20 @@ impl<F: Fn(Wanted, usize) -> Result<(Found, usize), Halted>> Terms<'_, F> {
     /// What follows `{` in a Hoare type.
     #[tactic(auto, using(htt_parser_words::proofs::Steps::steps, htt_parser_trees::specs::TreeLevels::raw_ty_hoare), unfolding(htt_parser_words::proofs::Steps::reading))]
     fn hoare_ty(&self, from: u64, at: usize) -> Result<(RawTy, usize), Halted>
-        requires { IsLevel F.Fn self.now.operands.level }
-        ensures { Gives self.now.operands.level.cursor.tokens.now raw_ty_tree result (hoare_on (deeper 63 self.now.operands.level.left) from (drop at self.now.operands.level.cursor.tokens.now)) }
+        requires { IsLevel F.Fn self.now.level }
+        ensures { Reads self.now.level at raw_ty_tree result (λ d. hoare_on d from) }
     {
         let (triple, at) = self.triple(at)?;
-        let triple = Boxed::new(self.operands.level.cursor.alloc, triple)?;
+        let triple = Boxed::new(self.level.cursor.alloc, triple)?;
         Ok((RawTy::Hoare { at: from, triple }, at))
     }
 
     /// A monotype as a type.
     #[tactic(auto, using(htt_parser_words::proofs::Steps::steps, htt_parser_trees::specs::TreeLevels::raw_ty_mono), unfolding(htt_parser_words::proofs::Steps::reading))]
     fn mono_ty(&self, at: usize) -> Result<(RawTy, usize), Halted>
-        ensures { Gives self.now.operands.level.cursor.tokens.now raw_ty_tree result (mono_ty_on (deeper 63 self.now.operands.level.left) (drop at self.now.operands.level.cursor.tokens.now)) }
+        ensures { Reads self.now.level at raw_ty_tree result mono_ty_on }
     {
-        let (mono, at) = self
-            .operands
-            .level
-            .cursor
-            .mono(self.operands.level.left, at)?;
+        let (mono, at) = self.level.cursor.mono(self.level.left, at)?;
         Ok((RawTy::Mono(mono), at))
     }
 }

@@ -23,6 +23,10 @@ abbrev pub Gives : {X Y : Type 0} → List Token → (X → Y) → Result (X × 
 Gives tokens view (Ok read) told = told ≡ Ok (view read.0, drop read.1 tokens)
 Gives tokens view (Err halted) told = StopsAs tokens halted told
 
+-- what is read from this place on is what the reader of a production reads there
+abbrev pub ReadsAt : {X Y : Type 0} → List Token → ℕ → (X → Y) → Result (X × ℕ) Halted → Reader Y → Type 0
+ReadsAt tokens at view result reader = Gives tokens view result (reader (drop at tokens))
+
 -- the same where nothing is answered but the place
 abbrev pub Passes : List Token → Result ℕ Halted → Result (Unit {0} × List Token) Halt → Type 0
 Passes tokens (Ok next) told = told ≡ Ok (tt, drop next tokens)

@@ -10,7 +10,7 @@ ghost use Rattle.theory_grammar.specs.Reading.{deeper};
 ghost use Rattle.htt_parser_trees.specs.Trees.{RawMonoTree, m_brackets, with_right};
 ghost use Rattle.htt_parser_trees.specs.MonoViews.{raw_right_tree, raw_bracket_tree};
 ghost use Rattle.htt_parser_trees.specs.MonoLevels.{raw_mono_tree, raw_brackets_tree};
-ghost use Rattle.htt_parser_words.specs.Results.{Gives, GivesMore};
+ghost use Rattle.htt_parser_words.specs.Results.{GivesMore, ReadsAt};
 ghost use Rattle.htt_parser_words.specs.Lists.{monos_at};
 ghost use Rattle.htt_parser_words.specs.Brackets.{opened};
 
@@ -52,7 +52,7 @@ impl Cursor<'_> {
     /// A monotype where `left` further levels may be entered.
     #[cycle(mono)]
     pub fn mono(&self, left: u32, at: usize) -> Result<(RawMono, usize), Halted>
-        ensures { Gives self.now.tokens.now raw_mono_tree result (mono_reader (deeper 63 left) (drop at self.now.tokens.now)) }
+        ensures { ReadsAt self.now.tokens.now at raw_mono_tree result (mono_reader (deeper 63 left)) }
     {
         let (opens, at) = self.opens(at)?;
         let (name, at) = self.mono_name(at)?;
@@ -71,7 +71,7 @@ impl Cursor<'_> {
     /// What stands at the right of an operand.
     #[cycle(mono)]
     fn mono_right(&self, left: u32, at: usize) -> Result<(RawRight, usize), Halted>
-        ensures { Gives self.now.tokens.now raw_right_tree result (mono_right (deeper 63 left) (drop at self.now.tokens.now)) }
+        ensures { ReadsAt self.now.tokens.now at raw_right_tree result (mono_right (deeper 63 left)) }
     {
         match self.token(at) {
             Some(token) if token.kind == Kind::Sign(Sign::StarSign) => {
@@ -85,7 +85,7 @@ impl Cursor<'_> {
     /// A monotype one level deeper.
     #[cycle(mono)]
     pub fn deeper_mono(&self, left: u32, at: usize) -> Result<(RawMono, usize), Halted>
-        ensures { Gives self.now.tokens.now raw_mono_tree result ((deeper 63 left).mono (drop at self.now.tokens.now)) }
+        ensures { ReadsAt self.now.tokens.now at raw_mono_tree result (deeper 63 left).mono }
     {
         if left == 0 {
             Err(self.refuse(Reason::TooNested, Phrase::Mono, at))
@@ -102,7 +102,7 @@ impl Cursor<'_> {
         opens: Vec<u64>,
         at: usize,
     ) -> Result<(Vec<RawBracket>, usize), Halted>
-        ensures { (m : RawMonoTree) → Gives self.now.tokens.now (λ brackets. raw_brackets_tree brackets.items m) result (mono_closes (deeper 63 left) (reverse opens.items) m (drop at self.now.tokens.now)) }
+        ensures { (m : RawMonoTree) → ReadsAt self.now.tokens.now at (λ brackets. raw_brackets_tree brackets.items m) result (mono_closes (deeper 63 left) (reverse opens.items) m) }
     {
         let mut opens = opens;
         let mut at = at;
@@ -119,7 +119,7 @@ impl Cursor<'_> {
     /// A monotype in square brackets.
     #[tactic(auto, using(crate::proofs::Steps::steps), unfolding(crate::proofs::Steps::reading, theory_grammar::specs::Phrases::bracketed))]
     pub fn bracketed(&self, left: u32, at: usize) -> Result<(RawMono, usize), Halted>
-        ensures { Gives self.now.tokens.now raw_mono_tree result (bracketed (deeper 63 left) (drop at self.now.tokens.now)) }
+        ensures { ReadsAt self.now.tokens.now at raw_mono_tree result (bracketed (deeper 63 left)) }
     {
         let at = self.sign(at, Sign::OpenBracketSign)?;
         let (mono, at) = self.mono(left, at)?;
@@ -142,7 +142,7 @@ impl Cursor<'_> {
     /// Monotypes with commas between them.
     #[tactic(auto, using(crate::proofs::Steps::steps), unfolding(crate::proofs::Steps::reading))]
     pub fn monos(&self, left: u32, at: usize) -> Result<(Vec<RawMono>, usize), Halted>
-        ensures { Gives self.now.tokens.now (λ monos. map raw_mono_tree monos.items) result (monos_at (deeper 63 left) (drop at self.now.tokens.now)) }
+        ensures { ReadsAt self.now.tokens.now at (λ monos. map raw_mono_tree monos.items) result (monos_at (deeper 63 left)) }
     {
         let (first, at) = self.mono(left, at)?;
         let mut monos = Vec::new(self.alloc);

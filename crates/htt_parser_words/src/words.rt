@@ -5,7 +5,7 @@ ghost use Rattle.theory_grammar.specs.Marks.{span_of};
 ghost use Rattle.theory_grammar.specs.Readers.{either, stop, token};
 ghost use Rattle.htt_lexer_tokens.specs.declared.tokens.Kind.TheVariants as kinds;
 ghost use Rattle.theory_grammar.specs.Phrases.{mono_name_case, a_name_there, a_number_there, a_binder, over_there, init_on, mem_on, a_heap};
-ghost use Rattle.htt_parser_words.specs.Results.{Gives, Passes};
+ghost use Rattle.htt_parser_words.specs.Results.{Passes, ReadsAt};
 
 use crate::cursor::{Cursor, Halted, Reason};
 use htt_lexer_tokens::{Keyword, Kind, Sign, Token};
@@ -25,7 +25,7 @@ impl Cursor<'_> {
     /// The first word of a monotype.
     #[tactic(auto, unfolding(crate::proofs::Steps::choosing))]
     pub fn mono_name(&self, at: usize) -> Result<(MonoName, usize), Halted>
-        ensures { Gives self.now.tokens.now (λ x. x) result (either mono_name_case stop (drop at self.now.tokens.now)) }
+        ensures { ReadsAt self.now.tokens.now at (λ x. x) result (either mono_name_case stop) }
     {
         match self.token(at) {
             Some(token) => match token.kind {
@@ -65,7 +65,7 @@ impl Cursor<'_> {
     /// A name.
     #[tactic(auto, unfolding(crate::proofs::Steps::choosing, theory_grammar::specs::Phrases::a_name_there))]
     pub fn name(&self, at: usize) -> Result<(Span, usize), Halted>
-        ensures { Gives self.now.tokens.now (λ x. x) result (a_name_there (drop at self.now.tokens.now)) }
+        ensures { ReadsAt self.now.tokens.now at (λ x. x) result a_name_there }
     {
         match self.token(at) {
             Some(token) => match token.kind {
@@ -79,7 +79,7 @@ impl Cursor<'_> {
     /// A number.
     #[tactic(auto, unfolding(crate::proofs::Steps::choosing, theory_grammar::specs::Phrases::a_number_there))]
     pub fn number(&self, at: usize) -> Result<(u64, usize), Halted>
-        ensures { Gives self.now.tokens.now (λ x. x) result (a_number_there (drop at self.now.tokens.now)) }
+        ensures { ReadsAt self.now.tokens.now at (λ x. x) result a_number_there }
     {
         match self.token(at) {
             Some(token) => match token.kind {
@@ -93,7 +93,7 @@ impl Cursor<'_> {
     /// A name, or `_`.
     #[tactic(auto, unfolding(crate::proofs::Steps::choosing, theory_grammar::specs::Phrases::a_binder))]
     pub fn binder(&self, at: usize) -> Result<(Binder, usize), Halted>
-        ensures { Gives self.now.tokens.now (λ x. x) result (a_binder (drop at self.now.tokens.now)) }
+        ensures { ReadsAt self.now.tokens.now at (λ x. x) result a_binder }
     {
         match self.token(at) {
             Some(token) => match token.kind {
@@ -108,7 +108,7 @@ impl Cursor<'_> {
     /// The number of binders that a heap passes over, if it is written.
     #[tactic(auto, using(crate::proofs::Steps::steps), unfolding(crate::proofs::Steps::reading, theory_grammar::specs::Phrases::over_there))]
     fn over(&self, at: usize) -> Result<(Option<u64>, usize), Halted>
-        ensures { Gives self.now.tokens.now (λ x. x) result (over_there (drop at self.now.tokens.now)) }
+        ensures { ReadsAt self.now.tokens.now at (λ x. x) result over_there }
     {
         if !self.is_sign(at, Sign::CaretSign) {
             return Ok((None, at));
@@ -120,7 +120,7 @@ impl Cursor<'_> {
     /// What follows `init` at this byte.
     #[tactic(auto, using(crate::proofs::Steps::steps), unfolding(crate::proofs::Steps::reading))]
     fn init_heap(&self, from: u64, at: usize) -> Result<(RawHeap, usize), Halted>
-        ensures { Gives self.now.tokens.now (λ x. x) result (init_on from (drop at self.now.tokens.now)) }
+        ensures { ReadsAt self.now.tokens.now at (λ x. x) result (init_on from) }
     {
         let (over, at) = self.over(at)?;
         Ok((RawHeap::Init { at: from, over }, at))
@@ -129,7 +129,7 @@ impl Cursor<'_> {
     /// What follows `mem` at this byte.
     #[tactic(auto, using(crate::proofs::Steps::steps), unfolding(crate::proofs::Steps::reading))]
     fn mem_heap(&self, from: u64, at: usize) -> Result<(RawHeap, usize), Halted>
-        ensures { Gives self.now.tokens.now (λ x. x) result (mem_on from (drop at self.now.tokens.now)) }
+        ensures { ReadsAt self.now.tokens.now at (λ x. x) result (mem_on from) }
     {
         let (over, at) = self.over(at)?;
         Ok((RawHeap::Mem { at: from, over }, at))
@@ -138,7 +138,7 @@ impl Cursor<'_> {
     /// A heap.
     #[tactic(auto, unfolding(crate::proofs::Steps::choosing, theory_grammar::specs::Phrases::a_heap))]
     pub fn heap(&self, at: usize) -> Result<(RawHeap, usize), Halted>
-        ensures { Gives self.now.tokens.now (λ x. x) result (a_heap (drop at self.now.tokens.now)) }
+        ensures { ReadsAt self.now.tokens.now at (λ x. x) result a_heap }
     {
         match self.token(at) {
             Some(token) => match token.kind {

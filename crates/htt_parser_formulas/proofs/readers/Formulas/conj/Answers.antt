@@ -15,31 +15,31 @@ returns-in_err-star g c = stopped _ _ _ _ _ c.from_residual.ensures.1 (after_err
 pub returns-then-not-is_sign : goal.returns-then-not-is_sign
 unfolding reading conj_reader
 returns-then-not-is_sign g c =
-    let other : first_is (λ q. same_kind q (Sign AndSign)) (drop c.in_ok-star.at c.args.self.now.terms.operands.level.cursor.tokens.now)
+    let other : first_is (λ q. same_kind q (Sign AndSign)) (drop c.in_ok-star.at c.args.self.now.level.cursor.tokens.now)
     ≡ false = search rules in
     rw (
       c.in_ok-star.ensures,
-      that_other (drop c.in_ok-star.at c.args.self.now.terms.operands.level.cursor.tokens.now) (Sign AndSign) _ _ other,
+      that_other (drop c.in_ok-star.at c.args.self.now.level.cursor.tokens.now) (Sign AndSign) _ _ other,
       raw_conj_star,
     ) refl
 
 pub returns-in_err-conj : goal.returns-in_err-conj
 unfolding reading conj_reader
 returns-in_err-conj g c =
-    let first : first_is (λ q. same_kind q (Sign AndSign)) (drop c.in_ok-star.at c.args.self.now.terms.operands.level.cursor.tokens.now)
+    let first : first_is (λ q. same_kind q (Sign AndSign)) (drop c.in_ok-star.at c.args.self.now.level.cursor.tokens.now)
     ≡ true = search rules in
     stopped _ _ _ _ _ c.from_residual-in_err-conj.ensures.1
-    (rw (c.in_ok-star.ensures, that_first c.args.self.now.terms.operands.level.cursor.tokens.now c.in_ok-star.at (Sign AndSign) _ _ first)
+    (rw (c.in_ok-star.ensures, that_first c.args.self.now.level.cursor.tokens.now c.in_ok-star.at (Sign AndSign) _ _ first)
     (after_err _ _ _ _ c.in_err-conj.ensures))
 
 pub returns : goal.returns
 unfolding reading conj_reader
 returns g c =
-    let first : first_is (λ q. same_kind q (Sign AndSign)) (drop c.in_ok-star.at c.args.self.now.terms.operands.level.cursor.tokens.now)
+    let first : first_is (λ q. same_kind q (Sign AndSign)) (drop c.in_ok-star.at c.args.self.now.level.cursor.tokens.now)
     ≡ true = search rules in
     rw (
       c.in_ok-star.ensures,
-      that_first c.args.self.now.terms.operands.level.cursor.tokens.now c.in_ok-star.at (Sign AndSign) _ _ first,
+      that_first c.args.self.now.level.cursor.tokens.now c.in_ok-star.at (Sign AndSign) _ _ first,
       c.in_ok-conj.ensures,
       raw_conj_and,
     ) refl

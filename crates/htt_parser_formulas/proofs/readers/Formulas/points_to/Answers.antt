@@ -15,11 +15,11 @@ pub returns-then-is_sign : goal.returns-then-is_sign
 unfolding reading
 returns-then-is_sign g c =
     let first : first_is (λ q. same_kind q (Sign UnderscoreSign))
-    (drop c.in_ok-mono.at c.args.self.now.terms.operands.level.cursor.tokens.now)
+    (drop c.in_ok-mono.at c.args.self.now.level.cursor.tokens.now)
     ≡ true = search rules in
     rw (
       c.in_ok-mono.ensures,
-      that_first c.args.self.now.terms.operands.level.cursor.tokens.now c.in_ok-mono.at (Sign UnderscoreSign) _ _ first,
+      that_first c.args.self.now.level.cursor.tokens.now c.in_ok-mono.at (Sign UnderscoreSign) _ _ first,
       raw_fatom_points_to_any,
     ) refl
 
@@ -27,23 +27,23 @@ pub returns-in_err-value : goal.returns-in_err-value
 unfolding reading
 returns-in_err-value g c =
     let other : first_is (λ q. same_kind q (Sign UnderscoreSign))
-    (drop c.in_ok-mono.at c.args.self.now.terms.operands.level.cursor.tokens.now)
+    (drop c.in_ok-mono.at c.args.self.now.level.cursor.tokens.now)
     ≡ false = search rules in
     stopped _ _ _ _ _ c.from_residual-in_err-value.ensures.1
     (rw (
       c.in_ok-mono.ensures,
-      that_other (drop c.in_ok-mono.at c.args.self.now.terms.operands.level.cursor.tokens.now) (Sign UnderscoreSign) _ _ other,
+      that_other (drop c.in_ok-mono.at c.args.self.now.level.cursor.tokens.now) (Sign UnderscoreSign) _ _ other,
     ) (after_err _ _ _ _ c.in_err-value.ensures))
 
 pub returns : goal.returns
 unfolding reading
 returns g c =
     let other : first_is (λ q. same_kind q (Sign UnderscoreSign))
-    (drop c.in_ok-mono.at c.args.self.now.terms.operands.level.cursor.tokens.now)
+    (drop c.in_ok-mono.at c.args.self.now.level.cursor.tokens.now)
     ≡ false = search rules in
     rw (
       c.in_ok-mono.ensures,
-      that_other (drop c.in_ok-mono.at c.args.self.now.terms.operands.level.cursor.tokens.now) (Sign UnderscoreSign) _ _ other,
+      that_other (drop c.in_ok-mono.at c.args.self.now.level.cursor.tokens.now) (Sign UnderscoreSign) _ _ other,
       c.in_ok-value.ensures,
       raw_fatom_points_to,
     ) refl

@@ -16,11 +16,11 @@ pub returns-then-not-is_sign : goal.returns-then-not-is_sign
 unfolding reading star_reader
 returns-then-not-is_sign g c =
     let other : first_is (λ q. same_kind q (Sign DoubleStarSign))
-    (drop c.in_ok-fatom.at c.args.self.now.terms.operands.level.cursor.tokens.now)
+    (drop c.in_ok-fatom.at c.args.self.now.level.cursor.tokens.now)
     ≡ false = search rules in
     rw (
       c.in_ok-fatom.ensures,
-      that_other (drop c.in_ok-fatom.at c.args.self.now.terms.operands.level.cursor.tokens.now) (Sign DoubleStarSign) _ _ other,
+      that_other (drop c.in_ok-fatom.at c.args.self.now.level.cursor.tokens.now) (Sign DoubleStarSign) _ _ other,
       raw_star_fatom,
     ) refl
 
@@ -28,23 +28,23 @@ pub returns-in_err-star : goal.returns-in_err-star
 unfolding reading star_reader
 returns-in_err-star g c =
     let first : first_is (λ q. same_kind q (Sign DoubleStarSign))
-    (drop c.in_ok-fatom.at c.args.self.now.terms.operands.level.cursor.tokens.now)
+    (drop c.in_ok-fatom.at c.args.self.now.level.cursor.tokens.now)
     ≡ true = search rules in
     stopped _ _ _ _ _ c.from_residual-in_err-star.ensures.1
     (rw (
       c.in_ok-fatom.ensures,
-      that_first c.args.self.now.terms.operands.level.cursor.tokens.now c.in_ok-fatom.at (Sign DoubleStarSign) _ _ first,
+      that_first c.args.self.now.level.cursor.tokens.now c.in_ok-fatom.at (Sign DoubleStarSign) _ _ first,
     ) (after_err _ _ _ _ c.in_err-star.ensures))
 
 pub returns : goal.returns
 unfolding reading star_reader
 returns g c =
     let first : first_is (λ q. same_kind q (Sign DoubleStarSign))
-    (drop c.in_ok-fatom.at c.args.self.now.terms.operands.level.cursor.tokens.now)
+    (drop c.in_ok-fatom.at c.args.self.now.level.cursor.tokens.now)
     ≡ true = search rules in
     rw (
       c.in_ok-fatom.ensures,
-      that_first c.args.self.now.terms.operands.level.cursor.tokens.now c.in_ok-fatom.at (Sign DoubleStarSign) _ _ first,
+      that_first c.args.self.now.level.cursor.tokens.now c.in_ok-fatom.at (Sign DoubleStarSign) _ _ first,
       c.in_ok-star.ensures,
       raw_star_times,
     ) refl

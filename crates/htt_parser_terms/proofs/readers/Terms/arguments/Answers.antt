@@ -14,28 +14,28 @@ use Rattle.htt_parser_terms.proofs.readers.Terms.arguments.Goals as goal
 
 pub returns-then-is_sign : goal.returns-then-is_sign
 returns-then-is_sign g c =
-    let close : first_is is_close (drop c.args.at c.args.self.now.operands.level.cursor.tokens.now) ≡ true = search rules in
-    terms_none (deeper 63 c.args.self.now.operands.level.left) (drop c.args.at c.args.self.now.operands.level.cursor.tokens.now) close
-    ∙ ap (λ ms. Ok (raw_term_trees ms, (drop c.args.at c.args.self.now.operands.level.cursor.tokens.now))) (sym c.new-terms.ensures.items)
+    let close : first_is is_close (drop c.args.at c.args.self.now.level.cursor.tokens.now) ≡ true = search rules in
+    terms_none (deeper 63 c.args.self.now.level.left) (drop c.args.at c.args.self.now.level.cursor.tokens.now) close
+    ∙ ap (λ ms. Ok (raw_term_trees ms, (drop c.args.at c.args.self.now.level.cursor.tokens.now))) (sym c.new-terms.ensures.items)
 
 pub returns-in_err-first : goal.returns-in_err-first
 unfolding reading
 returns-in_err-first g c =
-    let other : first_is is_close (drop c.args.at c.args.self.now.operands.level.cursor.tokens.now) ≡ false = search rules in
+    let other : first_is is_close (drop c.args.at c.args.self.now.level.cursor.tokens.now) ≡ false = search rules in
     stopped _ _ _ _ _ c.from_residual.ensures.1
-    (rw (terms_some (deeper 63 c.args.self.now.operands.level.left) (drop c.args.at c.args.self.now.operands.level.cursor.tokens.now) other)
+    (rw (terms_some (deeper 63 c.args.self.now.level.left) (drop c.args.at c.args.self.now.level.cursor.tokens.now) other)
     (after_err _ _ _ _ c.in_err-first.ensures))
 
 pub returns : goal.returns
 unfolding reading
 returns g c =
-    let other : first_is is_close (drop c.args.at c.args.self.now.operands.level.cursor.tokens.now) ≡ false = search rules in
+    let other : first_is is_close (drop c.args.at c.args.self.now.level.cursor.tokens.now) ≡ false = search rules in
     let one : c.push.new.self.items ≡ c.in_ok-first.first ∷ [] = search rules in
-    gives_along _ _ _ _ _ (terms_some (deeper 63 c.args.self.now.operands.level.left)
-    (drop c.args.at c.args.self.now.operands.level.cursor.tokens.now) other
-    ∙ ap (λ o. then_read o (λ m. measured (terms_on (deeper 63 c.args.self.now.operands.level.left)) >>= (λ ms. give (more_terms m ms))))
+    gives_along _ _ _ _ _ (terms_some (deeper 63 c.args.self.now.level.left)
+    (drop c.args.at c.args.self.now.level.cursor.tokens.now) other
+    ∙ ap (λ o. then_read o (λ m. measured (terms_on (deeper 63 c.args.self.now.level.left)) >>= (λ ms. give (more_terms m ms))))
     c.in_ok-first.ensures
     ∙ ap (λ xs.
     mapped (onto (λ m. more_terms (raw_term_tree m)) xs)
-    (measured (terms_on (deeper 63 c.args.self.now.operands.level.left))
-    (drop c.in_ok-first.at c.args.self.now.operands.level.cursor.tokens.now))) (sym one)) c.more_terms.ensures
+    (measured (terms_on (deeper 63 c.args.self.now.level.left))
+    (drop c.in_ok-first.at c.args.self.now.level.cursor.tokens.now))) (sym one)) c.more_terms.ensures

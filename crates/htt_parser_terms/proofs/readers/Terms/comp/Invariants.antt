@@ -8,6 +8,6 @@ use Rattle.htt_parser_terms.proofs.readers.Terms.comp.Given as goal
 
 abbrev pub invariant-loop : goal.invariant-loop
 invariant-loop g l =
-    comp_reader (deeper 63 l.self.operands.level.left) (drop l.fn.at l.self.operands.level.cursor.tokens.now)
+    comp_reader (deeper 63 l.self.level.left) (drop l.fn.at l.self.level.cursor.tokens.now)
     ≡ mapped (onto (λ s. c_step (raw_step_name s) (raw_step_tree s)) l.steps.items)
-    (comp_on (deeper 63 l.self.operands.level.left) (l.end - l.counter) (drop l.at l.self.operands.level.cursor.tokens.now))
+    (comp_on (deeper 63 l.self.level.left) (l.end - l.counter) (drop l.at l.self.level.cursor.tokens.now))

@@ -16,29 +16,29 @@ unfolding measured
 loop-init g c =
     ap (λ n.
     mapped (onto (λ m. more_terms (raw_term_tree m)) c.args.terms.items)
-    (terms_on (deeper 63 c.args.self.now.operands.level.left) n (drop c.args.at c.args.self.now.operands.level.cursor.tokens.now)))
-    (length-drop c.args.at c.args.self.now.operands.level.cursor.tokens.now)
+    (terms_on (deeper 63 c.args.self.now.level.left) n (drop c.args.at c.args.self.now.level.cursor.tokens.now)))
+    (length-drop c.args.at c.args.self.now.level.cursor.tokens.now)
 
 pub returns-in_err-more_term : goal.returns-in_err-more_term
 returns-in_err-more_term g c =
     stopped _ _ _ _ _ c.from_residual.ensures.1
-    (loop_stops _ _ (λ m. more_terms (raw_term_tree m)) c.loop.terms.items (terms_on (deeper 63 c.args.self.now.operands.level.left))
+    (loop_stops _ _ (λ m. more_terms (raw_term_tree m)) c.loop.terms.items (terms_on (deeper 63 c.args.self.now.level.left))
     c.loop.at _ _ _ c.loop-test.true c.loop.invariant c.in_err-more_term.ensures)
 
 pub loop-preserved : goal.loop-preserved
 loop-preserved g c =
     let pushed : c.push.new.self.items ≡ c.loop.terms.items ++ c.in-Some.term ∷ [] = search rules in
-    loop_more _ (λ m. more_terms (raw_term_tree m)) no_terms (terms_on (deeper 63 c.args.self.now.operands.level.left)) _ _ _ _ _ _ _ _ _
+    loop_more _ (λ m. more_terms (raw_term_tree m)) no_terms (terms_on (deeper 63 c.args.self.now.level.left)) _ _ _ _ _ _ _ _ _
     c.loop-test.true c.loop.invariant c.in_ok-more_term.ensures c.in-Some.is pushed
 
 pub returns : goal.returns
 unfolding give terms_on
 returns g c = elim c.loop-test.branch [
   | else-loop-test w ↦
-      loop_is_over c.args.self.now.operands.level.cursor.tokens.now (λ m. more_terms (raw_term_tree m)) no_terms
-      (terms_on (deeper 63 c.args.self.now.operands.level.left)) _ c.loop.terms.items _ _ c.loop.at w.loop-test.false c.loop.invariant refl
+      loop_is_over c.args.self.now.level.cursor.tokens.now (λ m. more_terms (raw_term_tree m)) no_terms
+      (terms_on (deeper 63 c.args.self.now.level.left)) _ c.loop.terms.items _ _ c.loop.at w.loop-test.false c.loop.invariant refl
   | then-loop-test+in_ok-more_term+in-None w ↦
-      loop_ends c.args.self.now.operands.level.cursor.tokens.now (λ m. more_terms (raw_term_tree m)) no_terms
-      (terms_on (deeper 63 c.args.self.now.operands.level.left)) _ c.loop.terms.items _ _ _ c.loop.at w.loop-test.true c.loop.invariant
+      loop_ends c.args.self.now.level.cursor.tokens.now (λ m. more_terms (raw_term_tree m)) no_terms
+      (terms_on (deeper 63 c.args.self.now.level.left)) _ c.loop.terms.items _ _ _ c.loop.at w.loop-test.true c.loop.invariant
       w.in_ok-more_term.ensures w.in-None.is
 ]

@@ -10,6 +10,6 @@ use Rattle.htt_parser_terms.proofs.readers.Terms.more_terms.Given as goal
 abbrev pub invariant-loop : goal.invariant-loop
 invariant-loop g l =
     mapped (onto (λ m. more_terms (raw_term_tree m)) l.fn.terms.items)
-    (measured (terms_on (deeper 63 l.self.operands.level.left)) (drop l.fn.at l.self.operands.level.cursor.tokens.now))
+    (measured (terms_on (deeper 63 l.self.level.left)) (drop l.fn.at l.self.level.cursor.tokens.now))
     ≡ mapped (onto (λ m. more_terms (raw_term_tree m)) l.terms.items)
-    (terms_on (deeper 63 l.self.operands.level.left) (l.end - l.counter) (drop l.at l.self.operands.level.cursor.tokens.now))
+    (terms_on (deeper 63 l.self.level.left) (l.end - l.counter) (drop l.at l.self.level.cursor.tokens.now))

@@ -13,31 +13,31 @@ use Rattle.htt_parser_terms.proofs.readers.Terms.params.Goals.{else-loop-test, t
 pub loop-init : goal.loop-init
 unfolding measured
 loop-init g c =
-    ap (λ n. params_on (deeper 63 c.args.self.now.operands.level.left) n (drop c.args.at c.args.self.now.operands.level.cursor.tokens.now))
-    (length-drop c.args.at c.args.self.now.operands.level.cursor.tokens.now)
+    ap (λ n. params_on (deeper 63 c.args.self.now.level.left) n (drop c.args.at c.args.self.now.level.cursor.tokens.now))
+    (length-drop c.args.at c.args.self.now.level.cursor.tokens.now)
     ∙ loop_empty raw_param_tree _ _ c.new-params.ensures.items
 
 pub returns-in_err-param : goal.returns-in_err-param
 returns-in_err-param g c =
     stopped _ _ _ _ _ c.from_residual.ensures.1
-    (loop_stops _ _ raw_param_tree c.loop.params.items (params_on (deeper 63 c.args.self.now.operands.level.left)) c.loop.at _ _ _
+    (loop_stops _ _ raw_param_tree c.loop.params.items (params_on (deeper 63 c.args.self.now.level.left)) c.loop.at _ _ _
     c.loop-test.true c.loop.invariant c.in_err-param.ensures)
 
 pub loop-preserved : goal.loop-preserved
 loop-preserved g c =
     let pushed : c.push.new.self.items ≡ c.loop.params.items ++ c.in-Some.param ∷ [] = search rules in
-    loop_more _ raw_param_tree no_params (params_on (deeper 63 c.args.self.now.operands.level.left)) _ _ _ _ _ _ _ _ _ c.loop-test.true
+    loop_more _ raw_param_tree no_params (params_on (deeper 63 c.args.self.now.level.left)) _ _ _ _ _ _ _ _ _ c.loop-test.true
     c.loop.invariant c.in_ok-param.ensures c.in-Some.is pushed
 
 pub returns : goal.returns
 unfolding give params_on
 returns g c = elim c.loop-test.branch [
   | else-loop-test w ↦
-      loop_is_over c.args.self.now.operands.level.cursor.tokens.now raw_param_tree no_params
-      (params_on (deeper 63 c.args.self.now.operands.level.left)) _ c.loop.params.items _ _ c.loop.at w.loop-test.false c.loop.invariant
+      loop_is_over c.args.self.now.level.cursor.tokens.now raw_param_tree no_params
+      (params_on (deeper 63 c.args.self.now.level.left)) _ c.loop.params.items _ _ c.loop.at w.loop-test.false c.loop.invariant
       refl
   | then-loop-test+in_ok-param+in-None w ↦
-      loop_ends c.args.self.now.operands.level.cursor.tokens.now raw_param_tree no_params
-      (params_on (deeper 63 c.args.self.now.operands.level.left)) _ c.loop.params.items _ _ _ c.loop.at w.loop-test.true c.loop.invariant
+      loop_ends c.args.self.now.level.cursor.tokens.now raw_param_tree no_params
+      (params_on (deeper 63 c.args.self.now.level.left)) _ c.loop.params.items _ _ _ c.loop.at w.loop-test.true c.loop.invariant
       w.in_ok-param.ensures w.in-None.is
 ]

@@ -9,6 +9,6 @@ use Rattle.htt_parser_terms.proofs.readers.Terms.params.Given as goal
 
 abbrev pub invariant-loop : goal.invariant-loop
 invariant-loop g l =
-    measured (params_on (deeper 63 l.self.operands.level.left)) (drop l.fn.at l.self.operands.level.cursor.tokens.now)
+    measured (params_on (deeper 63 l.self.level.left)) (drop l.fn.at l.self.level.cursor.tokens.now)
     ≡ mapped (onto raw_param_tree l.params.items)
-    (params_on (deeper 63 l.self.operands.level.left) (l.end - l.counter) (drop l.at l.self.operands.level.cursor.tokens.now))
+    (params_on (deeper 63 l.self.level.left) (l.end - l.counter) (drop l.at l.self.level.cursor.tokens.now))
