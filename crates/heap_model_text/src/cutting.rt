@@ -21,7 +21,8 @@ pub(crate) fn cut(bytes: &[u8], mark: u8) -> (&[u8], &[u8])
 /// The number below 2^64 that a further digit makes of a number, if the byte is a digit and the
 /// number is below 2^64.
 fn with_digit(number: u64, digit: u8) -> Option<u64>
-    ensures { MatchOption result (digit_value digit < 10 → 2 ^ 64 ≤ number * 10 + digit_value digit) (λ n. (digit_value digit < 10) × (n ≡ number * 10 + digit_value digit) × (n < 2 ^ 64)) }
+    ensures { MatchOption result (digit_value digit < 10 → 2 ^ 64 ≤ number * 10 + digit_value digit)
+        (λ n. (digit_value digit < 10) × (n ≡ number * 10 + digit_value digit) × (n < 2 ^ 64)) }
 {
     if !digit.is_ascii_digit() {
         return None;

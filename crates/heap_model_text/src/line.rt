@@ -50,7 +50,8 @@ fn location_of(digits: &[u8], last: u64) -> Option<u64>
 
 /// The words that stand after the colon of a line, a space before each, if nothing else does.
 fn block_of(alloc: Global, tail: &[u8]) -> Result<Option<Vec<u64>>, AllocError>
-    ensures { IfOk result (λ block. MatchOption block ((b : Block) → All IsWord b → tail.now ≢ words_text b) (λ v. (tail.now ≡ words_text v.items) × All IsWord v.items)) }
+    ensures { IfOk result (λ block. MatchOption block ((b : Block) → All IsWord b → tail.now ≢ words_text b)
+        (λ v. (tail.now ≡ words_text v.items) × All IsWord v.items)) }
 {
     let mut block = Vec::new(alloc);
     let mut rest = tail;

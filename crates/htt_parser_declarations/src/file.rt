@@ -40,7 +40,8 @@ impl Declarations<'_> {
         room: u32,
         at: usize,
     ) -> Result<Option<(RawDecl, usize)>, Halted>
-        ensures gives { GivesMore self.now.proofs.phrases.cursor.tokens.now put_decl [] result (file_on (deeper 63 left) room) (file_on (deeper 63 left) (room - 1)) at }
+        ensures gives { GivesMore self.now.proofs.phrases.cursor.tokens.now put_decl [] result (file_on (deeper 63 left) room)
+            (file_on (deeper 63 left) (room - 1)) at }
         ensures room { HasRoom result room }
     {
         let Some(_token) = self.proofs.phrases.cursor.token(at) else {

@@ -20,7 +20,8 @@ impl Declarations<'_> {
     /// A comma and a name, if there is a comma.
     #[tactic(auto, using(htt_parser_words::proofs::Steps::steps), unfolding(htt_parser_words::proofs::Steps::reading, theory_grammar::specs::Readers::after_commas))]
     fn more_name(&self, at: usize) -> Result<Option<(Span, usize)>, Halted>
-        ensures { (n : ℕ) → GivesMore self.now.proofs.phrases.cursor.tokens.now put_name [] result (after_commas (kinds.Sign CommaSign) a_name_there (suc n)) (after_commas (kinds.Sign CommaSign) a_name_there n) at }
+        ensures { (n : ℕ) → GivesMore self.now.proofs.phrases.cursor.tokens.now put_name [] result
+            (after_commas (kinds.Sign CommaSign) a_name_there (suc n)) (after_commas (kinds.Sign CommaSign) a_name_there n) at }
     {
         if !self.proofs.phrases.cursor.is_sign(at, Sign::CommaSign) {
             return Ok(None);
@@ -64,7 +65,9 @@ impl Declarations<'_> {
     /// A comma and a parameter, if there is a comma.
     #[tactic(auto, using(htt_parser_words::proofs::Steps::steps), unfolding(htt_parser_words::proofs::Steps::reading, theory_grammar::specs::Readers::after_commas))]
     fn more_parameter(&self, left: u32, at: usize) -> Result<Option<(RawMonoParam, usize)>, Halted>
-        ensures { (n : ℕ) → GivesMore self.now.proofs.phrases.cursor.tokens.now put_param [] result (after_commas (kinds.Sign CommaSign) (mono_parameter_reader (deeper 63 left)) (suc n)) (after_commas (kinds.Sign CommaSign) (mono_parameter_reader (deeper 63 left)) n) at }
+        ensures { (n : ℕ) → GivesMore self.now.proofs.phrases.cursor.tokens.now put_param [] result
+            (after_commas (kinds.Sign CommaSign) (mono_parameter_reader (deeper 63 left)) (suc n))
+            (after_commas (kinds.Sign CommaSign) (mono_parameter_reader (deeper 63 left)) n) at }
     {
         if !self.proofs.phrases.cursor.is_sign(at, Sign::CommaSign) {
             return Ok(None);
@@ -81,7 +84,8 @@ impl Declarations<'_> {
         parameters: Vec<RawMonoParam>,
         at: usize,
     ) -> Result<(Vec<RawMonoParam>, usize), Halted>
-        ensures { ReadsAt self.now.proofs.phrases.cursor.tokens.now at (λ all. map raw_mono_param_tree all.items) result (λ ts. mapped (onto put_param parameters.items) (more_parameters_at (deeper 63 left) ts)) }
+        ensures { ReadsAt self.now.proofs.phrases.cursor.tokens.now at (λ all. map raw_mono_param_tree all.items) result
+            (λ ts. mapped (onto put_param parameters.items) (more_parameters_at (deeper 63 left) ts)) }
     {
         let mut parameters = parameters;
         let mut at = at;
@@ -118,7 +122,8 @@ impl Declarations<'_> {
         left: u32,
         at: usize,
     ) -> Result<(Vec<RawMonoParam>, usize), Halted>
-        ensures { ReadsAt self.now.proofs.phrases.cursor.tokens.now at (λ all. map raw_mono_param_tree all.items) result (mono_parameters_reader (deeper 63 left)) }
+        ensures { ReadsAt self.now.proofs.phrases.cursor.tokens.now at (λ all. map raw_mono_param_tree all.items) result
+            (mono_parameters_reader (deeper 63 left)) }
     {
         let at = self.proofs.phrases.cursor.sign(at, Sign::OpenParenSign)?;
         let (parameters, at) = self.parameters_inside(left, at)?;

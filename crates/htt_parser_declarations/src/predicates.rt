@@ -85,7 +85,8 @@ impl Declarations<'_> {
     /// What follows the name of a predicate.
     #[tactic(auto, unfolding(htt_parser_words::proofs::Steps::choosing))]
     fn predicate_of(&self, left: u32, name: Span, at: usize) -> Result<(RawDecl, usize), Halted>
-        ensures { ReadsAt self.now.proofs.phrases.cursor.tokens.now at raw_decl_tree result (either (pred_case (deeper 63 left) name) (pred_on (deeper 63 left) name [])) }
+        ensures { ReadsAt self.now.proofs.phrases.cursor.tokens.now at raw_decl_tree result
+            (either (pred_case (deeper 63 left) name) (pred_on (deeper 63 left) name [])) }
     {
         match self.proofs.phrases.cursor.token(at) {
             Some(token) => match token.kind {

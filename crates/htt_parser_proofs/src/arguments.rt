@@ -51,7 +51,9 @@ impl Proofs<'_> {
     /// A comma and an argument, if there is a comma.
     #[tactic(auto, using(htt_parser_words::proofs::Steps::steps), unfolding(htt_parser_words::proofs::Steps::reading, theory_grammar::specs::Readers::after_commas))]
     fn more_argument(&self, left: u32, at: usize) -> Result<Option<(RawArg, usize)>, Halted>
-        ensures { (n : ℕ) → GivesMore self.now.phrases.cursor.tokens.now put_arg [] result (after_commas (kinds.Sign CommaSign) (arg_reader (deeper 63 left)) (suc n)) (after_commas (kinds.Sign CommaSign) (arg_reader (deeper 63 left)) n) at }
+        ensures { (n : ℕ) → GivesMore self.now.phrases.cursor.tokens.now put_arg [] result
+            (after_commas (kinds.Sign CommaSign) (arg_reader (deeper 63 left)) (suc n))
+            (after_commas (kinds.Sign CommaSign) (arg_reader (deeper 63 left)) n) at }
     {
         if !self.phrases.cursor.is_sign(at, Sign::CommaSign) {
             return Ok(None);
@@ -68,7 +70,8 @@ impl Proofs<'_> {
         arguments: Vec<RawArg>,
         at: usize,
     ) -> Result<(Vec<RawArg>, usize), Halted>
-        ensures { ReadsAt self.now.phrases.cursor.tokens.now at (λ all. map raw_arg_tree all.items) result (λ ts. mapped (onto put_arg arguments.items) (more_args (deeper 63 left) ts)) }
+        ensures { ReadsAt self.now.phrases.cursor.tokens.now at (λ all. map raw_arg_tree all.items) result
+            (λ ts. mapped (onto put_arg arguments.items) (more_args (deeper 63 left) ts)) }
     {
         let mut arguments = arguments;
         let mut at = at;
@@ -118,7 +121,8 @@ impl Proofs<'_> {
         room: u32,
         at: usize,
     ) -> Result<Option<(RawArg, usize)>, Halted>
-        ensures gives { GivesMore self.now.phrases.cursor.tokens.now put_arg [] result (args_on (deeper 63 left) room) (args_on (deeper 63 left) (room - 1)) at }
+        ensures gives { GivesMore self.now.phrases.cursor.tokens.now put_arg [] result (args_on (deeper 63 left) room)
+            (args_on (deeper 63 left) (room - 1)) at }
         ensures room { HasRoom result room }
     {
         if !self.phrases.cursor.is_sign(at, Sign::CommaSign) {

@@ -161,7 +161,8 @@ impl<F: Fn(usize) -> Result<(RawProof, usize), Halted> + Copy> ProofLevel<'_, F>
     #[tactic(auto, using(htt_parser_words::proofs::Steps::steps), unfolding(htt_parser_words::proofs::Steps::reading))]
     fn further_proof(&self, room: u32, at: usize) -> Result<Option<(RawProof, usize)>, Halted>
         requires { IsProofLevel F.Fn self.now }
-        ensures gives { GivesMore self.now.proofs.phrases.cursor.tokens.now put_proof no_proofs result (proofs_on (deeper 63 self.now.left) room) (proofs_on (deeper 63 self.now.left) (room - 1)) at }
+        ensures gives { GivesMore self.now.proofs.phrases.cursor.tokens.now put_proof no_proofs result
+            (proofs_on (deeper 63 self.now.left) room) (proofs_on (deeper 63 self.now.left) (room - 1)) at }
         ensures room { HasRoom result room }
     {
         if !self.proofs.phrases.cursor.is_sign(at, Sign::CommaSign) {

@@ -96,7 +96,8 @@ impl<F: Fn(usize) -> Result<(RawProof, usize), Halted> + Copy> ProofLevel<'_, F>
         at: usize,
     ) -> Result<(RawEnd, usize), Halted>
         requires { IsProofLevel F.Fn self.now }
-        ensures { ReadsAt self.now.proofs.phrases.cursor.tokens.now at raw_end_tree result (induct_rest_on (deeper 63 self.now.left) from (raw_motive_tree motive) (raw_term_tree term) (raw_proof_tree zero)) }
+        ensures { ReadsAt self.now.proofs.phrases.cursor.tokens.now at raw_end_tree result
+            (induct_rest_on (deeper 63 self.now.left) from (raw_motive_tree motive) (raw_term_tree term) (raw_proof_tree zero)) }
     {
         let (name, at) = self.proofs.phrases.cursor.binder(at)?;
         let (below, at) = self.proofs.phrases.cursor.name(at)?;

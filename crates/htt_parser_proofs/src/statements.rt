@@ -86,7 +86,8 @@ impl<F: Fn(usize) -> Result<(RawProof, usize), Halted> + Copy> ProofLevel<'_, F>
         at: usize,
     ) -> Result<(RawStmt, usize), Halted>
         requires { IsProofLevel F.Fn self.now }
-        ensures { ReadsAt self.now.proofs.phrases.cursor.tokens.now at raw_stmt_tree result (have_rest_on (deeper 63 self.now.left) from hypothesis (raw_formula_tree formula)) }
+        ensures { ReadsAt self.now.proofs.phrases.cursor.tokens.now at raw_stmt_tree result
+            (have_rest_on (deeper 63 self.now.left) from hypothesis (raw_formula_tree formula)) }
     {
         let at = self.proofs.phrases.cursor.sign(at, Sign::EqualSign)?;
         let (proof, at) = self.deeper_proof(at)?;
@@ -124,7 +125,8 @@ impl<F: Fn(usize) -> Result<(RawProof, usize), Halted> + Copy> ProofLevel<'_, F>
     #[tactic(auto, using(htt_parser_words::proofs::Steps::steps), unfolding(htt_parser_words::proofs::Steps::reading))]
     fn ended(&self, statements: Vec<RawStmt>, at: usize) -> Result<(RawProof, usize), Halted>
         requires { IsProofLevel F.Fn self.now }
-        ensures { ReadsAt self.now.proofs.phrases.cursor.tokens.now at raw_proof_tree result (λ ts. mapped (onto put_stmt statements.items) (ended_at (deeper 63 self.now.left) ts)) }
+        ensures { ReadsAt self.now.proofs.phrases.cursor.tokens.now at raw_proof_tree result
+            (λ ts. mapped (onto put_stmt statements.items) (ended_at (deeper 63 self.now.left) ts)) }
     {
         let (end, at) = self.end(at)?;
         Ok((

@@ -46,7 +46,8 @@ impl<F: Fn(Wanted, usize) -> Result<(Found, usize), Halted> + Copy> Terms<'_, F>
     /// A step with what it binds, from there to its semicolon.
     fn bound_step(&self, at: usize) -> Result<(RawStep, usize), Halted>
         requires { IsLevel F.Fn self.now.level }
-        ensures { (next : Reader RawCompTree) → GivesNext self.now.level.cursor.tokens.now (λ s. c_step (raw_step_name s) (raw_step_tree s)) result (step_on (deeper 63 self.now.level.left) next (drop at self.now.level.cursor.tokens.now)) next }
+        ensures { (next : Reader RawCompTree) → GivesNext self.now.level.cursor.tokens.now (λ s. c_step (raw_step_name s) (raw_step_tree s))
+            result (step_on (deeper 63 self.now.level.left) next (drop at self.now.level.cursor.tokens.now)) next }
     {
         let (name, at) = self.level.cursor.binder(at)?;
         let at = self.level.cursor.sign(at, Sign::LeftArrowSign)?;

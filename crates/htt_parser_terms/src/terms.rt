@@ -223,7 +223,8 @@ impl<F: Fn(Wanted, usize) -> Result<(Found, usize), Halted> + Copy> Terms<'_, F>
         at: usize,
     ) -> Result<(Vec<RawTerm>, usize), Halted>
         requires { IsLevel F.Fn self.now.level }
-        ensures { Reads self.now.level at (λ all. raw_term_trees all.items) result (λ d ts. mapped (onto (λ m. more_terms (raw_term_tree m)) terms.items) (measured (terms_on d) ts)) }
+        ensures { Reads self.now.level at (λ all. raw_term_trees all.items) result
+            (λ d ts. mapped (onto (λ m. more_terms (raw_term_tree m)) terms.items) (measured (terms_on d) ts)) }
     {
         let mut terms = terms;
         let mut at = at;

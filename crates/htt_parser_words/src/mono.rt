@@ -102,7 +102,8 @@ impl Cursor<'_> {
         opens: Vec<u64>,
         at: usize,
     ) -> Result<(Vec<RawBracket>, usize), Halted>
-        ensures { (m : RawMonoTree) → ReadsAt self.now.tokens.now at (λ brackets. raw_brackets_tree brackets.items m) result (mono_closes (deeper 63 left) (reverse opens.items) m) }
+        ensures { (m : RawMonoTree) → ReadsAt self.now.tokens.now at (λ brackets. raw_brackets_tree brackets.items m) result
+            (mono_closes (deeper 63 left) (reverse opens.items) m) }
     {
         let mut opens = opens;
         let mut at = at;
@@ -130,7 +131,8 @@ impl Cursor<'_> {
     /// A comma and a monotype, if there is a comma.
     #[tactic(auto, using(crate::proofs::Steps::steps), unfolding(crate::proofs::Steps::reading, theory_grammar::specs::Readers::after_commas))]
     fn more_mono(&self, left: u32, at: usize) -> Result<Option<(RawMono, usize)>, Halted>
-        ensures { (n : ℕ) → let next = after_commas (kinds.Sign CommaSign) (mono_reader (deeper 63 left)) in GivesMore self.now.tokens.now (λ m ms. raw_mono_tree m ∷ ms) [] result (next (suc n)) (next n) at }
+        ensures { (n : ℕ) → let next = after_commas (kinds.Sign CommaSign) (mono_reader (deeper 63 left)) in GivesMore self.now.tokens.now
+            (λ m ms. raw_mono_tree m ∷ ms) [] result (next (suc n)) (next n) at }
     {
         if !self.is_sign(at, Sign::CommaSign) {
             return Ok(None);

@@ -19,7 +19,8 @@ use std::alloc::Global;
 /// The answer that is due to the words, by the files that they name.
 fn answer<F: Files>(alloc: Global, words: &[String], files: &mut F) -> Result<Success, Refusal>
     ensures due { Due (map string_bytes words.now) (seen (F.held files.old) (F.read_faults files.old) (F.read_faults files.new)) (seen_answer result) }
-    ensures reads { ReadsNamed (map string_bytes words.now) (seen (F.held files.old) (F.read_faults files.old) (F.read_faults files.new)) (F.reads files.old) (F.reads files.new) }
+    ensures reads { ReadsNamed (map string_bytes words.now) (seen (F.held files.old) (F.read_faults files.old) (F.read_faults files.new))
+        (F.reads files.old) (F.reads files.new) }
     ensures held { F.held files.new ≡ F.held files.old }
     ensures write_faults { F.write_faults files.new ≡ F.write_faults files.old }
 {
@@ -39,9 +40,13 @@ pub fn htt_command<F: Files, O: Sink>(
     files: &mut F,
     out: &mut O,
 ) -> Status
-    ensures answers { Answers (map string_bytes words.now) (seen (F.held files.old) (F.read_faults files.old) (F.read_faults files.new)) (printed (O.written out.old) (O.written out.new) (O.faults out.old) (O.faults out.new)) result }
-    ensures exactly { AnswersExactly (map string_bytes words.now) (seen (F.held files.old) (F.read_faults files.old) (F.read_faults files.new)) (printed (O.written out.old) (O.written out.new) (O.faults out.old) (O.faults out.new)) result }
-    ensures reads { ReadsNamed (map string_bytes words.now) (seen (F.held files.old) (F.read_faults files.old) (F.read_faults files.new)) (F.reads files.old) (F.reads files.new) }
+    ensures answers { Answers (map string_bytes words.now) (seen (F.held files.old) (F.read_faults files.old) (F.read_faults files.new))
+        (printed (O.written out.old) (O.written out.new) (O.faults out.old) (O.faults out.new)) result }
+    ensures exactly { AnswersExactly (map string_bytes words.now)
+        (seen (F.held files.old) (F.read_faults files.old) (F.read_faults files.new))
+        (printed (O.written out.old) (O.written out.new) (O.faults out.old) (O.faults out.new)) result }
+    ensures reads { ReadsNamed (map string_bytes words.now) (seen (F.held files.old) (F.read_faults files.old) (F.read_faults files.new))
+        (F.reads files.old) (F.reads files.new) }
     ensures held { F.held files.new ≡ F.held files.old }
     ensures write_faults { F.write_faults files.new ≡ F.write_faults files.old }
 {

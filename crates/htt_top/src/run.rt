@@ -58,7 +58,8 @@ fn read_code<F: Files>(alloc: Global, files: &mut F, name: &str) -> Result<Code,
 
 /// The heap that a run starts from: that of the heap file, or else the empty one.
 fn start_heap<F: Files>(alloc: Global, files: &mut F, name: Option<&str>) -> Result<Heap, Refusal>
-    ensures gives { StartGives (seen (F.held files.old) (F.read_faults files.old) (F.read_faults files.new)) (option_map (λ n. n.now) name.entry) (blocks_result result) }
+    ensures gives { StartGives (seen (F.held files.old) (F.read_faults files.old) (F.read_faults files.new))
+        (option_map (λ n. n.now) name.entry) (blocks_result result) }
     ensures reads { ReadsOf (names_of (option_map (λ n. n.now) name.entry)) (F.reads files.old) (F.reads files.new) }
     ensures counts { F.read_faults files.old ≤ F.read_faults files.new }
     ensures held { F.held files.new ≡ F.held files.old }
@@ -95,8 +96,10 @@ pub(crate) fn load_and_run<F: Files>(
     steps: u64,
 ) -> Result<Success, Refusal>
     requires { steps ≤ 1000000000 }
-    ensures due { let s = seen (F.held files.old) (F.read_faults files.old) (F.read_faults files.new) in Then (CodeGives s code.now) (λ c. Then (StartGives s (option_map (λ n. n.now) heap.entry)) (λ h. RunGives c h steps)) (seen_answer result) }
-    ensures reads { ReadsRun (seen (F.held files.old) (F.read_faults files.old) (F.read_faults files.new)) code.now (option_map (λ n. n.now) heap.entry) (F.reads files.old) (F.reads files.new) }
+    ensures due { let s = seen (F.held files.old) (F.read_faults files.old) (F.read_faults files.new) in Then (CodeGives s code.now)
+        (λ c. Then (StartGives s (option_map (λ n. n.now) heap.entry)) (λ h. RunGives c h steps)) (seen_answer result) }
+    ensures reads { ReadsRun (seen (F.held files.old) (F.read_faults files.old) (F.read_faults files.new)) code.now
+        (option_map (λ n. n.now) heap.entry) (F.reads files.old) (F.reads files.new) }
     ensures held { F.held files.new ≡ F.held files.old }
     ensures write_faults { F.write_faults files.new ≡ F.write_faults files.old }
 {

@@ -26,7 +26,8 @@ fn put_lines<O: Sink>(
     lines: &[u8],
     out: &mut O,
 ) -> Status
-    ensures { PutsLines (printed (O.written out.old) (O.written out.new) (O.faults out.old) (O.faults out.new)) (status_of (seen_answer answer.now)) lines.now result }
+    ensures { PutsLines (printed (O.written out.old) (O.written out.new) (O.faults out.old) (O.faults out.new))
+        (status_of (seen_answer answer.now)) lines.now result }
 {
     match out.put(alloc, lines) {
         Ok(()) => status_of(answer),
@@ -38,7 +39,8 @@ fn put_lines<O: Sink>(
 /// Prints the lines of an answer, or, where memory for them is wanting, the line that says so. The
 /// status is that of the answer, unless printing fails.
 pub fn print<O: Sink>(alloc: Global, answer: &Result<Success, Refusal>, out: &mut O) -> Status
-    ensures { let p = printed (O.written out.old) (O.written out.new) (O.faults out.old) (O.faults out.new) in Prints p (seen_answer answer.now) result ⊎ Prints p (Err NoMemory) result }
+    ensures { let p = printed (O.written out.old) (O.written out.new) (O.faults out.old) (O.faults out.new) in Prints p
+        (seen_answer answer.now) result ⊎ Prints p (Err NoMemory) result }
 {
     match lines(alloc, answer) {
         Ok(lines) => put_lines(alloc, answer, lines.as_slice(), out),

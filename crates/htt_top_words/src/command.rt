@@ -36,7 +36,8 @@ pub fn read_words(words: &[String]) -> Option<Command<'_>>
 
 /// The command of the words after `go`.
 fn go_of(names: &[String]) -> Option<Command<'_>>
-    ensures { MatchOption result (HasNoForm (codes "go" ∷ map string_bytes names.now)) (λ command. HasForm (codes "go" ∷ map string_bytes names.now) (form_of command)) }
+    ensures { MatchOption result (HasNoForm (codes "go" ∷ map string_bytes names.now))
+        (λ command. HasForm (codes "go" ∷ map string_bytes names.now) (form_of command)) }
 {
     if names.len() != 1 {
         return None;
@@ -48,7 +49,8 @@ fn go_of(names: &[String]) -> Option<Command<'_>>
 
 /// The command of the words after `run`.
 fn run_of(names: &[String]) -> Option<Command<'_>>
-    ensures { MatchOption result (HasNoForm (codes "run" ∷ map string_bytes names.now)) (λ command. HasForm (codes "run" ∷ map string_bytes names.now) (form_of command)) }
+    ensures { MatchOption result (HasNoForm (codes "run" ∷ map string_bytes names.now))
+        (λ command. HasForm (codes "run" ∷ map string_bytes names.now) (form_of command)) }
 {
     let (code, options) = names.split_first()?;
     let (heap, options) = take_option(options, "--heap");
@@ -79,7 +81,8 @@ fn take_option<'a>(words: &'a [String], flag: &str) -> (Option<&'a str>, &'a [St
 }
 
 fn split_option<'a>(words: &'a [String], flag: &str) -> Option<(&'a str, &'a [String])>
-    ensures { MatchOption result ((word : List ℕ) (rest : List (List ℕ)) → map string_bytes words.now ≢ flag.now ∷ word ∷ rest) (λ parts. map string_bytes words.now ≡ flag.now ∷ parts.0.now ∷ map string_bytes parts.1.now) }
+    ensures { MatchOption result ((word : List ℕ) (rest : List (List ℕ)) → map string_bytes words.now ≢ flag.now ∷ word ∷ rest)
+        (λ parts. map string_bytes words.now ≡ flag.now ∷ parts.0.now ∷ map string_bytes parts.1.now) }
 {
     let (first, others) = words.split_first()?;
     if first.as_str() != flag {

@@ -71,7 +71,8 @@ struct Opening {
 }
 
 fn read_opening(file: &[u8]) -> Result<Opening, Fault>
-    ensures { AnswersTests result (opening_tests file.now) (λ opening. (opening.version ≡ number_in_file file.now 4 1) × (opening.count ≡ number_in_file file.now 5 4) × (9 ≤ length file.now)) }
+    ensures { AnswersTests result (opening_tests file.now)
+        (λ opening. (opening.version ≡ number_in_file file.now 4 1) × (opening.count ≡ number_in_file file.now 5 4) × (9 ≤ length file.now)) }
 {
     is_there(file, 0, 4)?;
     rule(1, 0, number_at(file, 0, 4) == MAGIC)?;
@@ -102,7 +103,8 @@ fn header_at(file: &[u8], at: usize) -> Header
 fn read_header(file: &[u8], at: usize, is_first: bool, before: u64) -> Result<Header, Fault>
     requires room { at ≤ length file.now }
     requires few { before ≤ 1000000 }
-    ensures { AnswersTests result (is_there file.now at 10 ∷ header_tests at is_first before (header_at file.now at)) (λ header. (header ≡ header_at file.now at) × (at + 10 ≤ length file.now) × (before + header.count ≤ 1000000)) }
+    ensures { AnswersTests result (is_there file.now at 10 ∷ header_tests at is_first before (header_at file.now at))
+        (λ header. (header ≡ header_at file.now at) × (at + 10 ≤ length file.now) × (before + header.count ≤ 1000000)) }
 {
     is_there(file, at, 10)?;
     let header = header_at(file, at);
@@ -112,7 +114,8 @@ fn read_header(file: &[u8], at: usize, is_first: bool, before: u64) -> Result<He
 
 fn read_headers(alloc: Global, file: &[u8], count: usize) -> Result<Vec<Header>, LoadStop>
     requires { 9 ≤ length file.now }
-    ensures { Loads result (headers_tests file.now 9 true 0 count) (λ headers. (headers.items ≡ headers_at file.now 9 count) × (9 + 10 * count ≤ length file.now)) }
+    ensures { Loads result (headers_tests file.now 9 true 0 count)
+        (λ headers. (headers.items ≡ headers_at file.now 9 count) × (9 + 10 * count ≤ length file.now)) }
 {
     let mut headers = Vec::new(alloc);
     let mut before = 0;
@@ -134,7 +137,8 @@ fn check_operand_at(
     operand: Operand,
 ) -> Result<usize, Fault>
     requires { at ≤ length file.now }
-    ensures { AnswersTests result (is_there file.now at (width_of operand) ∷ operand_tests (site_seen site.now) at operand (number_in_file file.now at (width_of operand))) (λ next. (next ≡ at + width_of operand) × (next ≤ length file.now)) }
+    ensures { AnswersTests result (is_there file.now at (width_of operand) ∷ operand_tests (site_seen site.now) at operand
+        (number_in_file file.now at (width_of operand))) (λ next. (next ≡ at + width_of operand) × (next ≤ length file.now)) }
 {
     let width = operand.width();
     is_there(file, at, width)?;
@@ -150,7 +154,8 @@ fn check_operands(
     operands: &[Operand],
 ) -> Result<usize, Fault>
     requires { at ≤ length file.now }
-    ensures { AnswersTests result (operands_tests file.now (site_seen site.now) at operands.now) (λ next. (next ≡ at + width_all operands.now) × (next ≤ length file.now)) }
+    ensures { AnswersTests result (operands_tests file.now (site_seen site.now) at operands.now)
+        (λ next. (next ≡ at + width_all operands.now) × (next ≤ length file.now)) }
 {
     let mut place = at;
     for operand in operands {
@@ -183,7 +188,9 @@ fn read_operands(
     opcode: Opcode,
 ) -> Result<(Instr, usize), Fault>
     requires { at ≤ length file.now }
-    ensures { AnswersTests result (tests_by file.now headers.now own at (Some opcode)) (λ x. (x.0 ≡ instr_of opcode (numbers_at file.now at (operands_of opcode))) × (x.1 ≡ at + width_all (operands_of opcode)) × (x.1 ≤ length file.now)) }
+    ensures { AnswersTests result (tests_by file.now headers.now own at (Some opcode))
+        (λ x. (x.0 ≡ instr_of opcode (numbers_at file.now at (operands_of opcode))) × (x.1 ≡ at + width_all (operands_of opcode)) ×
+        (x.1 ≤ length file.now)) }
 {
     let operands = opcode.operands();
     let numbers = numbers_at(file, at, operands);
@@ -199,7 +206,8 @@ fn read_operands(
 
 /// What the instruction at a place is.
 fn read_opcode(file: &[u8], version: u8, is_last: bool, at: usize) -> Result<Opcode, Fault>
-    ensures { AnswersTests result (is_there file.now at 1 ∷ opcode_tests at is_last (opcode_in file.now version at)) (λ op. (opcode_in file.now version at ≡ Some op) × (at + 1 ≤ length file.now)) }
+    ensures { AnswersTests result (is_there file.now at 1 ∷ opcode_tests at is_last (opcode_in file.now version at))
+        (λ op. (opcode_in file.now version at ≡ Some op) × (at + 1 ≤ length file.now)) }
 {
     is_there(file, at, 1)?;
     let byte = number_at(file, at, 1) as u8;
@@ -231,7 +239,9 @@ fn read_body(
     at: usize,
 ) -> Result<(Vec<Instr>, usize), LoadStop>
     requires { at ≤ length file.now }
-    ensures { Loads result (body_tests file.now version headers.now own at own.count) (λ x. (x.0.items ≡ body_in file.now version at own.count) × (x.1 ≡ after_body file.now version at own.count) × (x.1 ≤ length file.now)) }
+    ensures { Loads result (body_tests file.now version headers.now own at own.count)
+        (λ x. (x.0.items ≡ body_in file.now version at own.count) × (x.1 ≡ after_body file.now version at own.count) ×
+        (x.1 ≤ length file.now)) }
 {
     let mut body = Vec::new(alloc);
     let mut place = at;
@@ -252,7 +262,8 @@ fn read_functions(
     at: usize,
 ) -> Result<(Vec<Function>, usize), LoadStop>
     requires { at ≤ length file.now }
-    ensures { Loads result (bodies_tests file.now version headers.now at headers.now) (λ x. (x.0.items ≡ functions_at file.now version at headers.now) × (x.1 ≡ after_bodies file.now version at headers.now)) }
+    ensures { Loads result (bodies_tests file.now version headers.now at headers.now)
+        (λ x. (x.0.items ≡ functions_at file.now version at headers.now) × (x.1 ≡ after_bodies file.now version at headers.now)) }
 {
     let mut functions = Vec::new(alloc);
     let mut place = at;

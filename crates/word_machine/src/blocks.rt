@@ -25,7 +25,10 @@ pub(crate) fn put_block(
     requires next { (top frames.old).next + 1 < 2 ^ 32 }
     requires written { operands.0 < length (locals_of frames.old) }
     requires read { operands.1 + operands.2 ≤ length (locals_of frames.old) }
-    ensures performs { IfOk result (λ stepped. (rest : List ℕ) → Performs stepped (blocks_of heap.old) frames.old (blocks_of heap.new) frames.new rest (with_choice (blocks_of heap.old) (fresh ∷ rest) (λ l left. going (with_block (blocks_of heap.old) l (words_at (locals_of frames.old) operands.1 operands.2)) (written frames.old operands.0 (l ∷ [])) left))) }
+    ensures performs { IfOk result (λ stepped. (rest : List ℕ) → Performs stepped (blocks_of heap.old) frames.old (blocks_of heap.new)
+        frames.new rest (with_choice (blocks_of heap.old) (fresh ∷ rest)
+        (λ l left. going (with_block (blocks_of heap.old) l (words_at (locals_of frames.old) operands.1 operands.2))
+        (written frames.old operands.0 (l ∷ [])) left))) }
     ensures same_heap { OnErr result (blocks_of heap.new ≡ blocks_of heap.old) }
     ensures same_frames { OnErr result (frames.new ≡ frames.old) }
 {
@@ -50,7 +53,9 @@ pub(crate) fn get_block(heap: &Heap, frames: &mut Frames, d: u16, p: u16, n: u16
     requires next { (top frames.old).next + 1 < 2 ^ 32 }
     requires location { p < length (locals_of frames.old) }
     requires written { d + n ≤ length (locals_of frames.old) }
-    ensures { (left : List ℕ) → Performs result (blocks_of heap.now) frames.old (blocks_of heap.now) frames.new left (at_block kinds.Get (local_at (locals_of frames.old) p) (blocks_of heap.now (local_at (locals_of frames.old) p)) n (λ block. going (blocks_of heap.now) (written frames.old d block) left)) }
+    ensures { (left : List ℕ) → Performs result (blocks_of heap.now) frames.old (blocks_of heap.now) frames.new left
+        (at_block kinds.Get (local_at (locals_of frames.old) p) (blocks_of heap.now (local_at (locals_of frames.old) p)) n
+        (λ block. going (blocks_of heap.now) (written frames.old d block) left)) }
 {
     let at = frames.word(p);
     let Some(block) = fitting_block(heap, at, n) else {
@@ -65,7 +70,10 @@ pub(crate) fn set_block(heap: &mut Heap, frames: &mut Frames, p: u16, s: u16, n:
     requires next { (top frames.old).next + 1 < 2 ^ 32 }
     requires location { p < length (locals_of frames.old) }
     requires read { s + n ≤ length (locals_of frames.old) }
-    ensures { (left : List ℕ) → Performs result (blocks_of heap.old) frames.old (blocks_of heap.new) frames.new left (at_block kinds.Set (local_at (locals_of frames.old) p) (blocks_of heap.old (local_at (locals_of frames.old) p)) n (λ block. going (with_block (blocks_of heap.old) (local_at (locals_of frames.old) p) (words_at (locals_of frames.old) s n)) (goes_on frames.old ((top frames.old).next + 1) (locals_of frames.old)) left)) }
+    ensures { (left : List ℕ) → Performs result (blocks_of heap.old) frames.old (blocks_of heap.new) frames.new left
+        (at_block kinds.Set (local_at (locals_of frames.old) p) (blocks_of heap.old (local_at (locals_of frames.old) p)) n
+        (λ block. going (with_block (blocks_of heap.old) (local_at (locals_of frames.old) p) (words_at (locals_of frames.old) s n))
+        (goes_on frames.old ((top frames.old).next + 1) (locals_of frames.old)) left)) }
 {
     let at = frames.word(p);
     if !heap.write(at, frames.words(s, n)) {
@@ -79,7 +87,10 @@ pub(crate) fn set_block(heap: &mut Heap, frames: &mut Frames, p: u16, s: u16, n:
 pub(crate) fn free_block(heap: &mut Heap, frames: &mut Frames, p: u16, n: u16) -> Stepped
     requires next { (top frames.old).next + 1 < 2 ^ 32 }
     requires location { p < length (locals_of frames.old) }
-    ensures { (left : List ℕ) → Performs result (blocks_of heap.old) frames.old (blocks_of heap.new) frames.new left (at_block kinds.Free (local_at (locals_of frames.old) p) (blocks_of heap.old (local_at (locals_of frames.old) p)) n (λ block. going (without_block (blocks_of heap.old) (local_at (locals_of frames.old) p)) (goes_on frames.old ((top frames.old).next + 1) (locals_of frames.old)) left)) }
+    ensures { (left : List ℕ) → Performs result (blocks_of heap.old) frames.old (blocks_of heap.new) frames.new left
+        (at_block kinds.Free (local_at (locals_of frames.old) p) (blocks_of heap.old (local_at (locals_of frames.old) p)) n
+        (λ block. going (without_block (blocks_of heap.old) (local_at (locals_of frames.old) p))
+        (goes_on frames.old ((top frames.old).next + 1) (locals_of frames.old)) left)) }
 {
     let at = frames.word(p);
     if fitting_block(heap, at, n).is_none() {

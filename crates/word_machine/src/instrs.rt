@@ -31,7 +31,9 @@ impl Machine {
         requires fits { StackFits code.now self.old.frames }
         requires function { function_of code.now (top self.old.frames) ≡ Some function.now }
         requires instr { slice_get function.now.body (top self.old.frames).next ≡ Some instr }
-        ensures performs { IfOk result (λ stepped. (rest : List ℕ) → Performs stepped (blocks_of self.old.heap) self.old.frames (blocks_of self.new.heap) self.new.frames (choices_left (Some instr) fresh rest) (effect code.now function.now instr (blocks_of self.old.heap) self.old.frames (fresh ∷ rest))) }
+        ensures performs { IfOk result (λ stepped. (rest : List ℕ) → Performs stepped (blocks_of self.old.heap) self.old.frames
+            (blocks_of self.new.heap) self.new.frames (choices_left (Some instr) fresh rest)
+            (effect code.now function.now instr (blocks_of self.old.heap) self.old.frames (fresh ∷ rest))) }
         ensures same_heap { OnErr result (blocks_of self.new.heap ≡ blocks_of self.old.heap) }
         ensures same_frames { OnErr result (self.new.frames ≡ self.old.frames) }
         ensures same_over { self.new.over ≡ self.old.over }
@@ -88,7 +90,8 @@ fn put_result(frames: &mut Frames, to: u16, operator: u8, from: (u16, u16))
     requires within { to < length (locals_of frames.old) }
     requires left { from.0 < length (locals_of frames.old) }
     requires right { from.1 < length (locals_of frames.old) }
-    ensures { frames.new ≡ written frames.old to (operation_result operator (local_at (locals_of frames.old) from.0) (local_at (locals_of frames.old) from.1) ∷ []) }
+    ensures { frames.new ≡ written frames.old to
+        (operation_result operator (local_at (locals_of frames.old) from.0) (local_at (locals_of frames.old) from.1) ∷ []) }
 {
     let word = operation(operator, frames.word(from.0), frames.word(from.1));
     frames.set_word(to, word);
@@ -102,7 +105,9 @@ fn move_either(frames: &mut Frames, to: u16, test: u16, from: (u16, u16), count:
     requires within { to + count ≤ length (locals_of frames.old) }
     requires first { from.0 + count ≤ length (locals_of frames.old) }
     requires second { from.1 + count ≤ length (locals_of frames.old) }
-    ensures { frames.new ≡ written frames.old to (if nat_eq (local_at (locals_of frames.old) test) 0 then words_at (locals_of frames.old) from.1 count else words_at (locals_of frames.old) from.0 count) }
+    ensures { frames.new ≡ written frames.old to
+        (if nat_eq (local_at (locals_of frames.old) test) 0 then words_at (locals_of frames.old) from.1 count else words_at
+        (locals_of frames.old) from.0 count) }
 {
     if frames.word(test) == 0 {
         frames.move_words(to, from.1, count);
@@ -115,7 +120,8 @@ fn move_either(frames: &mut Frames, to: u16, test: u16, from: (u16, u16), count:
 fn jump_on_zero(frames: &mut Frames, place: u16, target: u32)
     requires next { (top frames.old).next + 1 < 2 ^ 32 }
     requires within { place < length (locals_of frames.old) }
-    ensures { frames.new ≡ (if nat_eq (local_at (locals_of frames.old) place) 0 then goes_on frames.old target (locals_of frames.old) else goes_on frames.old ((top frames.old).next + 1) (locals_of frames.old)) }
+    ensures { frames.new ≡ (if nat_eq (local_at (locals_of frames.old) place) 0 then goes_on frames.old target (locals_of frames.old) else
+        goes_on frames.old ((top frames.old).next + 1) (locals_of frames.old)) }
 {
     if frames.word(place) == 0 {
         frames.jump(target);
@@ -129,7 +135,8 @@ fn jump_on_zero(frames: &mut Frames, place: u16, target: u32)
 fn return_words(frames: &mut Frames, from: u16, count: u16) -> Stepped
     requires read { from + count ≤ length (locals_of frames.old) }
     requires fits { ResultFits frames.old count }
-    ensures { (h : Blocks) (left : List ℕ) → Performs result h frames.old h frames.new left (returned h frames.old (words_at (locals_of frames.old) from count) left) }
+    ensures { (h : Blocks) (left : List ℕ) → Performs result h frames.old h frames.new left
+        (returned h frames.old (words_at (locals_of frames.old) from count) left) }
 {
     if frames.pop(from, count) {
         return Stepped::Going;

@@ -176,7 +176,9 @@ impl Frames {
         requires next { (top self.old).next + 1 < 2 ^ 32 }
         requires params { function.now.params ≤ function.now.locals }
         requires read { from + function.now.params ≤ length (locals_of self.old) }
-        ensures called { OnOk result (self.new ≡ above (entered_frame number function.now (words_at (locals_of self.old) from function.now.params)) to (goes_on self.old ((top self.old).next + 1) (locals_of self.old))) }
+        ensures called { OnOk result (self.new ≡ above
+            (entered_frame number function.now (words_at (locals_of self.old) from function.now.params)) to
+            (goes_on self.old ((top self.old).next + 1) (locals_of self.old))) }
         ensures unchanged { OnErr result (self.new ≡ self.old) }
     {
         let end = self.words.len();
@@ -203,7 +205,8 @@ impl Frames {
     pub fn tail(&mut self, number: u32, function: &Function, from: u16) -> Result<(), AllocError>
         requires params { function.now.params ≤ function.now.locals }
         requires read { from + function.now.params ≤ length (locals_of self.old) }
-        ensures replaced { OnOk result (self.new ≡ with_top self.old (entered_frame number function.now (words_at (locals_of self.old) from function.now.params))) }
+        ensures replaced { OnOk result (self.new ≡ with_top self.old
+            (entered_frame number function.now (words_at (locals_of self.old) from function.now.params))) }
         ensures unchanged { OnErr result (self.new ≡ self.old) }
     {
         let start = self.top.start;
@@ -271,7 +274,8 @@ impl Frames {
 fn append_frame(words: &mut Vec<u64>, from: usize, function: &Function) -> Result<(), AllocError>
     requires params { function.now.params ≤ function.now.locals }
     requires read { from + function.now.params ≤ length words.old.items }
-    ensures appended { OnOk result (words.new.items ≡ words.old.items ++ (words_at words.old.items from function.now.params ++ replicate (function.now.locals - function.now.params) 0)) }
+    ensures appended { OnOk result (words.new.items ≡ words.old.items ++
+        (words_at words.old.items from function.now.params ++ replicate (function.now.locals - function.now.params) 0)) }
     ensures unchanged { OnErr result (words.new.items ≡ words.old.items) }
 {
     let end = words.len();
@@ -291,7 +295,8 @@ fn replace_frame(
     requires order { start ≤ from }
     requires params { function.now.params ≤ function.now.locals }
     requires read { from + function.now.params ≤ length words.old.items }
-    ensures replaced { OnOk result (words.new.items ≡ take start words.old.items ++ (words_at words.old.items from function.now.params ++ replicate (function.now.locals - function.now.params) 0)) }
+    ensures replaced { OnOk result (words.new.items ≡ take start words.old.items ++
+        (words_at words.old.items from function.now.params ++ replicate (function.now.locals - function.now.params) 0)) }
     ensures unchanged { OnErr result (words.new.items ≡ words.old.items) }
 {
     let params = function.params as usize;
