@@ -1,0 +1,4 @@
+pub mod Once
+pub mod Proved
+pub mod Reached
+pub mod Worked

@@ -1,0 +1,4 @@
+pub mod Rows
+pub mod Checking
+pub mod Laws
+pub mod Examples
