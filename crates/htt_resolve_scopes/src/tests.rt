@@ -27,12 +27,10 @@ fn a_name_is_its_bytes(rt: HostRuntime) -> Result<(), Fail> {
 }
 
 /// The name of one letter that stands at this byte.
-fn letter(at: u64) -> Span
-    requires room { at < 1000 }
-{
+fn letter(at: u64) -> Span {
     Span {
         from: at,
-        to: at + 1,
+        to: at.saturating_add(1),
     }
 }
 

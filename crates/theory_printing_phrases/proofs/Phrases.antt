@@ -568,7 +568,7 @@ mutual
         meets =
             go (goes_word r.text l AllocWord v.0)
             (go (goes (go (goes_sign r.text l OpenBracketSign v.1.0.0)
-                (go (goes mono_read.meets) (ends_sign r.text l CloseBracketSign v.1.0.1.1))))
+            (go (goes mono_read.meets) (ends_sign r.text l CloseBracketSign v.1.0.1.1))))
             (go (goes_space r.text l v.1.1.0) (m.meets)));
         given = s_alloc mono_read.given m.given;
         comes = bind _ mono_read.comes (bind _ m.comes refl);
@@ -582,7 +582,7 @@ mutual
         meets =
             go (goes_word r.text l GetWord v.0)
             (go (goes (go (goes_sign r.text l OpenBracketSign v.1.0.0)
-                (go (goes mono_read.meets) (ends_sign r.text l CloseBracketSign v.1.0.1.1))))
+            (go (goes mono_read.meets) (ends_sign r.text l CloseBracketSign v.1.0.1.1))))
             (go (goes_space r.text l v.1.1.0) (m.meets)));
         given = s_get mono_read.given m.given;
         comes = bind _ mono_read.comes (bind _ m.comes refl);
@@ -597,7 +597,7 @@ mutual
         meets =
             go (goes_word r.text l SetWord v.0)
             (go (goes (go (goes_sign r.text l OpenBracketSign v.1.0.0)
-                (go (goes mono_read.meets) (ends_sign r.text l CloseBracketSign v.1.0.1.1))))
+            (go (goes mono_read.meets) (ends_sign r.text l CloseBracketSign v.1.0.1.1))))
             (go (goes_space r.text l v.1.1.0) (go (goes (m.meets)) (go (goes_space r.text l v.1.1.1.1.0) (other.meets)))));
         given = s_set mono_read.given m.given other.given;
         comes = bind _ mono_read.comes (bind _ m.comes (bind _ other.comes refl));
@@ -611,7 +611,7 @@ mutual
         meets =
             go (goes_word r.text l FreeWord v.0)
             (go (goes (go (goes_sign r.text l OpenBracketSign v.1.0.0)
-                (go (goes mono_read.meets) (ends_sign r.text l CloseBracketSign v.1.0.1.1))))
+            (go (goes mono_read.meets) (ends_sign r.text l CloseBracketSign v.1.0.1.1))))
             (go (goes_space r.text l v.1.1.0) (m.meets)));
         given = s_free mono_read.given m.given;
         comes = bind _ mono_read.comes (bind _ m.comes refl);
@@ -628,7 +628,7 @@ mutual
             go (goes_word r.text l IfWord v.0)
             (go (goes_space r.text l v.1.0)
             (go (goes (go (goes_sign r.text l OpenBracketSign v.1.1.0.0)
-                (go (goes mono_read.meets) (ends_sign r.text l CloseBracketSign v.1.1.0.1.1))))
+            (go (goes mono_read.meets) (ends_sign r.text l CloseBracketSign v.1.1.0.1.1))))
             (go (goes_space r.text l v.1.1.1.0)
             (go (goes (answer.meets))
             (go (goes_space r.text l v.1.1.1.1.1.0)
@@ -810,7 +810,7 @@ mutual
           meets =
               go (goes_word_at r.text l CellWord v.0)
               (go (goes (go (goes_sign r.text l OpenBracketSign v.1.0.0)
-                (go (goes mono_read.meets) (ends_sign r.text l CloseBracketSign v.1.0.1.1))))
+              (go (goes mono_read.meets) (ends_sign r.text l CloseBracketSign v.1.0.1.1))))
               (go (goes_sign r.text l OpenParenSign v.1.1.0)
               (go (goes_then (goes (heap.meets))
               (goes_then (goes_comma r.text l v.1.1.1.0.1.0)
@@ -831,7 +831,7 @@ mutual
           meets =
               go (goes_word_at r.text l BlockWord v.0)
               (go (goes (go (goes_sign r.text l OpenBracketSign v.1.0.0)
-                (go (goes mono_read.meets) (ends_sign r.text l CloseBracketSign v.1.0.1.1))))
+              (go (goes mono_read.meets) (ends_sign r.text l CloseBracketSign v.1.0.1.1))))
               (go (goes_sign r.text l OpenParenSign v.1.1.0)
               (go (goes_then (goes (heap.meets)) (goes_then (goes_comma r.text l v.1.1.1.0.1.0) (goes (deep (m.meets)))))
               (ends_sign r.text l CloseParenSign v.1.1.1.1))));
@@ -886,7 +886,7 @@ mutual
               go (goes (m.meets)) (go (goes_space r.text l v.1.0)
               (go (goes_sign r.text l EqualSign v.1.1.0)
               (go (goes (go (goes_sign r.text l OpenBracketSign v.1.1.1.0.0)
-                (go (goes mono_read.meets) (ends_sign r.text l CloseBracketSign v.1.1.1.0.1.1))))
+              (go (goes mono_read.meets) (ends_sign r.text l CloseBracketSign v.1.1.1.0.1.1))))
               (go (goes_space r.text l v.1.1.1.1.0) (other.meets)))));
           given = f_at (byte_of_rel m.tree) (f_eq mono_read.given m.given other.given);
           comes = bind _ m.comes (bind _ mono_read.comes (bind _ other.comes refl));
