@@ -54,7 +54,7 @@ pub record VariantsOfEmission : Type 0 where
   pub new_places_halt : machine_after (code_of sum_of_two) empty_heap [] 4 ≡ halted (5 ∷ []) empty_heap
   pub place_twice_halts : machine_after (only 2 1 (Const 0 2 ∷ Const 0 3 ∷ Op 1 0 0 0 ∷ Ret 1 ∷ [])) empty_heap [] 4
       ≡ halted (6 ∷ []) empty_heap
-  -- a call in tail place that keeps the frame, as in version 1
+  -- a call in tail place that keeps the frame, as in version 1: the bytes and the frames tell it, and no outcome
   pub frame_is_replaced : machine_after (code_of seven_flat) empty_heap [] 1
       ≡ going empty_heap (bottom (with_locals 1 0 (0 ∷ []))) []
   pub frame_is_kept : machine_after (first_code seven_flat) empty_heap [] 1

@@ -1,5 +1,5 @@
 -- Flat bodies: the body of an instance, where each call is that of an instance by its number, with all its
--- parameters. No function is left in them.
+-- parameters. Where one is typed no function is left in it.
 use Rattle.std.specs.Prelude.{◌≡◌, ℕ, List, [], ◌∷◌, ◌++◌, map, reverse, Option, Some, slice_get}
 use Rattle.htt_syntax.specs.Trees.{MonoTree, TermTree, CompTree, StepTree, TermTrees, t_var, t_made, c_ret, c_step}
 use Rattle.htt_syntax.specs.Trees.{s_run, s_alloc, s_get, s_set, s_free, s_if}

@@ -1,5 +1,5 @@
--- What flat bodies do: they are read as the written meaning is, where a call of an instance runs its body
--- on the parameters with one fuel less.
+-- What flat bodies do: a call of an instance runs its body on the parameters with one fuel less. Typed ones are
+-- read as the written meaning is; in others a term has a value here where it has none in the meaning.
 use Rattle.std.specs.Prelude.{ℕ, zero, suc, List, ◌∷◌, map, reverse, Option, Some, None, slice_get}
 use Rattle.htt_syntax.specs.Trees.{TermTree}
 use Rattle.theory_values.specs.Values.{Value}
