@@ -1,15 +1,15 @@
 -- Outcomes that more fuel keeps: of what computations are made of, of what is entered, and of the turns of a recursion.
-use Rattle.std.proofs.Common.{◌≡◌, ◌≢◌, ℕ, zero, suc, ◌+◌, List, [], ◌∷◌, refl, sym, ap, ◌∙◌, subst, arith}
-use Rattle.std.specs.Prelude.{true, false, Some}
+use Rattle.std.proofs.Common.{◌≡◌, ◌≢◌, ℕ, zero, suc, ◌+◌, List, refl, sym, ap, ◌∙◌, subst, arith}
+use Rattle.std.specs.Prelude.{true, false}
 use Rattle.htt_syntax.specs.Trees.{FixTree, StepTree, t_var, c_ret, c_step}
 use Rattle.theory_values.specs.Values.{Value, v_bool}
 use Rattle.theory_values.specs.Heaps.{Heap}
-use Rattle.theory_canonical.specs.Skeletons.{Skeleton, sk_o}
+use Rattle.theory_canonical.specs.Skeletons.{Skeleton}
 use Rattle.theory_canonical.specs.Contexts.{Standing, here, Heads}
 use Rattle.theory_canonical.specs.Canonical.{IsCanonicalFix, IsCanonicalStep, n_ret, n_step, n_neutral, n_param, n_body, e_var}
 use Rattle.theory_denotation.specs.Outcomes.{Outcome, Running, ended, out_of_fuel, asking, wrong, then_outcome, branch_outcome}
 use Rattle.theory_denotation.specs.Valuations.{Domain, den_term, Valuation, HeadEntries}
-use Rattle.theory_denotation.specs.Recursion.{entered_running, entered, unentered, turns}
+use Rattle.theory_denotation.specs.Recursion.{entered_running, unentered, turns}
 use Rattle.theory_denotation.specs.Denotation.{term_den, fix_den, comp_den, step_den}
 use Rattle.theory_denotation.specs.Valued.{EndsInRun, ends_c, ends_arrow, ends_all}
 use Rattle.theory_denotation_relations.specs.Relating.{Related, IsKept, RelatedValuations, RelatedHeads}

@@ -1,19 +1,18 @@
 -- A canonical computation has the same outcomes where each use of a value takes fuel and where none does.
-use Rattle.std.proofs.Common.{◌≡◌, ◌≢◌, ◌↔◌, ℕ, zero, suc, List, [], ◌∷◌, map, Some, None, slice_get, sym, ap, ◌∙◌, subst}
+use Rattle.std.proofs.Common.{◌≡◌, ◌≢◌, ℕ, zero, suc, List, [], ◌∷◌, map, Some, None, slice_get, sym, ap, ◌∙◌, subst}
 use Rattle.std.proofs.lemmas.Option.{same_Some}
-use Rattle.htt_syntax.specs.Trees.{TermTree}
 use Rattle.theory_values.specs.Heaps.{Heap}
 use Rattle.theory_canonical.specs.Skeletons.{Skeleton, sk_c, skeleton}
 use Rattle.theory_canonical.specs.Canonical.{IsCanonical}
 use Rattle.theory_denotation.specs.Outcomes.{Outcome, Running, out_of_fuel}
-use Rattle.theory_denotation.specs.Valuations.{den_term, HeadEntries}
+use Rattle.theory_denotation.specs.Valuations.{den_term}
 use Rattle.theory_denotation.specs.Denotation.{term_den}
 use Rattle.theory_denotation_heads.proofs.Files.{denote}
 use Rattle.theory_instances.specs.Calls.{ProgramVal, Program}
 use Rattle.theory_instances_canonical.specs.Keys.{heads_with, val_tree, IsCanonicalProgram}
 use Rattle.theory_instances_canonical.proofs.More.{val_canonical}
-use Rattle.theory_fuel_of_values.specs.Reaching.{ReachedBy, ReachedHeads}
-use Rattle.theory_fuel_of_values.specs.Laws.{AreCounted, plain_heads, SameOutcomes, CountedValuesKeepOutcomes, InstanceHeadsKeepOutcomes}
+use Rattle.theory_fuel_of_values.specs.Reaching.{ReachedBy}
+use Rattle.theory_fuel_of_values.specs.Laws.{plain_heads, CountedValuesKeepOutcomes, InstanceHeadsKeepOutcomes}
 use Rattle.theory_fuel_of_values.proofs.Terms.{term_reached}
 use Rattle.theory_fuel_of_values.proofs.Values.{closed, counted_reached, plain_reached}
 

@@ -1,11 +1,11 @@
 -- The entries of a program's values, each use of which takes fuel, and those whose uses take none: what the ones come
 -- to the others reach. The value of a number is canonical with those before it.
-use Rattle.std.proofs.Common.{◌≡◌, ℕ, zero, suc, ◌+◌, List, [], ◌∷◌, ◌++◌, length, map, Some, slice_get, refl, sym, ap, ◌∙◌, subst, arith, ◌⊎◌, inl, inr}
+use Rattle.std.proofs.Common.{◌≡◌, ℕ, zero, suc, ◌+◌, List, [], ◌∷◌, ◌++◌, length, map, Some, slice_get, refl, sym, ap, subst, arith, ◌⊎◌, inl, inr}
 use Rattle.std.proofs.lemmas.List.{append-nil, append_assoc}
 use Rattle.theory_canonical.specs.Skeletons.{Skeleton, skeleton}
 use Rattle.theory_canonical.specs.Contexts.{HasSkeleton, first_head, later_head}
 use Rattle.theory_canonical.specs.Canonical.{IsCanonical}
-use Rattle.theory_denotation.specs.Valuations.{ValuationEntry, den_term, HeadEntries}
+use Rattle.theory_denotation.specs.Valuations.{den_term, HeadEntries}
 use Rattle.theory_denotation.specs.Recursion.{entered}
 use Rattle.theory_denotation.specs.Denotation.{term_den}
 use Rattle.theory_denotation.specs.Valued.{EndsInRun}
