@@ -98,7 +98,7 @@ each_append file [] ys a b = b
 each_append file (x ∷ xs) ys a b = (a.0, each_append file xs ys (a.1) b)
 
 -- the monotype of the variable that a step binds
-step_bound : {file : FileShapes} {g : Shapes} {step : StepTree} {u : MonoTree} → IsFormedStep file g step u → bound_mono step ≡ u
+pub step_bound : {file : FileShapes} {g : Shapes} {step : StepTree} {u : MonoTree} → IsFormedStep file g step u → bound_mono step ≡ u
 step_bound (z_run d m) = refl
 step_bound (z_alloc m d) = refl
 step_bound (z_get m d) = refl
@@ -106,7 +106,7 @@ step_bound (z_set m d e) = refl
 step_bound (z_free m d) = refl
 step_bound (z_if m d e f) = refl
 
-step_closed : {file : FileShapes} (g : List MonoTree) {step : StepTree} {u : MonoTree} → IsFormedStep file (values_shapes g) step u → IsClosed u
+pub step_closed : {file : FileShapes} (g : List MonoTree) {step : StepTree} {u : MonoTree} → IsFormedStep file (values_shapes g) step u → IsClosed u
 step_closed g (z_run d m) = formed_closed g m
 step_closed g (z_alloc m d) = closed_loc
 step_closed g (z_get m d) = formed_closed g m
