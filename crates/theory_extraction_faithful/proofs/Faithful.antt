@@ -12,11 +12,13 @@ use Rattle.word_loader_code.specs.declared.code.Code.{Code}
 use Rattle.word_loader_code.specs.Machine.{machine_after, faulted}
 use Rattle.theory_instances.specs.Calls.{ProgramVal}
 use Rattle.theory_flat.specs.Flat.{Instance, HasFlatInstances}
+use Rattle.theory_flat.specs.Reading.{flat_run}
+use Rattle.theory_emission.specs.Codes.{first_code, code_of}
 use Rattle.theory_emitted.specs.Laws.{CodeHalts, CodeAsks, FlatEnds, FlatAsks, NeverWrong, HasOutcomes}
 use Rattle.theory_emitted.proofs.Main.{programs_emitted}
 use Rattle.theory_extraction.specs.Extraction.{HasVals, HasCode, program}
-use Rattle.theory_extraction_formed.proofs.Typed.{file_programs_typed}
-use Rattle.theory_extraction_faithful.specs.Laws.{TextEnds, TextAsks, TextFaults, NeverFaults, DoesAsText, ExtractionIsFaithful}
+use Rattle.theory_extraction_formed.proofs.Files.{files_typed}
+use Rattle.theory_extraction_faithful.specs.Laws.{text_run, TextEnds, TextFaults, NeverFaults, DoesAsText, ExtractionIsFaithful}
 use Rattle.theory_extraction_faithful.proofs.Text.{flat_of_text, text_of_flat, result_is}
 
 module _ (items : List ItemTree) (vals : List ProgramVal) (main : ℕ) (instances : List Instance) (d : HasVals none items vals)
@@ -64,12 +66,12 @@ pub faithful : ExtractionIsFaithful
 faithful = record {
   code = λ items main code c h cs.
       let p = program c.vals (Some main) in
-      let typed = file_programs_typed items c.vals (Some main) c.instances c.has_vals c.has_instances in
+      let typed = files_typed items c.vals (Some main) c.instances c.has_vals c.has_instances in
       subst (λ (x : Code). DoesAsText items main x h cs) (sym c.is)
       (does_as_text items c.vals main c.instances c.has_vals c.has_instances (code_of c.instances) h cs
       (programs_emitted.second p c.instances h cs c.has_instances typed));
   first = λ items vals main instances d has h cs.
       let p = program vals (Some main) in
-      let typed = file_programs_typed items vals (Some main) instances d has in
+      let typed = files_typed items vals (Some main) instances d has in
       does_as_text items vals main instances d has (first_code instances) h cs (programs_emitted.first p instances h cs has typed);
 }

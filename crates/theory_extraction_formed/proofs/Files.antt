@@ -108,7 +108,7 @@ file_formed items vals main h = all_formed main [] h items_keep_formed.empty non
 
 -- ---- canonical
 
-trees_are : (vals : List ProgramVal) → trees_of vals ≡ map val_tree vals
+pub trees_are : (vals : List ProgramVal) → trees_of vals ≡ map val_tree vals
 trees_are [] = refl
 trees_are (v ∷ vals) = ap (λ ts. val_tree v ∷ ts) (trees_are vals)
 
