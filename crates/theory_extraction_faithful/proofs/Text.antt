@@ -1,6 +1,6 @@
 -- The run of main's text has the outcomes of main's flat body, each for some fuel: through what main's canonical term
 -- denotes with the entries of the file, and with the heads of the instances.
-use Rattle.std.proofs.Common.{◌≡◌, ◌≢◌, ℕ, List, [], Some, slice_get, refl, sym, ap, ◌∙◌, subst}
+use Rattle.std.proofs.Common.{◌≡◌, ◌≢◌, ℕ, List, [], ◌∷◌, map, Some, slice_get, refl, sym, ap, ◌∙◌, subst}
 use Rattle.std.proofs.lemmas.Option.{same_Some}
 use Rattle.htt_syntax.specs.Trees.{TripleTree}
 use Rattle.theory_values.specs.Values.{Value}
@@ -11,10 +11,10 @@ use Rattle.theory_typing.specs.Laws.{none}
 use Rattle.theory_items.specs.Items.{ItemTree}
 use Rattle.theory_denotation.specs.Outcomes.{Outcome, out_of_fuel}
 use Rattle.theory_denotation.specs.Valuations.{HeadEntries}
-use Rattle.theory_denotation.specs.Denotation.{term_den, heads_of_vals}
+use Rattle.theory_denotation.specs.Denotation.{ValTree, term_den, heads_of_vals}
 use Rattle.theory_denotation.specs.Laws.{run_result}
 use Rattle.theory_instances.specs.Calls.{ProgramVal, Program}
-use Rattle.theory_instances_canonical.specs.Keys.{IsCanonicalProgram}
+use Rattle.theory_instances_canonical.specs.Keys.{val_tree, IsCanonicalProgram}
 use Rattle.theory_instances_heads.specs.Heads.{AreInstanceHeads, heads_of_instances}
 use Rattle.theory_instances_heads.proofs.Made.{have_heads}
 use Rattle.theory_fuel_of_values.specs.Laws.{plain_heads}
@@ -23,10 +23,14 @@ use Rattle.theory_flat.specs.Flat.{Instance, HasFlatInstances}
 use Rattle.theory_flat.specs.Reading.{flat_run}
 use Rattle.theory_flat_denoted.proofs.Main.{main_denoted}
 use Rattle.theory_extraction.specs.Extraction.{HasVals, program}
-use Rattle.theory_adequacy_files.specs.Laws.{entries_of}
+use Rattle.theory_adequacy_files.specs.Laws.{trees_of, entries_of}
 use Rattle.theory_adequacy_files.proofs.Files.{files}
-use Rattle.theory_extraction_formed.proofs.Files.{trees_are, files_formed}
+use Rattle.theory_extraction_formed.proofs.Files.{files_formed}
 use Rattle.theory_extraction_faithful.specs.Laws.{text_run}
+
+trees_are : (vals : List ProgramVal) → trees_of vals ≡ map val_tree vals
+trees_are [] = refl
+trees_are (v ∷ vals) = ap (λ (vs : List ValTree). val_tree v ∷ vs) (trees_are vals)
 
 module _ (items : List ItemTree) (vals : List ProgramVal) (main : ℕ) (instances : List Instance) (d : HasVals none items vals)
     (has : HasFlatInstances (program vals (Some main)) instances) where
