@@ -41,10 +41,12 @@ module _ (items : List ItemTree) (vals : List ProgramVal) (main : ℕ) (instance
       → text_run items main h cs fuel ≡ done result k left
       → (v : Value) × (result ≡ base v) × CodeHalts code h cs (encoding v) k
   ends_so fuel result k left text =
-      let r = result_is items vals main instances d has h cs fuel result k left text in
-      (r.0, r.1,
-      outcomes.ends (encoding (r.0)) k
-      (flat_ends (encoding (r.0)) k (fuel, r.0, left, text ∙ ap (λ u. done u k left) (r.1), refl)))
+      let r = result_is items vals main instances d has h cs fuel result k left text in (
+        r.0,
+        r.1,
+        outcomes.ends (encoding (r.0)) k
+            (flat_ends (encoding (r.0)) k (fuel, r.0, left, text ∙ ap (λ u. done u k left) (r.1), refl)),
+      )
 
   faults_so : (steps : ℕ) (kind : Kind) (l : ℕ) → machine_after code h cs steps ≡ faulted kind l → TextFaults items main h cs
   faults_so steps kind l q = faults_too (steps, outcomes.faults steps kind l q)
@@ -52,12 +54,14 @@ module _ (items : List ItemTree) (vals : List ProgramVal) (main : ℕ) (instance
   pub does_as_text : DoesAsText items main code h cs
   does_as_text = record {
     never = λ no steps kind l q. let f = faults_so steps kind l q in no (f.0) (f.1);
-    halts = λ no words k.
-        ((λ halts. text_ends words k ((outcomes.halts (never_wrong no) words k).0 halts)),
-        (λ ends. outcomes.ends words k (flat_ends words k ends)));
-    asks = λ no.
-        ((λ asks. text_of_flat items vals main instances d has h cs asking (λ q. cc) ((outcomes.asks (never_wrong no)).0 asks)),
-        (λ text. outcomes.flat_asks (flat_of_text items vals main instances d has h cs asking (λ q. cc) text)));
+    halts = λ no words k. (
+      (λ halts. text_ends words k ((outcomes.halts (never_wrong no) words k).0 halts)),
+      (λ ends. outcomes.ends words k (flat_ends words k ends)),
+    );
+    asks = λ no. (
+      (λ asks. text_of_flat items vals main instances d has h cs asking (λ q. cc) ((outcomes.asks (never_wrong no)).0 asks)),
+      (λ text. outcomes.flat_asks (flat_of_text items vals main instances d has h cs asking (λ q. cc) text)),
+    );
     ends = ends_so;
     faults = faults_so;
   }

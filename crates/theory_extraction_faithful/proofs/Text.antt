@@ -75,8 +75,8 @@ module _ (items : List ItemTree) (vals : List ProgramVal) (main : ℕ) (instance
   flat_of_text h cs end other text =
       let plain = (files.outcomes items vals d main val spec there has.has.main.is_hoare h cs end other).0 text in
       let counted =
-          (instance_heads p has.keys e canonical heads main val there main_runs h cs end other).1
-          (subst (λ (f : HeadEntries). Denotes f h cs end) plain_is plain) in
+      (instance_heads p has.keys e canonical heads main val there main_runs h cs end other).1
+      (subst (λ (f : HeadEntries). Denotes f h cs end) plain_is plain) in
       (counted.0, flat_is (counted.0) h cs ∙ counted.1)
 
   pub text_of_flat : (h : Heap) (cs : List ℕ) (end : Outcome)
@@ -85,7 +85,7 @@ module _ (items : List ItemTree) (vals : List ProgramVal) (main : ℕ) (instance
       → (fuel : ℕ) × (text_run items main h cs fuel ≡ run_result end)
   text_of_flat h cs end other (n, flat) =
       let plain =
-          (instance_heads p has.keys e canonical heads main val there main_runs h cs end other).0 (n, sym (flat_is n h cs) ∙ flat) in
+      (instance_heads p has.keys e canonical heads main val there main_runs h cs end other).0 (n, sym (flat_is n h cs) ∙ flat) in
       (files.outcomes items vals d main val spec there has.has.main.is_hoare h cs end other).1
       (subst (λ (f : HeadEntries). Denotes f h cs end) (sym plain_is) plain)
 
