@@ -2,30 +2,18 @@
 use Rattle.std.specs.Prelude.{◌≡◌, ℕ, zero, List, [], ◌∷◌, Ok, Some, slice_get}
 use Rattle.htt_syntax.specs.Trees.{TripleTree, triple, m_word, t_var, t_word, y_hoare, f_tt, f_eq}
 use Rattle.theory_values.specs.Heaps.{Heap}
-use Rattle.word_loader_code.specs.declared.code.Code.{Code}
-use Rattle.word_loader_code.specs.declared.code.Instr.TheVariants.{Const, Ret}
 use Rattle.word_loader_code.specs.Machine.{machine_after, halted}
-use Rattle.theory_typing.specs.Contexts.{Environment}
 use Rattle.theory_typing.specs.Laws.{none, sum_goal}
-use Rattle.theory_items.specs.Items.{with_val}
-use Rattle.theory_items.specs.Examples.{gives_five}
-use Rattle.theory_emission.specs.Examples.{only}
 use Rattle.theory_file_derived.specs.Derived.{IsDerived}
 use Rattle.theory_file_derived.specs.Examples.{sum_file, main_proved}
 use Rattle.theory_extraction.specs.Extraction.{HasCode}
+use Rattle.theory_extraction_valid.specs.Examples.{sum_env, sum_code}
 use Rattle.theory_checking_files.specs.Files.{checked_all, ItemsComeTo}
 use Rattle.theory_extraction_sound.specs.Outcomes.{StartsEmpty}
 
 -- {tt} x : word {x =[word] 5}
 abbrev pub five : TripleTree
 five = triple f_tt m_word (f_eq m_word (t_var 2) (t_word 5))
-
-abbrev pub sum_env : Environment
-sum_env = with_val none gives_five
-
--- const 0 5; ret 0
-abbrev pub sum_code : Code
-sum_code = only 1 1 (Const 0 5 ∷ Ret 0 ∷ [])
 
 -- val main : {tt} x : word {x =[word] 5} = do ret 2 + 3
 pub record WorkedHeadline : Type 0 where
