@@ -1,5 +1,5 @@
 -- What each item adds is narrow, since an item derives what it is checked to, and nothing else.
-use Rattle.std.proofs.Common.{◌≡◌, ℕ, zero, suc, List, [], ◌∷◌, Ok, Some, None, slice_get, sym, subst}
+use Rattle.std.proofs.Common.{◌≡◌, ℕ, zero, suc, List, [], ◌∷◌, Ok, Some, None, slice_get, subst}
 use Rattle.std.proofs.lemmas.Option.{same_Some}
 use Rattle.theory_typing.specs.Contexts.{Environment}
 use Rattle.theory_typing.specs.Laws.{none}
@@ -31,9 +31,9 @@ with_narrow : (added : Added) (vals : List ProgramVal) → IsNarrowAdded added �
 with_narrow (adds_val ty term) vals here others zero v q =
     subst (λ (x : ProgramVal). IsNarrowTerm x.term) (same_Some (record { ty = ty; term = term }) v q) (here.1)
 with_narrow (adds_val ty term) vals here others (suc number) v q = others number v q
-with_narrow adds_nothing vals here others = others
-with_narrow (adds_def ty term) vals here others = others
-with_narrow (adds_rec r) vals here others = others
+with_narrow adds_nothing vals here others number v q = others number v q
+with_narrow (adds_def ty term) vals here others number v q = others number v q
+with_narrow (adds_rec r) vals here others number v q = others number v q
 
 vals_narrow : (n : ℕ) (env : Environment) (items : List ItemTree) (k : CheckedAll) {vals : List ProgramVal}
     → IsNarrowEnvironment env
@@ -41,12 +41,12 @@ vals_narrow : (n : ℕ) (env : Environment) (items : List ItemTree) (k : Checked
     → HasVals env items vals
     → AreNarrowVals vals
 vals_narrow n env [] k known items_end vals_none number v q = absurd (none_is_some q)
-vals_narrow n env (item ∷ items) k known (item_then_items {final = f} {rows = o} c d x) (vals_next {added = added} {owed = owed} {vals = others} e rest) =
+vals_narrow n env (item ∷ items) k known (item_then_items {final = f} {rows = o} c d x) (vals_next {added = added} {owed = owed} {vals = others} e rest) number v q =
     let same : c.added ≡ added = (items_give_one env [] item c.added added c.owed owed (checked_items_derive env [] zero item c d) e).0 in
     let here : IsNarrowAdded added = subst IsNarrowAdded same (checked_items_are_narrow.added env [] known tt zero item c d) in
     let come = subst (λ (a : Added). ItemsComeTo (suc n) (with_added env a) items (Ok (checked_all f o))) same x in
     with_narrow added others here
-    (vals_narrow (suc n) (with_added env added) items (checked_all f o) (checked_items_are_narrow.environment env added known here) come rest)
+    (vals_narrow (suc n) (with_added env added) items (checked_all f o) (checked_items_are_narrow.environment env added known here) come rest) number v q
 
 pub checked_files_are_narrow : CheckedFilesAreNarrow
 checked_files_are_narrow items k vals main come has = record { terms = vals_narrow zero none items k nothing_narrow come has }

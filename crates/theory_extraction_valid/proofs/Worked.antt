@@ -1,6 +1,5 @@
--- The worked file is checked, premise by premise, and has its code.
+-- The worked file is checked, premise by premise; it has its code, and by the law this has its bytes.
 use Rattle.std.proofs.Common.{ℕ, zero, [], ◌∷◌, Ok, Some, refl, arith}
-use Rattle.std.proofs.lemmas.List.Elements.{All-nil, All-cons}
 use Rattle.htt_syntax.specs.Trees.{m_word, t_word, t_bin, t_do, c_ret}
 use Rattle.htt_syntax.specs.declared.mono.Op.TheVariants.{Add}
 use Rattle.theory_renaming.specs.Renaming.{lift, lifts, rename_mono, rename_ty, rename_term}
@@ -19,6 +18,7 @@ use Rattle.theory_file_derived.specs.Examples.{sum_file}
 use Rattle.theory_instances.specs.Examples.{sum}
 use Rattle.theory_flat.specs.Examples.{sum_flat}
 use Rattle.theory_flat.proofs.Worked as flat
+use Rattle.word_loader_format.specs.Numbers.{little_endian}
 use Rattle.theory_emission.specs.Terms.{emit_term}
 use Rattle.theory_emission.specs.Bodies.{emit_flat}
 use Rattle.theory_extraction.specs.Extraction.{vals_none, vals_next, HasCode}
@@ -28,7 +28,8 @@ use Rattle.theory_checking.specs.Results.{AssemblesTo}
 use Rattle.theory_checking.specs.Checking.{TyComesTo, FormulaComesTo, TermComesTo, RunsTo}
 use Rattle.theory_checking_items.specs.Items.{checked, ItemComesTo}
 use Rattle.theory_checking_files.specs.Files.{checked_all, ItemsComeTo, items_end, item_then_items}
-use Rattle.theory_extraction_valid.specs.Examples.{sum_env, sum_code}
+use Rattle.theory_extraction_valid.specs.Laws.{ExtractedCodeIsValid}
+use Rattle.theory_extraction_valid.specs.Examples.{sum_env, sum_code, WorkedCodeFile}
 
 word_mono : {g : Context} {at : ℕ} → MonoComesTo g at m_word (Ok tt)
 unfolding nodes_mono
@@ -63,3 +64,14 @@ sum_has_code = record {
   within = refl;
   is = refl;
 }
+
+pub worked : ExtractedCodeIsValid → WorkedCodeFile
+unfolding little_endian
+worked law =
+    let b = law.second sum_file (checked_all sum_env ((sum_goal ∷ []) ∷ [])) (Some 0) sum_code sum_checked sum_has_code in
+    record {
+      checked = sum_checked;
+      has_code = sum_has_code;
+      bytes = record { valid = b.valid; within = b.within; layout = refl };
+      count = refl;
+    }
