@@ -1,6 +1,5 @@
 -- The code of a derived file does what its run does, and this meets main's triple.
 use Rattle.std.proofs.Common.{◌≡◌, ◌≢◌, ◌≤◌, ◌<◌, ◌^◌, ◌+◌, ◌↔◌, ◌⊎◌, ℕ, zero, suc, List, [], ◌∷◌, All, Ok, Some, None, slice_get, inl, inr, refl, sym, ap, ◌∙◌, subst, arith}
-use Rattle.std.proofs.lemmas.Option.{same_Some}
 use Rattle.std.proofs.lemmas.List.Elements.{All-nil, All-cons}
 use Rattle.htt_syntax_words.specs.declared.words.Kind.{Kind}
 use Rattle.htt_syntax.specs.Trees.{TripleTree, FormulaTree, triple, y_hoare, f_tt, f_emp}
@@ -10,7 +9,7 @@ use Rattle.theory_values.proofs.Joins.{join_of_empty, join_commutes, join_with_e
 use Rattle.theory_truth.specs.Worlds.{th_heap}
 use Rattle.theory_truth.specs.Truth.{Holds}
 use Rattle.theory_truth.specs.Predicates.{RecTree, recs_of}
-use Rattle.theory_meaning.specs.Closures.{RunValue, base, fault}
+use Rattle.theory_meaning.specs.Closures.{base}
 use Rattle.theory_meaning.specs.Choices.{numbers_from, AreShipped}
 use Rattle.theory_triples.specs.Triples.{PreHolds, PostHolds, MeetsTriple, run_of_val}
 use Rattle.word_loader_code.specs.declared.code.Code.{Code}
@@ -22,12 +21,11 @@ use Rattle.theory_typing.specs.Contexts.{Environment}
 use Rattle.theory_items.specs.Items.{ItemTree}
 use Rattle.theory_file_derived.specs.Derived.{ProofItem, IsDerived, texts_of}
 use Rattle.theory_file_sound.proofs.Sound.{derived_sound}
-use Rattle.theory_instances.specs.Calls.{ProgramVal}
-use Rattle.theory_typing.specs.Laws.{none}
-use Rattle.theory_emitted.specs.Laws.{CodeHalts, CodeAsks}
-use Rattle.theory_extraction.specs.Extraction.{HasVals, HasCode}
+use Rattle.theory_emitted.specs.Laws.{CodeHalts}
+use Rattle.theory_extraction.specs.Extraction.{HasCode}
+use Rattle.theory_extraction_faithful.specs.Laws.{TextEnds, NeverFaults, ExtractionIsFaithful}
 use Rattle.theory_extraction_valid.specs.Laws.{ExtractedCodeIsValid}
-use Rattle.theory_extraction_sound.specs.Outcomes.{RunEnds, RunAsks, HaltIsRight, IsSoundFrom, StartsEmpty, ReturnIsRight, GoesOnOrReturns}
+use Rattle.theory_extraction_sound.specs.Outcomes.{HaltIsRight, IsSoundFrom, StartsEmpty, ReturnIsRight, GoesOnOrReturns}
 use Rattle.theory_extraction_sound.specs.Laws.{ExtractedCodeIsSound}
 use Rattle.theory_extraction_sound.proofs.Main.{HasMain, main_of}
 
@@ -77,20 +75,7 @@ return_right table spec words g r =
 
 -- ---- from each heap
 
-abbrev pub Faithful : Type 0
-Faithful =
-    (items : List ItemTree) (vals : List ProgramVal) (main : ℕ) (code : Code) (v : ProgramVal) (spec : TripleTree)
-    → HasVals none items vals
-    → HasCode items (Some main) code
-    → slice_get vals main ≡ Some v
-    → v.ty ≡ y_hoare spec
-    → (h : Heap) (choices : List ℕ)
-    → ((fuel : ℕ) → run_of_val (texts_of items) main fuel choices h ≢ fault)
-    → ((steps : ℕ) (kind : Kind) (l : ℕ) → machine_after code h choices steps ≢ faulted kind l)
-    × ((words : List ℕ) (g : Heap) → CodeHalts code h choices words g ↔ RunEnds (texts_of items) main h choices words g)
-    × (CodeAsks code h choices ↔ RunAsks (texts_of items) main h choices)
-
-module _ (faithful : Faithful) (valid_code : ExtractedCodeIsValid) where
+module _ (faithful : ExtractionIsFaithful) (valid_code : ExtractedCodeIsValid) where
   sound_from : (items : List ItemTree) (proofs : List ProofItem) (final : Environment) (main : ℕ) (spec : TripleTree) (code : Code)
       → IsDerived items proofs final
       → HasCode items (Some main) code
@@ -101,20 +86,18 @@ module _ (faithful : Faithful) (valid_code : ExtractedCodeIsValid) where
       → IsHeap whole
       → IsJoin whole h k
       → PreHolds final.recs spec h
-      → IsSoundFrom (texts_of items) main code final.recs spec choices whole h k
+      → IsSoundFrom items main code final.recs spec choices whole h k
   sound_from items proofs final main spec code d c q choices words whole h k heap join pre =
-      let m = main_of d.derives c in
-      let is : m.val.ty ≡ y_hoare spec = m.is_hoare ∙ same_Some (y_hoare m.spec) (y_hoare spec) (sym m.typed ∙ q) in
       let meets : (fuel : ℕ) → MeetsTriple final.recs spec (run_of_val (texts_of items) main fuel choices) h k =
       λ fuel. derived_sound.triples items proofs final d main spec q fuel choices words h k in
-      let f = faithful items c.vals main code m.val spec c.has_vals c m.there is whole choices
-      (λ fuel. (meets fuel).no_fault whole heap join pre) in
+      let f = faithful.code items main code c whole choices in
+      let never : NeverFaults items main whole choices = λ fuel. (meets fuel).no_fault whole heap join pre in
       record {
-        never_faults = f.0;
-        halts = f.1;
-        asks = f.2;
+        never_faults = f.never never;
+        halts = f.halts never;
+        asks = f.asks never;
         leaves = λ result g a.
-            let e : RunEnds (texts_of items) main whole choices result g = (f.1 result g).0 a in
+            let e : TextEnds items main whole choices result g = (f.halts never result g).0 a in
             record { value = e.1; words_are = e.4; leaves = (meets (e.0)).ends_so whole heap join pre (base (e.1)) g (e.2) (e.3) };
       }
 

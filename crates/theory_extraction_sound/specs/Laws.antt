@@ -11,7 +11,7 @@ use Rattle.word_loader_code.specs.Machine.{machine_after}
 use Rattle.theory_typing.specs.Contexts.{Environment}
 use Rattle.theory_typing.specs.Laws.{none}
 use Rattle.theory_items.specs.Items.{ItemTree}
-use Rattle.theory_file_derived.specs.Derived.{ProofItem, IsDerived, texts_of}
+use Rattle.theory_file_derived.specs.Derived.{ProofItem, IsDerived}
 use Rattle.theory_extraction.specs.Extraction.{HasCode}
 use Rattle.theory_checking_files.specs.Files.{CheckedAll, ItemsComeTo}
 use Rattle.theory_extraction_sound.specs.Outcomes.{IsSoundFrom, StartsEmpty, GoesOnOrReturns}
@@ -35,7 +35,7 @@ pub record ExtractedCodeIsSound : Type 0 where
       → IsHeap whole
       → IsJoin whole h k
       → PreHolds final.recs spec h
-      → IsSoundFrom (texts_of items) main code final.recs spec choices whole h k
+      → IsSoundFrom items main code final.recs spec choices whole h k
   -- the empty heap meets such a precondition
   pub empty_is_begin : (table : List RecTree) (spec : TripleTree) → StartsEmpty spec → PreHolds table spec empty_heap
   -- from the empty heap, with the shipped choices, of which there are as many as steps and no more than there

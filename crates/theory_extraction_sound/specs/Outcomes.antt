@@ -5,21 +5,13 @@ use Rattle.htt_syntax.specs.Trees.{TripleTree, triple, f_tt, f_emp}
 use Rattle.theory_values.specs.Values.{Value, HasType, encoding}
 use Rattle.theory_values.specs.Heaps.{Heap, IsHeap, empty_heap}
 use Rattle.theory_truth.specs.Predicates.{RecTree}
-use Rattle.theory_meaning.specs.Closures.{Items, base, done, asks}
-use Rattle.theory_triples.specs.Triples.{PostHolds, Leaves, result_mono, run_of_val}
+use Rattle.theory_meaning.specs.Closures.{base}
+use Rattle.theory_triples.specs.Triples.{PostHolds, Leaves, result_mono}
 use Rattle.word_loader_code.specs.declared.code.Code.{Code}
 use Rattle.word_loader_code.specs.Machine.{Machine, going, halted, faulted, asking, machine_after}
+use Rattle.theory_items.specs.Items.{ItemTree}
 use Rattle.theory_emitted.specs.Laws.{CodeHalts, CodeAsks}
-
--- With some fuel the run of this value is done with a value of these words and this heap, or it asks.
-abbrev pub RunEnds : Items → ℕ → Heap → List ℕ → List ℕ → Heap → Type 0
-RunEnds texts number h choices words k =
-    (fuel : ℕ) × (v : Value) × (left : List ℕ)
-    × (run_of_val texts number fuel choices h ≡ done (base v) k left)
-    × (words ≡ encoding v)
-
-abbrev pub RunAsks : Items → ℕ → Heap → List ℕ → Type 0
-RunAsks texts number h choices = (fuel : ℕ) × (run_of_val texts number fuel choices h ≡ asks)
+use Rattle.theory_extraction_faithful.specs.Laws.{TextEnds, TextAsks}
 
 -- A halt of code that was started on h beside the other part k: the words are those of a value, and the heap is
 -- k and a rest of which the postcondition is true with this value.
@@ -29,13 +21,13 @@ pub record HaltIsRight (table : List RecTree) (spec : TripleTree) (h k : Heap) (
   pub leaves : Leaves table spec h k (base value) g
 
 -- The code that is started on the whole of h and k: it doesn't fault after any number of steps, it halts and
--- asks exactly where the run of main is done and asks, and each halt is right.
-pub record IsSoundFrom (texts : Items) (main : ℕ) (code : Code) (table : List RecTree) (spec : TripleTree)
+-- asks exactly where the run of main's text ends and asks, and each halt is right.
+pub record IsSoundFrom (items : List ItemTree) (main : ℕ) (code : Code) (table : List RecTree) (spec : TripleTree)
     (choices : List ℕ) (whole h k : Heap) : Type 0 where
   pub never_faults : (steps : ℕ) (kind : Kind) (l : ℕ) → machine_after code whole choices steps ≢ faulted kind l
   pub halts : (words : List ℕ) (g : Heap)
-      → CodeHalts code whole choices words g ↔ RunEnds texts main whole choices words g
-  pub asks : CodeAsks code whole choices ↔ RunAsks texts main whole choices
+      → CodeHalts code whole choices words g ↔ TextEnds items main whole choices words g
+  pub asks : CodeAsks code whole choices ↔ TextAsks items main whole choices
   pub leaves : (words : List ℕ) (g : Heap)
       → CodeHalts code whole choices words g
       → HaltIsRight table spec h k words g

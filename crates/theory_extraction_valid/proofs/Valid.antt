@@ -13,7 +13,7 @@ use Rattle.theory_emission.specs.Codes.{code_of, first_code, emit_refusal}
 use Rattle.theory_emission_valid.specs.Laws.{BeginsWithMain, IsEmittable}
 use Rattle.theory_emission_valid.proofs.Codes.{is_valid, numbers_fit}
 use Rattle.theory_extraction.specs.Extraction.{HasVals, program, HasCode}
-use Rattle.theory_extraction_formed.specs.Laws.{FileProgramsAreTyped}
+use Rattle.theory_extraction_formed.proofs.Files.{files_typed}
 use Rattle.theory_extraction_narrow.proofs.Files.{checked_files_are_narrow}
 use Rattle.theory_checking_files.specs.Files.{CheckedAll, ItemsComeTo}
 use Rattle.theory_extraction_valid.specs.Laws.{ExtractedCodeIsValid}
@@ -27,40 +27,39 @@ begins : (instances : List Instance)
 begins [] (main, q, e) = absurd (none_is_some q)
 begins (first ∷ others) (main, q, e) = ap (λ (i : Instance). i.params) (same_Some first main q) ∙ e
 
-module _ (typed : FileProgramsAreTyped) where
-  emittable : (items : List ItemTree) (k : CheckedAll) (main : Option ℕ) (vals : List ProgramVal) (instances : List Instance)
-      → ItemsComeTo zero none items (Ok k)
-      → HasVals none items vals
-      → HasFlatInstances (program vals main) instances
-      → IsEmittable instances
-  emittable items k main vals instances come has flat = record {
-    typed = typed items vals main instances has flat;
-    main = begins instances (closed.main_is_first (program vals main) instances flat);
-    few = closed.few (program vals main) instances flat;
-    monos = instances_are_narrow (program vals main) instances (checked_files_are_narrow items k vals main come has) flat;
-  }
+emittable : (items : List ItemTree) (k : CheckedAll) (main : Option ℕ) (vals : List ProgramVal) (instances : List Instance)
+    → ItemsComeTo zero none items (Ok k)
+    → HasVals none items vals
+    → HasFlatInstances (program vals main) instances
+    → IsEmittable instances
+emittable items k main vals instances come has flat = record {
+  typed = files_typed items vals main instances has flat;
+  main = begins instances (closed.main_is_first (program vals main) instances flat);
+  few = closed.few (program vals main) instances flat;
+  monos = instances_are_narrow (program vals main) instances (checked_files_are_narrow items k vals main come has) flat;
+}
 
-  second_bytes : (items : List ItemTree) (k : CheckedAll) (main : Option ℕ) (code : Code)
-      → ItemsComeTo zero none items (Ok k)
-      → HasCode items main code
-      → Bytes (code_bytes code) code
-  second_bytes items k main code come h =
-      let ready = emittable items k main h.vals h.instances come h.has_vals h.has_instances in
-      subst (λ (c : Code). Bytes (code_bytes c) c) (sym h.is)
-      (record {
-        valid = is_valid.second h.instances ready h.within;
-        within = numbers_fit.second h.instances ready h.within;
+second_bytes : (items : List ItemTree) (k : CheckedAll) (main : Option ℕ) (code : Code)
+    → ItemsComeTo zero none items (Ok k)
+    → HasCode items main code
+    → Bytes (code_bytes code) code
+second_bytes items k main code come h =
+    let ready = emittable items k main h.vals h.instances come h.has_vals h.has_instances in
+    subst (λ (c : Code). Bytes (code_bytes c) c) (sym h.is)
+    (record {
+      valid = is_valid.second h.instances ready h.within;
+      within = numbers_fit.second h.instances ready h.within;
+      layout = refl;
+    })
+
+pub code_is_valid : ExtractedCodeIsValid
+code_is_valid = record {
+  second = second_bytes;
+  first = λ items k main vals instances come has flat fine.
+      let ready = emittable items k main vals instances come has flat in
+      record {
+        valid = is_valid.first instances ready fine;
+        within = numbers_fit.first instances ready fine;
         layout = refl;
-      })
-
-  pub code_is_valid : ExtractedCodeIsValid
-  code_is_valid = record {
-    second = second_bytes;
-    first = λ items k main vals instances come has flat fine.
-        let ready = emittable items k main vals instances come has flat in
-        record {
-          valid = is_valid.first instances ready fine;
-          within = numbers_fit.first instances ready fine;
-          layout = refl;
-        };
-  }
+      };
+}
