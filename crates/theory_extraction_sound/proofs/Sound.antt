@@ -24,7 +24,7 @@ use Rattle.theory_file_sound.proofs.Sound.{derived_sound}
 use Rattle.theory_emitted.specs.Laws.{CodeHalts}
 use Rattle.theory_extraction.specs.Extraction.{HasCode}
 use Rattle.theory_extraction_faithful.specs.Laws.{TextEnds, NeverFaults, ExtractionIsFaithful}
-use Rattle.theory_extraction_valid.specs.Laws.{ExtractedCodeIsValid}
+use Rattle.theory_extraction_valid.proofs.Valid.{code_is_valid}
 use Rattle.theory_extraction_sound.specs.Outcomes.{HaltIsRight, IsSoundFrom, StartsEmpty, ReturnIsRight, GoesOnOrReturns}
 use Rattle.theory_extraction_sound.specs.Laws.{ExtractedCodeIsSound}
 use Rattle.theory_extraction_sound.proofs.Main.{HasMain, main_of}
@@ -75,7 +75,7 @@ return_right table spec words g r =
 
 -- ---- from each heap
 
-module _ (faithful : ExtractionIsFaithful) (valid_code : ExtractedCodeIsValid) where
+module _ (faithful : ExtractionIsFaithful) where
   sound_from : (items : List ItemTree) (proofs : List ProofItem) (final : Environment) (main : ℕ) (spec : TripleTree) (code : Code)
       → IsDerived items proofs final
       → HasCode items (Some main) code
@@ -111,7 +111,7 @@ module _ (faithful : ExtractionIsFaithful) (valid_code : ExtractedCodeIsValid) w
         let sound =
         sound_from items proofs final main spec code d c q choices words empty_heap empty_heap empty_heap empty_is_heap
         (join_of_empty empty_heap) (empty_begins final.recs spec starts) in
-        let valid = (valid_code.second items checked (Some main) code come c).valid in
+        let valid = (code_is_valid.second items checked (Some main) code come c).valid in
         returns final.recs spec code count choices steps valid shipped enough sound.never_faults sound.leaves;
   }
     where

@@ -9,7 +9,6 @@ use Rattle.theory_instances.specs.Calls.{ProgramVal}
 use Rattle.theory_flat.specs.Flat.{Instance, HasFlatInstances}
 use Rattle.theory_flat_closed.proofs.Closed.{closed}
 use Rattle.theory_flat_narrow.proofs.Narrow.{instances_are_narrow}
-use Rattle.theory_emission.specs.Codes.{code_of, first_code, emit_refusal}
 use Rattle.theory_emission_valid.specs.Laws.{BeginsWithMain, IsEmittable}
 use Rattle.theory_emission_valid.proofs.Codes.{is_valid, numbers_fit}
 use Rattle.theory_extraction.specs.Extraction.{HasVals, program, HasCode}
