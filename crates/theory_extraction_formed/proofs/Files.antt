@@ -3,28 +3,31 @@ use Rattle.std.proofs.Common.{◌≡◌, ℕ, List, [], ◌∷◌, ◌++◌, map
 use Rattle.std.proofs.lemmas.List.{append-nil, append_assoc, map-append}
 use Rattle.htt_syntax.specs.Trees.{MonoTree, TyTree, TermTree}
 use Rattle.theory_truth.specs.Predicates.{RecTree}
-use Rattle.theory_typing.specs.Contexts.{Environment, Obligation}
+use Rattle.theory_typing.specs.Contexts.{Environment}
 use Rattle.theory_typing.specs.Laws.{none}
-use Rattle.theory_items.specs.Items.{ItemTree, Added, with_val, with_added, Derives, derives_abbreviation, derives_pred, derives_def, derives_val, derives_rec}
+use Rattle.theory_canonical.specs.Skeletons.{skeleton}
+use Rattle.theory_typing_canonical.specs.Environments.{no_entry}
+use Rattle.theory_typing_canonical.proofs.Typed.{fitted}
+use Rattle.theory_typing_canonical.proofs.Typed as Canonical
+use Rattle.theory_items.specs.Items.{ItemTree, with_val, derives_abbreviation, derives_pred, derives_def, derives_val, derives_rec}
 use Rattle.theory_items.proofs.Lists.{no_element, appended}
+use Rattle.theory_items_sound.specs.Environments.{SoundEnvironment}
 use Rattle.theory_items_sound.proofs.Files.{val_file, rec_file}
 use Rattle.theory_items_sound.proofs.Kept.{items_keep_sound}
-use Rattle.theory_formed_shapes.specs.Shapes.{Shape, shape_of}
+use Rattle.theory_formed_shapes.specs.Shapes.{shape_of}
 use Rattle.theory_formed_shapes.specs.Formed.{FileShapes, file_shapes, IsFormedMono, IsFormedTerm, IsFormedTy}
 use Rattle.theory_formed_shapes.specs.Environments.{formed_none}
-use Rattle.theory_formed_shapes.proofs.More.{HasFile, term_more}
+use Rattle.theory_formed_shapes.proofs.More.{term_more}
 use Rattle.theory_formed_typing.proofs.Closed.{map_get, mapped}
 use Rattle.theory_formed_typing.proofs.Typed.{formed_ty, fit_formed}
 use Rattle.theory_formed_items.specs.Environments.{IsFormedEnvironment}
 use Rattle.theory_formed_items.proofs.Kept.{items_keep_formed}
-use Rattle.theory_denotation.specs.Denotation.{ValTree}
-use Rattle.theory_denotation_relations.specs.Files.{AreVals}
-use Rattle.theory_instances.specs.Calls.{ProgramVal, Program}
+use Rattle.theory_denotation_relations.specs.Files.{AreVals, vals_end, vals_more}
+use Rattle.theory_logic_unfoldings_satisfied.proofs.Bodies.{ends_run}
+use Rattle.theory_instances.specs.Calls.{ProgramVal}
 use Rattle.theory_instances_formed.specs.Formed.{file_with, IsFormedProgram}
-use Rattle.theory_instances_canonical.specs.Keys.{val_tree, IsCanonicalProgram}
+use Rattle.theory_instances_canonical.specs.Keys.{val_tree}
 use Rattle.theory_extraction.specs.Extraction.{HasVals, vals_none, vals_next, program}
-use Rattle.theory_adequacy_files.specs.Laws.{trees_of}
-use Rattle.theory_adequacy_files.proofs.Values.{are_vals}
 use Rattle.theory_flat_formed.proofs.Listed.{flat_typed}
 use Rattle.theory_extraction_formed.specs.Laws.{FileProgramsAreFormed, FileProgramsAreTyped}
 
@@ -55,7 +58,7 @@ val_formed env before ty term k d = record {
   terms = λ n v q. elim (appended before (record { ty = ty; term = term }) n v q) [
     | inl f ↦ term_more (val_file env ty) (k.terms n v f)
     | inr (p, f) ↦
-      subst (λ (x : ProgramVal). IsFormedTerm (file_shapes (with_val env ty)) [] x.term (shape_of x.ty)) f (term_more (val_file env ty) d)
+        subst (λ (x : ProgramVal). IsFormedTerm (file_shapes (with_val env ty)) [] x.term (shape_of x.ty)) f (term_more (val_file env ty) d)
   ];
 }
 
@@ -108,14 +111,27 @@ file_formed items vals main h = all_formed main [] h items_keep_formed.empty non
 
 -- ---- canonical
 
-trees_are : (vals : List ProgramVal) → trees_of vals ≡ map val_tree vals
-trees_are [] = refl
-trees_are (v ∷ vals) = ap (λ ts. val_tree v ∷ ts) (trees_are vals)
+-- each under those before it
+pub vals_canonical : {env : Environment} {items : List ItemTree} {vals : List ProgramVal}
+    → HasVals env items vals
+    → SoundEnvironment env
+    → AreVals (map skeleton env.vals) (map val_tree vals)
+vals_canonical vals_none s = vals_end
+vals_canonical (vals_next {env = env} {item = item} {added = added} {owed = owed} {vals = vals} (derives_val {ty' = ty'} a ends b) rest) s =
+    vals_more (fitted env s.canonical no_entry (Canonical.formed_ty env s.canonical no_entry a) b).term (ends_run ty' ends)
+    (subst (λ before. AreVals before (map val_tree vals)) (map-append skeleton env.vals (ty' ∷ []))
+    (vals_canonical rest (items_keep_sound.kept env item added owed s (derives_val a ends b))))
+vals_canonical (vals_next (derives_abbreviation a) rest) s = vals_canonical rest s
+vals_canonical (vals_next (derives_pred a b) rest) s = vals_canonical rest s
+vals_canonical (vals_next {env = env} {item = item} {added = added} {owed = owed} (derives_def a b) rest) s =
+    vals_canonical rest (items_keep_sound.kept env item added owed s (derives_def a b))
+vals_canonical (vals_next {env = env} {item = item} {added = added} {owed = owed} (derives_rec f a b i) rest) s =
+    vals_canonical rest (items_keep_sound.kept env item added owed s (derives_rec f a b i))
 
 pub files_formed : FileProgramsAreFormed
 files_formed = record {
   formed = file_formed;
-  canonical = λ items vals main h. subst (AreVals []) (trees_are vals) (are_vals h items_keep_sound.empty);
+  canonical = λ items vals main h. vals_canonical h items_keep_sound.empty;
 }
 
 pub files_typed : FileProgramsAreTyped
