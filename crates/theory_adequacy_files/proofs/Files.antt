@@ -1,5 +1,5 @@
 -- The texts of a file's values and their canonical terms come to the same.
-use Rattle.std.proofs.Common.{◌≡◌, ◌≢◌, ◌<◌, ◌≤◌, ◌↔◌, ℕ, zero, suc, ◌+◌, List, [], Some, slice_get, refl, sym, ap, ◌∙◌, subst, arith}
+use Rattle.std.proofs.Common.{◌≡◌, ◌↔◌, ℕ, zero, suc, ◌+◌, List, [], Some, slice_get, refl, sym, ap, ◌∙◌, subst, arith}
 use Rattle.htt_syntax.specs.Trees.{MonoTree, TyTree, TripleTree, y_hoare}
 use Rattle.theory_values.specs.Values.{Value}
 use Rattle.theory_values.specs.Heaps.{Heap}

@@ -12,11 +12,13 @@ use Rattle.word_loader_code.specs.declared.code.Code.{Code}
 use Rattle.word_loader_code.specs.Machine.{machine_after, faulted}
 use Rattle.theory_instances.specs.Calls.{ProgramVal}
 use Rattle.theory_flat.specs.Flat.{Instance, HasFlatInstances}
+use Rattle.theory_flat.specs.Reading.{flat_run}
+use Rattle.theory_emission.specs.Codes.{first_code, code_of}
 use Rattle.theory_emitted.specs.Laws.{CodeHalts, CodeAsks, FlatEnds, FlatAsks, NeverWrong, HasOutcomes}
 use Rattle.theory_emitted.proofs.Main.{programs_emitted}
 use Rattle.theory_extraction.specs.Extraction.{HasVals, HasCode, program}
-use Rattle.theory_extraction_formed.proofs.Typed.{file_programs_typed}
-use Rattle.theory_extraction_faithful.specs.Laws.{TextEnds, TextAsks, TextFaults, NeverFaults, DoesAsText, ExtractionIsFaithful}
+use Rattle.theory_extraction_formed.proofs.Files.{files_typed}
+use Rattle.theory_extraction_faithful.specs.Laws.{text_run, TextEnds, TextFaults, NeverFaults, DoesAsText, ExtractionIsFaithful}
 use Rattle.theory_extraction_faithful.proofs.Text.{flat_of_text, text_of_flat, result_is}
 
 module _ (items : List ItemTree) (vals : List ProgramVal) (main : ℕ) (instances : List Instance) (d : HasVals none items vals)
@@ -39,10 +41,12 @@ module _ (items : List ItemTree) (vals : List ProgramVal) (main : ℕ) (instance
       → text_run items main h cs fuel ≡ done result k left
       → (v : Value) × (result ≡ base v) × CodeHalts code h cs (encoding v) k
   ends_so fuel result k left text =
-      let r = result_is items vals main instances d has h cs fuel result k left text in
-      (r.0, r.1,
-      outcomes.ends (encoding (r.0)) k
-      (flat_ends (encoding (r.0)) k (fuel, r.0, left, text ∙ ap (λ u. done u k left) (r.1), refl)))
+      let r = result_is items vals main instances d has h cs fuel result k left text in (
+        r.0,
+        r.1,
+        outcomes.ends (encoding (r.0)) k
+            (flat_ends (encoding (r.0)) k (fuel, r.0, left, text ∙ ap (λ u. done u k left) (r.1), refl)),
+      )
 
   faults_so : (steps : ℕ) (kind : Kind) (l : ℕ) → machine_after code h cs steps ≡ faulted kind l → TextFaults items main h cs
   faults_so steps kind l q = faults_too (steps, outcomes.faults steps kind l q)
@@ -50,12 +54,14 @@ module _ (items : List ItemTree) (vals : List ProgramVal) (main : ℕ) (instance
   pub does_as_text : DoesAsText items main code h cs
   does_as_text = record {
     never = λ no steps kind l q. let f = faults_so steps kind l q in no (f.0) (f.1);
-    halts = λ no words k.
-        ((λ halts. text_ends words k ((outcomes.halts (never_wrong no) words k).0 halts)),
-        (λ ends. outcomes.ends words k (flat_ends words k ends)));
-    asks = λ no.
-        ((λ asks. text_of_flat items vals main instances d has h cs asking (λ q. cc) ((outcomes.asks (never_wrong no)).0 asks)),
-        (λ text. outcomes.flat_asks (flat_of_text items vals main instances d has h cs asking (λ q. cc) text)));
+    halts = λ no words k. (
+      (λ halts. text_ends words k ((outcomes.halts (never_wrong no) words k).0 halts)),
+      (λ ends. outcomes.ends words k (flat_ends words k ends)),
+    );
+    asks = λ no. (
+      (λ asks. text_of_flat items vals main instances d has h cs asking (λ q. cc) ((outcomes.asks (never_wrong no)).0 asks)),
+      (λ text. outcomes.flat_asks (flat_of_text items vals main instances d has h cs asking (λ q. cc) text)),
+    );
     ends = ends_so;
     faults = faults_so;
   }
@@ -64,12 +70,12 @@ pub faithful : ExtractionIsFaithful
 faithful = record {
   code = λ items main code c h cs.
       let p = program c.vals (Some main) in
-      let typed = file_programs_typed items c.vals (Some main) c.instances c.has_vals c.has_instances in
+      let typed = files_typed items c.vals (Some main) c.instances c.has_vals c.has_instances in
       subst (λ (x : Code). DoesAsText items main x h cs) (sym c.is)
       (does_as_text items c.vals main c.instances c.has_vals c.has_instances (code_of c.instances) h cs
       (programs_emitted.second p c.instances h cs c.has_instances typed));
   first = λ items vals main instances d has h cs.
       let p = program vals (Some main) in
-      let typed = file_programs_typed items vals (Some main) instances d has in
+      let typed = files_typed items vals (Some main) instances d has in
       does_as_text items vals main instances d has (first_code instances) h cs (programs_emitted.first p instances h cs has typed);
 }

@@ -2,19 +2,17 @@
 -- denotes with the entries of the file, and with the heads of the instances.
 use Rattle.std.proofs.Common.{◌≡◌, ◌≢◌, ℕ, List, [], ◌∷◌, map, Some, slice_get, refl, sym, ap, ◌∙◌, subst}
 use Rattle.std.proofs.lemmas.Option.{same_Some}
-use Rattle.htt_syntax.specs.Trees.{TripleTree, y_hoare}
+use Rattle.htt_syntax.specs.Trees.{TripleTree}
 use Rattle.theory_values.specs.Values.{Value}
 use Rattle.theory_values.specs.Heaps.{Heap}
 use Rattle.theory_meaning.specs.Closures.{RunValue, base, done}
 use Rattle.theory_canonical.specs.Skeletons.{sk_c, skeleton}
 use Rattle.theory_typing.specs.Laws.{none}
 use Rattle.theory_items.specs.Items.{ItemTree}
-use Rattle.theory_items_sound.proofs.Kept.{items_keep_sound}
 use Rattle.theory_denotation.specs.Outcomes.{Outcome, out_of_fuel}
 use Rattle.theory_denotation.specs.Valuations.{HeadEntries}
 use Rattle.theory_denotation.specs.Denotation.{ValTree, term_den, heads_of_vals}
 use Rattle.theory_denotation.specs.Laws.{run_result}
-use Rattle.theory_denotation_relations.specs.Files.{AreVals}
 use Rattle.theory_instances.specs.Calls.{ProgramVal, Program}
 use Rattle.theory_instances_canonical.specs.Keys.{val_tree, IsCanonicalProgram}
 use Rattle.theory_instances_heads.specs.Heads.{AreInstanceHeads, heads_of_instances}
@@ -26,8 +24,8 @@ use Rattle.theory_flat.specs.Reading.{flat_run}
 use Rattle.theory_flat_denoted.proofs.Main.{main_denoted}
 use Rattle.theory_extraction.specs.Extraction.{HasVals, program}
 use Rattle.theory_adequacy_files.specs.Laws.{trees_of, entries_of}
-use Rattle.theory_adequacy_files.proofs.Values.{are_vals}
 use Rattle.theory_adequacy_files.proofs.Files.{files}
+use Rattle.theory_extraction_formed.proofs.Files.{files_formed}
 use Rattle.theory_extraction_faithful.specs.Laws.{text_run}
 
 trees_are : (vals : List ProgramVal) → trees_of vals ≡ map val_tree vals
@@ -56,7 +54,7 @@ module _ (items : List ItemTree) (vals : List ProgramVal) (main : ℕ) (instance
   main_runs = ap skeleton has.has.main.is_hoare
 
   canonical : IsCanonicalProgram p
-  canonical = subst (λ (vs : List ValTree). AreVals [] vs) (trees_are vals) (are_vals d items_keep_sound.empty)
+  canonical = files_formed.canonical items vals (Some main) d
 
   heads : AreInstanceHeads p has.keys e
   heads = have_heads p has.taken has.keys canonical has.has
@@ -77,8 +75,8 @@ module _ (items : List ItemTree) (vals : List ProgramVal) (main : ℕ) (instance
   flat_of_text h cs end other text =
       let plain = (files.outcomes items vals d main val spec there has.has.main.is_hoare h cs end other).0 text in
       let counted =
-          (instance_heads p has.keys e canonical heads main val there main_runs h cs end other).1
-          (subst (λ (f : HeadEntries). Denotes f h cs end) plain_is plain) in
+      (instance_heads p has.keys e canonical heads main val there main_runs h cs end other).1
+      (subst (λ (f : HeadEntries). Denotes f h cs end) plain_is plain) in
       (counted.0, flat_is (counted.0) h cs ∙ counted.1)
 
   pub text_of_flat : (h : Heap) (cs : List ℕ) (end : Outcome)
@@ -87,7 +85,7 @@ module _ (items : List ItemTree) (vals : List ProgramVal) (main : ℕ) (instance
       → (fuel : ℕ) × (text_run items main h cs fuel ≡ run_result end)
   text_of_flat h cs end other (n, flat) =
       let plain =
-          (instance_heads p has.keys e canonical heads main val there main_runs h cs end other).0 (n, sym (flat_is n h cs) ∙ flat) in
+      (instance_heads p has.keys e canonical heads main val there main_runs h cs end other).0 (n, sym (flat_is n h cs) ∙ flat) in
       (files.outcomes items vals d main val spec there has.has.main.is_hoare h cs end other).1
       (subst (λ (f : HeadEntries). Denotes f h cs end) (sym plain_is) plain)
 
