@@ -23,7 +23,8 @@ use Rattle.theory_file_derived.specs.Derived.{ProofItem, IsDerived, texts_of}
 use Rattle.theory_file_sound.proofs.Sound.{derived_sound}
 use Rattle.theory_emitted.specs.Laws.{CodeHalts}
 use Rattle.theory_extraction.specs.Extraction.{HasCode}
-use Rattle.theory_extraction_faithful.specs.Laws.{TextEnds, NeverFaults, ExtractionIsFaithful}
+use Rattle.theory_extraction_faithful.specs.Laws.{TextEnds, NeverFaults}
+use Rattle.theory_extraction_faithful.proofs.Faithful.{faithful}
 use Rattle.theory_extraction_valid.proofs.Valid.{code_is_valid}
 use Rattle.theory_extraction_sound.specs.Outcomes.{HaltIsRight, IsSoundFrom, StartsEmpty, ReturnIsRight, GoesOnOrReturns}
 use Rattle.theory_extraction_sound.specs.Laws.{ExtractedCodeIsSound}
@@ -75,57 +76,56 @@ return_right table spec words g r =
 
 -- ---- from each heap
 
-module _ (faithful : ExtractionIsFaithful) where
-  sound_from : (items : List ItemTree) (proofs : List ProofItem) (final : Environment) (main : ℕ) (spec : TripleTree) (code : Code)
-      → IsDerived items proofs final
-      → HasCode items (Some main) code
-      → slice_get final.vals main ≡ Some (y_hoare spec)
-      → (choices : List ℕ)
-      → All IsWord choices
-      → (whole h k : Heap)
-      → IsHeap whole
-      → IsJoin whole h k
-      → PreHolds final.recs spec h
-      → IsSoundFrom items main code final.recs spec choices whole h k
-  sound_from items proofs final main spec code d c q choices words whole h k heap join pre =
-      let meets : (fuel : ℕ) → MeetsTriple final.recs spec (run_of_val (texts_of items) main fuel choices) h k =
-      λ fuel. derived_sound.triples items proofs final d main spec q fuel choices words h k in
-      let f = faithful.code items main code c whole choices in
-      let never : NeverFaults items main whole choices = λ fuel. (meets fuel).no_fault whole heap join pre in
-      record {
-        never_faults = f.never never;
-        halts = f.halts never;
-        asks = f.asks never;
-        leaves = λ result g a.
-            let e : TextEnds items main whole choices result g = (f.halts never result g).0 a in
-            record { value = e.1; words_are = e.4; leaves = (meets (e.0)).ends_so whole heap join pre (base (e.1)) g (e.2) (e.3) };
-      }
+sound_from : (items : List ItemTree) (proofs : List ProofItem) (final : Environment) (main : ℕ) (spec : TripleTree) (code : Code)
+    → IsDerived items proofs final
+    → HasCode items (Some main) code
+    → slice_get final.vals main ≡ Some (y_hoare spec)
+    → (choices : List ℕ)
+    → All IsWord choices
+    → (whole h k : Heap)
+    → IsHeap whole
+    → IsJoin whole h k
+    → PreHolds final.recs spec h
+    → IsSoundFrom items main code final.recs spec choices whole h k
+sound_from items proofs final main spec code d c q choices words whole h k heap join pre =
+    let meets : (fuel : ℕ) → MeetsTriple final.recs spec (run_of_val (texts_of items) main fuel choices) h k =
+    λ fuel. derived_sound.triples items proofs final d main spec q fuel choices words h k in
+    let f = faithful.code items main code c whole choices in
+    let never : NeverFaults items main whole choices = λ fuel. (meets fuel).no_fault whole heap join pre in
+    record {
+      never_faults = f.never never;
+      halts = f.halts never;
+      asks = f.asks never;
+      leaves = λ result g a.
+          let e : TextEnds items main whole choices result g = (f.halts never result g).0 a in
+          record { value = e.1; words_are = e.4; leaves = (meets (e.0)).ends_so whole heap join pre (base (e.1)) g (e.2) (e.3) };
+    }
 
-  pub code_is_sound : ExtractedCodeIsSound
-  code_is_sound = record {
-    main_has_triple = λ items proofs final main code d c. let m = main_of d.derives c in (m.spec, m.typed);
-    from_each_heap = sound_from;
-    empty_is_begin = empty_begins;
-    from_empty_heap = λ items proofs final main spec code checked d c q come starts count choices few shipped steps enough.
-        let words = shipped_are_words count choices few shipped in
-        let sound =
-        sound_from items proofs final main spec code d c q choices words empty_heap empty_heap empty_heap empty_is_heap
-        (join_of_empty empty_heap) (empty_begins final.recs spec starts) in
-        let valid = (code_is_valid.second items checked (Some main) code come c).valid in
-        returns final.recs spec code count choices steps valid shipped enough sound.never_faults sound.leaves;
-  }
-    where
-      returns : (table : List RecTree) (spec : TripleTree) (code : Code) (count : ℕ) (choices : List ℕ) (steps : ℕ)
-          → IsValid code
-          → AreShipped empty_heap count choices
-          → steps ≤ count
-          → ((n : ℕ) (kind : Kind) (l : ℕ) → machine_after code empty_heap choices n ≢ faulted kind l)
-          → ((words : List ℕ) (g : Heap) → CodeHalts code empty_heap choices words g → HaltIsRight table spec empty_heap empty_heap words g)
-          → GoesOnOrReturns table spec (machine_after code empty_heap choices steps)
-      returns table spec code count choices steps valid shipped enough never leaves = by (machine_after code empty_heap choices steps) refl
-        where
-          by : (m : Machine) → machine_after code empty_heap choices steps ≡ m → GoesOnOrReturns table spec m
-          by (going h stack left) e = tt
-          by (halted words g) e = return_right table spec words g (leaves words g (steps, e))
-          by (faulted kind l) e = absurd (never steps kind l e)
-          by asking e = absurd (shipped_choices_suffice_lem code empty_heap count choices steps valid shipped enough (subst Asks (sym e) tt))
+pub code_is_sound : ExtractedCodeIsSound
+code_is_sound = record {
+  main_has_triple = λ items proofs final main code d c. let m = main_of d.derives c in (m.spec, m.typed);
+  from_each_heap = sound_from;
+  empty_is_begin = empty_begins;
+  from_empty_heap = λ items proofs final main spec code checked d c q come starts count choices few shipped steps enough.
+      let words = shipped_are_words count choices few shipped in
+      let sound =
+      sound_from items proofs final main spec code d c q choices words empty_heap empty_heap empty_heap empty_is_heap
+      (join_of_empty empty_heap) (empty_begins final.recs spec starts) in
+      let valid = (code_is_valid.second items checked (Some main) code come c).valid in
+      returns final.recs spec code count choices steps valid shipped enough sound.never_faults sound.leaves;
+}
+  where
+    returns : (table : List RecTree) (spec : TripleTree) (code : Code) (count : ℕ) (choices : List ℕ) (steps : ℕ)
+        → IsValid code
+        → AreShipped empty_heap count choices
+        → steps ≤ count
+        → ((n : ℕ) (kind : Kind) (l : ℕ) → machine_after code empty_heap choices n ≢ faulted kind l)
+        → ((words : List ℕ) (g : Heap) → CodeHalts code empty_heap choices words g → HaltIsRight table spec empty_heap empty_heap words g)
+        → GoesOnOrReturns table spec (machine_after code empty_heap choices steps)
+    returns table spec code count choices steps valid shipped enough never leaves = by (machine_after code empty_heap choices steps) refl
+      where
+        by : (m : Machine) → machine_after code empty_heap choices steps ≡ m → GoesOnOrReturns table spec m
+        by (going h stack left) e = tt
+        by (halted words g) e = return_right table spec words g (leaves words g (steps, e))
+        by (faulted kind l) e = absurd (never steps kind l e)
+        by asking e = absurd (shipped_choices_suffice_lem code empty_heap count choices steps valid shipped enough (subst Asks (sym e) tt))
