@@ -83,7 +83,7 @@ one_further : (such : Meaning → Bool) (before : Names) (d : Option Declared) (
 one_further such before d n is =
     let counted : how_many such (before ++ d ∷ []) ≡ how_many such before + (0 + cond (declares_such such d) 1 0) =
     sum_by-append (λ x. cond (declares_such such x) 1 0) before (d ∷ []) in
-    let one : cond (declares_such such d) 1 0 ≡ 1 = ap (λ b. cond b 1 0) is in
+    let one : ◌≡◌ {A = ℕ} (cond (declares_such such d) 1 0) 1 = ap (λ b. cond b 1 0) is in
     omega (arith, counted, one)
 
 none_further : (such : Meaning → Bool) (before : Names) (d : Option Declared) (n : ℕ)
@@ -92,7 +92,7 @@ none_further : (such : Meaning → Bool) (before : Names) (d : Option Declared) 
 none_further such before d n is =
     let counted : how_many such (before ++ d ∷ []) ≡ how_many such before + (0 + cond (declares_such such d) 1 0) =
     sum_by-append (λ x. cond (declares_such such x) 1 0) before (d ∷ []) in
-    let none : cond (declares_such such d) 1 0 ≡ 0 = ap (λ b. cond b 1 0) is in
+    let none : ◌≡◌ {A = ℕ} (cond (declares_such such d) 1 0) 0 = ap (λ b. cond b 1 0) is in
     omega (arith, counted, none)
 
 -- ---- each one of a kind stands in the table for what it means
