@@ -1,3 +1,3 @@
-pub mod Reads
+pub mod Readings
 pub mod Lists
 pub mod Proofs

@@ -36,8 +36,8 @@ use Rattle.theory_printing_forms.proofs.Forms.{bind, any_term, any_formula}
 use Rattle.theory_printing_names.proofs.Named.{under_entry, under_new_hypothesis, hypothesis_read}
 use Rattle.theory_printing_forms.proofs.Leaves.{predicate}
 use Rattle.theory_printing_phrases.proofs.Phrases.{read_term, read_formula}
-use Rattle.theory_printing_proofs.proofs.Reads.{ReadsBlock, ProofRead, ReadsStmt, same_stmt, there, any_proof, as_end}
-use Rattle.theory_printing_proofs.proofs.Reads.{end_of_block}
+use Rattle.theory_printing_proofs.proofs.Readings.{ReadsBlock, ProofRead, ReadsStmt, same_stmt, there, any_proof, as_end}
+use Rattle.theory_printing_proofs.proofs.Readings.{end_of_block}
 use Rattle.theory_printing_proofs.proofs.Lists.{read_monos, read_arg, read_more_args, read_args, read_motive}
 
 mutual

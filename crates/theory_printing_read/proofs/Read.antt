@@ -14,7 +14,7 @@ use Rattle.theory_printing_tokens.proofs.Printed.{printed_tokens}
 use Rattle.theory_printing_forms.specs.Said.{said_ty, said_formula, said_proof}
 use Rattle.theory_printing_forms.proofs.Forms.{any_formula}
 use Rattle.theory_printing_phrases.proofs.Phrases.{read_ty, read_formula}
-use Rattle.theory_printing_proofs.proofs.Reads.{any_proof}
+use Rattle.theory_printing_proofs.proofs.Readings.{any_proof}
 use Rattle.theory_printing_proofs.proofs.Proofs.{read_proof}
 use Rattle.theory_printing_sequents.specs.Sequents.{scope_in, scope_of}
 use Rattle.theory_printing_sequents.specs.Laws.{place_in, place_of}

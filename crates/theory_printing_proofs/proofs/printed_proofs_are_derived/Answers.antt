@@ -1,5 +1,5 @@
 use Rattle.theory_printing_conditions.specs.Conditions.{is_block}
-use Rattle.theory_printing_proofs.proofs.Reads.{any_proof}
+use Rattle.theory_printing_proofs.proofs.Readings.{any_proof}
 use Rattle.theory_printing_proofs.proofs.Proofs.{read_proof}
 use Rattle.theory_printing_proofs.proofs.printed_proofs_are_derived.Goals as goal
 
