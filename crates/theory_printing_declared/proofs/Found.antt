@@ -1,10 +1,10 @@
 -- In a table in order each value and each recursive predicate is found by its name, with its number.
-use Rattle.std.proofs.Common.{◌≡◌, ℕ, zero, suc, ◌+◌, List, [], ◌∷◌, ◌++◌, Bool, true, false, cond, refl, sym, ◌∙◌, ap, subst, arith, append_assoc}
+use Rattle.std.proofs.Common.{◌≡◌, ℕ, zero, suc, ◌+◌, List, [], ◌∷◌, ◌++◌, Bool, true, false, cond, refl, ◌∙◌, ap, subst, arith, append_assoc}
 use Rattle.std.specs.Prelude.{if◌then◌else◌, map, Option, Some, None, slice_get, bytes_eq}
 use Rattle.std.proofs.lemmas.List.Sums.{sum_by-append}
 use Rattle.std.proofs.lemmas.Slice.Eq.{bytes_eq-Decides}
 use Rattle.theory_text_names.specs.Scopes.{Sort, Meaning, means_mono, means_pred, means_rec, means_def, means_val, Declared, Names}
-use Rattle.theory_text_names.specs.Uses.{Use, a_declared, declares, meaning_of, declared_use}
+use Rattle.theory_text_names.specs.Uses.{Use, a_declared, declared_use}
 use Rattle.theory_text_items.specs.Declarations.{a_value, a_recursion, declares_such, how_many}
 use Rattle.theory_printing_names.specs.Scopes.{AreDeclared}
 use Rattle.theory_printing_declared.specs.Tables.{those_in, params_of, vals_in, recs_in, counts_in, IsNumbered, IsNext, AreInOrder}
@@ -196,14 +196,13 @@ rec_found : (names : Names)
 rec_found names order number name e =
     let h = mapped_from (λ d. d.name) (those_in a_recursion names) number name e in
     let s = all_stand a_recursion recursions_numbered names [] order number h.item h.at in
-    let numbered : number_of h.item.meaning ≡ number = s.number_is ∙ zero_plus number in
-    (
+    let numbered : number_of h.item.meaning ≡ number = s.number_is ∙ zero_plus number in (
       params_of h.item.meaning,
       mapped (λ d. params_of d.meaning) (those_in a_recursion names) number h.item h.at,
       subst (λ x. declared_use x names ≡ Some (a_declared (means_rec number (params_of h.item.meaning)))) h.is
-      (s.found
-      ∙ ap (λ m. Some (a_declared m))
-      (a_recursion_is h.item.meaning s.is_such ∙ ap (λ n. means_rec n (params_of h.item.meaning)) numbered)),
+          (s.found
+          ∙ ap (λ m. Some (a_declared m))
+          (a_recursion_is h.item.meaning s.is_such ∙ ap (λ n. means_rec n (params_of h.item.meaning)) numbered)),
     )
 
 pub declared_in_order : (entries : List Sort) (hypotheses : ℕ) (names : Names)

@@ -1,6 +1,6 @@
 -- Given names, no two of which are the same, are found in their own table.
-use Rattle.std.proofs.Common.{◌≡◌, ℕ, zero, suc, ◌+◌, List, [], ◌∷◌, ◌++◌, length, true, false, refl, sym, ◌∙◌, ap, arith}
-use Rattle.std.specs.Prelude.{Some, None, slice_get, bytes_eq}
+use Rattle.std.proofs.Common.{◌≡◌, ℕ, zero, suc, ◌+◌, List, [], ◌∷◌, ◌++◌, length, false, refl, sym, ◌∙◌, ap, arith}
+use Rattle.std.specs.Prelude.{Some, slice_get, bytes_eq}
 use Rattle.theory_text_names.specs.Scopes.{Sort, means_rec, means_val, Names}
 use Rattle.theory_text_names.specs.Uses.{a_declared, declared_use}
 use Rattle.theory_printing_names.specs.Scopes.{AreDeclared}
@@ -88,23 +88,21 @@ unfolding rec_rows AreDifferent
 rec_found [] counts from n name h k e = absurd (cc e)
 rec_found (first ∷ recs) [] from n name h k e = absurd (omega (arith, k))
 rec_found (first ∷ recs) (params ∷ counts) from zero name h k e =
-    let same : name ≡ first = cc (sym e) in
-    (
+    let same : name ≡ first = cc (sym e) in (
       params,
       refl,
       ap (λ x. declared_use x (rec_rows from (first ∷ recs) (params ∷ counts))) same
-      ∙ found_first (record { name = first; meaning = means_rec from params }) (rec_rows (suc from) recs counts)
-      ∙ ap (λ m. Some (a_declared (means_rec m params))) (onto_zero from),
+          ∙ found_first (record { name = first; meaning = means_rec from params }) (rec_rows (suc from) recs counts)
+          ∙ ap (λ m. Some (a_declared (means_rec m params))) (onto_zero from),
     )
 rec_found (first ∷ recs) (params ∷ counts) from (suc n) name h k e =
-    let further = rec_found recs counts (suc from) n name h.1 (omega (arith, k)) e in
-    (
+    let further = rec_found recs counts (suc from) n name h.1 (omega (arith, k)) e in (
       further.0,
       further.1,
       found_past name (record { name = first; meaning = means_rec from params }) (rec_rows (suc from) recs counts)
-      (differs_at first name recs n h.0 e)
-      ∙ further.2
-      ∙ ap (λ m. Some (a_declared (means_rec m further.0))) (onto_suc from n),
+          (differs_at first name recs n h.0 e)
+          ∙ further.2
+          ∙ ap (λ m. Some (a_declared (means_rec m further.0))) (onto_suc from n),
     )
 
 pub declared_given : (entries : List Sort) (hypotheses : ℕ) (vals recs : List (List ℕ)) (counts : List ℕ)
@@ -116,12 +114,11 @@ declared_given entries hypotheses vals recs counts k h = record {
       val_found vals zero (rec_rows zero recs counts) number name (different_left vals recs h) e
       ∙ ap (λ m. Some (a_declared (means_val m))) (from_zero number);
   recs = λ number name e.
-      let found = rec_found recs counts zero number name (different_right vals recs h) k e in
-      (
+      let found = rec_found recs counts zero number name (different_right vals recs h) k e in (
         found.0,
         found.1,
         past_vals vals recs zero (rec_rows zero recs counts) number name h e
-        ∙ found.2
-        ∙ ap (λ m. Some (a_declared (means_rec m found.0))) (from_zero number),
+            ∙ found.2
+            ∙ ap (λ m. Some (a_declared (means_rec m found.0))) (from_zero number),
       );
 }

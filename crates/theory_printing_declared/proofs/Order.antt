@@ -32,26 +32,25 @@ is_new s span = by_test s span (may_be_declared s.names (bytes_of s.text span)) 
 
 row_next : (file : List RawDeclTree) (text : List ℕ) (names : Names) (d : RawDeclTree)
     → Gives (declaration_comes file (at_top text names) d) (λ row. IsNext names row.declares)
-row_next file text names (decl_type name mono) = if_bind (is_new _ _) (λ x new. if_bind (any_ok _) (λ t h. gives (new, tt)))
+row_next file text names (decl_type name mono) = if_bind (is_new (at_top text names) name) (λ x new. if_bind (any_ok _) (λ t h. gives (new, tt)))
 row_next file text names (decl_pred name monos params body) =
-    if_bind (is_new _ _) (λ x new. if_bind (any_ok _) (λ ts h. if_bind (any_ok _) (λ F k. gives (new, tt))))
+    if_bind (is_new (at_top text names) name) (λ x new. if_bind (any_ok _) (λ ts h. if_bind (any_ok _) (λ F k. gives (new, tt))))
 row_next file text names (decl_induct name index params at_zero at_next) =
-    if_bind (is_new _ _)
+    if_bind (is_new (at_top text names) name)
     (λ x new. if_bind (any_ok _) (λ ts h. if_bind (any_ok _) (λ F k. if_bind (any_ok _) (λ G l. gives (new, refl)))))
 row_next file text names (decl_def name ty term) =
-    if_bind (is_new _ _) (λ x new. if_bind (any_ok _) (λ A h. if_bind (any_ok _) (λ M k. gives (new, tt))))
+    if_bind (is_new (at_top text names) name) (λ x new. if_bind (any_ok _) (λ A h. if_bind (any_ok _) (λ M k. gives (new, tt))))
 row_next file text names (decl_val name ty term) =
-    if_bind (is_new _ _) (λ x new. if_bind (any_ok _) (λ A h. if_bind (any_ok _) (λ M k. gives (new, refl))))
+    if_bind (is_new (at_top text names) name) (λ x new. if_bind (any_ok _) (λ A h. if_bind (any_ok _) (λ M k. gives (new, refl))))
 row_next file text names (decl_proof at name number body) = gives tt
 
 with_next : (names before : Names) (d : Option Declared) → AreInOrder before names → IsNext (before ++ names) d → AreInOrder before (names ++ d ∷ [])
 unfolding AreInOrder
 with_next [] before d order next = (subst (λ ns. IsNext ns d) (append-nil before) next, tt)
-with_next (first ∷ names) before d order next =
-    (
-      order.0,
-      with_next names (before ++ first ∷ []) d order.1 (subst (λ ns. IsNext ns d) (sym (append_assoc before (first ∷ []) names)) next),
-    )
+with_next (first ∷ names) before d order next = (
+  order.0,
+  with_next names (before ++ first ∷ []) d order.1 (subst (λ ns. IsNext ns d) (sym (append_assoc before (first ∷ []) names)) next),
+)
 
 rows_in_order : (file : List RawDeclTree) (text : List ℕ) (ds : List RawDeclTree) (names : Names)
     → AreInOrder [] names

@@ -1,8 +1,8 @@
 -- Tables of declared names: the values and the recursive predicates of one, in order; when a table is in order, as that
 -- of a file is; and the table of names that are given.
-use Rattle.std.specs.Prelude.{◌≡◌, ℕ, zero, suc, Bool, false, if◌then◌else◌, List, [], ◌∷◌, ◌++◌, length, map, Option}
+use Rattle.std.specs.Prelude.{◌≡◌, ℕ, zero, suc, Bool, false, if◌then◌else◌, List, [], ◌∷◌, ◌++◌, map, Option}
 use Rattle.std.specs.Prelude.{Some, None, bytes_eq}
-use Rattle.theory_text_names.specs.Scopes.{Meaning, means_mono, means_pred, means_rec, means_def, means_val, Declared}
+use Rattle.theory_text_names.specs.Scopes.{Meaning, means_rec, means_val, Declared}
 use Rattle.theory_text_names.specs.Scopes.{Names}
 use Rattle.theory_text_names.specs.Uses.{declared_use}
 use Rattle.theory_text_items.specs.Declarations.{a_value, a_recursion, how_many}

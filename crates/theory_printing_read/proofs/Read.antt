@@ -1,5 +1,5 @@
 -- What is printed of types, formulas, proofs and sequents is read back, as nothing else.
-use Rattle.std.proofs.Common.{ℕ, List, [], zero, length, take, refl}
+use Rattle.std.proofs.Common.{[], zero, length, take, refl}
 use Rattle.theory_grammar.specs.Grammar as grammar
 use Rattle.theory_grammar.proofs.One.{one_type, one_formula, one_proof}
 use Rattle.theory_text.specs.Phrases.{ty_comes, formula_comes}

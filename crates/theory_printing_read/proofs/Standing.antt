@@ -1,7 +1,7 @@
 -- A printed phrase stands for its tree, and for no other: its bytes have the printed tokens, these derive a tree of the
 -- grammar with the printed levels and operands, and this comes to what was printed. Since a text has one reading, nothing
 -- else is read.
-use Rattle.std.proofs.Common.{◌≡◌, ◌↔◌, ◌≤◌, ℕ, List, [], ◌∷◌, refl, sym, ◌∙◌, ap, subst}
+use Rattle.std.proofs.Common.{◌≡◌, ◌↔◌, ◌≤◌, ℕ, List, [], ◌∷◌, sym, ◌∙◌, ap, subst}
 use Rattle.std.specs.Prelude.{Result, Ok}
 use Rattle.htt_lexer.specs.Tokens.{AreTokens}
 use Rattle.htt_lexer_tokens.specs.declared.tokens.Token.{Token}

@@ -1,5 +1,5 @@
 -- Printed sequents, written by hand.
-use Rattle.std.specs.Prelude.{◌≡◌, ℕ, List, true, [], ◌∷◌, ◌++◌, codes}
+use Rattle.std.specs.Prelude.{◌≡◌, true, [], ◌∷◌, ◌++◌, codes}
 use Rattle.htt_syntax.specs.declared.mono.Op.TheVariants.{Lt}
 use Rattle.htt_syntax.specs.Trees.{m_word, m_bool, y_mono, y_fun, y_hoare, triple, t_var, t_word, t_bool, t_bin, f_tt}
 use Rattle.htt_syntax.specs.Trees.{f_and, f_imp, f_all_t, f_ex_t, f_same, f_eq}
