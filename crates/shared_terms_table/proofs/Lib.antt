@@ -1,0 +1,4 @@
+pub mod Facts
+pub mod Lists
+pub mod Equal
+pub mod Once
