@@ -1,0 +1,5 @@
+pub mod MeasureLevels
+pub mod Loops
+pub mod Itself
+pub mod Rows
+pub mod Limits
