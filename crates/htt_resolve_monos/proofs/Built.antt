@@ -1,8 +1,8 @@
 -- What monotypes come to, part by part.
-use Rattle.std.proofs.Common.{◌≡◌, ℕ, zero, suc, ◌+◌, ◌<◌, ◌≤◌, List, [], ◌∷◌, take, length, get_or, refl, sym, ap, ◌∙◌, arith, subst}
+use Rattle.std.proofs.Common.{◌≡◌, ℕ, zero, suc, ◌+◌, ◌<◌, ◌≤◌, List, [], ◌∷◌, take, length, get_or, sym, ap, ◌∙◌, arith, subst}
 use Rattle.std.proofs.lemmas.List.{take_all}
-use Rattle.std.specs.Prelude.{Result, Ok, Err}
-use Rattle.htt_syntax.specs.Trees.{MonoTree, m_word, m_bool, m_loc, m_unit, m_pair}
+use Rattle.std.specs.Prelude.{Result, Ok}
+use Rattle.htt_syntax.specs.Trees.{m_pair}
 use Rattle.htt_syntax.specs.Views.{mono_tree}
 use Rattle.htt_syntax.specs.declared.mono.Mono.{Mono}
 use Rattle.htt_syntax.specs.declared.mono.Mono.TheVariants as vmono
@@ -17,7 +17,7 @@ use Rattle.htt_parser_trees.specs.Trees as raw
 use Rattle.htt_parser_trees.specs.Trees.{with_right}
 use Rattle.htt_parser_trees.specs.MonoViews.{raw_right_tree, raw_bracket_tree}
 use Rattle.htt_parser_trees.specs.MonoLevels.{raw_mono_tree, raw_brackets_tree, raw_right_nothing, raw_right_times, raw_bracket_alone, raw_bracket_times}
-use Rattle.theory_text_names.specs.Stops.{Stop, ◌>>=◌}
+use Rattle.theory_text_names.specs.Stops.{◌>>=◌}
 use Rattle.theory_text_names.specs.Scopes.{Scope}
 use Rattle.theory_text_names.specs.Uses.{mono_named}
 use Rattle.theory_text.specs.Monotypes.{factor_comes, mono_comes}

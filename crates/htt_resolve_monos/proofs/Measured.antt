@@ -1,11 +1,11 @@
 -- What monotypes measure, part by part.
-use Rattle.std.proofs.Common.{◌≡◌, ℕ, zero, suc, ◌+◌, ◌<◌, ◌≤◌, List, [], ◌∷◌, take, drop, length, get_or, refl, sym, ap, ◌∙◌, arith, subst}
+use Rattle.std.proofs.Common.{◌≡◌, ℕ, zero, suc, ◌+◌, ◌<◌, ◌≤◌, List, [], ◌∷◌, take, drop, length, get_or, sym, ap, ◌∙◌, arith, subst}
 use Rattle.std.proofs.lemmas.List.{take_all}
 use Rattle.std.specs.Prelude.{Option, Some, None, Result, Ok, Err}
-use Rattle.htt_syntax.specs.Trees.{MonoTree, m_word, m_bool, m_loc, m_unit, m_var, m_pair}
+use Rattle.htt_syntax.specs.Trees.{MonoTree, m_var, m_pair}
 use Rattle.htt_parser_trees.specs.declared.mono.MonoName.TheVariants as mono_names
 use Rattle.htt_parser_trees.specs.declared.mono.RawMono.{RawMono}
-use Rattle.htt_parser_trees.specs.declared.mono.RawRight.{RawRight, more_of-RawMono, end_of-RawMono}
+use Rattle.htt_parser_trees.specs.declared.mono.RawRight.{more_of-RawMono, end_of-RawMono}
 use Rattle.htt_parser_trees.specs.declared.mono.RawRight.TheVariants as vright
 use Rattle.htt_parser_trees.specs.declared.mono.RawBracket.{RawBracket}
 use Rattle.htt_parser_trees.specs.declared.mono.RawBracket as bracket
@@ -24,8 +24,7 @@ use Rattle.theory_text_names.specs.Scopes.{Scope}
 use Rattle.theory_text_names.specs.Uses.{mono_named}
 use Rattle.theory_text.specs.Monotypes.{factor_comes, mono_comes}
 use Rattle.htt_resolve_names.specs.declared.stop.NameStop.{NameStop}
-use Rattle.htt_resolve_names.specs.Views.{event_of}
-use Rattle.htt_resolve_names.specs.Answers.{Answers, IsStop}
+use Rattle.htt_resolve_names.specs.Answers.{IsStop}
 use Rattle.htt_resolve_monos.specs.Sized.{sized, AnswersSize}
 
 -- ---- what stops a part

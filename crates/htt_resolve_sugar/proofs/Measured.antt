@@ -1,20 +1,18 @@
 -- What is put has the size that is told for it.
-use Rattle.std.proofs.Common.{◌≡◌, ℕ, zero, suc, ◌+◌, List, [], ◌∷◌, ◌++◌, map, refl, sym, ap, ◌∙◌, arith, Option, Some, None}
-use Rattle.std.specs.Prelude.{reverse, option_map}
+use Rattle.std.proofs.Common.{◌≡◌, ℕ, ◌+◌, List, [], ◌∷◌, ◌++◌, sym, ap, ◌∙◌, arith, Option, Some, None}
+use Rattle.std.specs.Prelude.{reverse}
 use Rattle.std.proofs.lemmas.List.{reverse-append}
 use Rattle.htt_syntax.specs.Trees.{MonoTree, TermTree, t_ann, y_mono}
 use Rattle.theory_renaming.specs.Renaming.{shifting, rename_mono, rename_term}
-use Rattle.theory_counts.specs.Nodes.{nodes_term}
-use Rattle.theory_counts.specs.Depth.{depth_term}
 use Rattle.theory_counts.proofs.NodesKept.{nodes_mono_kept, nodes_term_kept}
 use Rattle.theory_counts.proofs.DepthKept.{depth_mono_kept, depth_term_kept}
 use Rattle.htt_syntax_measure.specs.declared.size.Size.{Size}
-use Rattle.htt_syntax_measure.specs.Measures.{told, leaf, beside, node, node_of_two, mono_measure, ty_measure, term_measure}
+use Rattle.htt_syntax_measure.specs.Measures.{told, leaf, beside, node, node_of_two, mono_measure, term_measure}
 use Rattle.htt_syntax_measure.proofs.MeasureLevels.{term_var_measure, mono_var_measure, term_ann_measure, ty_mono_measure}
-use Rattle.theory_text_sugar.specs.Putting.{Put, put_mono, put_term, put_heap, mono_for, term_for, put_into_mono, putting}
+use Rattle.theory_text_sugar.specs.Putting.{Put, put_mono, put_term, put_heap, mono_for, term_for, put_into_mono}
 use Rattle.htt_resolve_sugar.specs.declared.measure.PutSize.{PutSize}
 use Rattle.htt_resolve_sugar.specs.declared.measure.PutSize.TheVariants as sizes
-use Rattle.htt_resolve_sugar.specs.Views.{put_size, Measures, IsMeasured}
+use Rattle.htt_resolve_sugar.specs.Views.{Measures, IsMeasured}
 
 renamed_term : (d : ℕ) (M : TermTree) → term_measure (rename_term (shifting 0 d) M) ≡ term_measure M
 unfolding term_measure

@@ -1,9 +1,9 @@
 -- What lists measure, member by member from the first on.
-use Rattle.std.proofs.Common.{ℕ, suc, ◌+◌, ◌≡◌, ◌≤◌, ◌<◌, ◌^◌, refl, sym, List, [], ◌∷◌, length, get_or, drop, ap, ◌∙◌, arith}
+use Rattle.std.proofs.Common.{ℕ, ◌+◌, ◌≡◌, ◌≤◌, ◌<◌, ◌^◌, sym, List, ◌∷◌, length, get_or, drop, ap, ◌∙◌, arith}
 use Rattle.std.proofs.lemmas.List.{drop_all, drop_more}
 use Rattle.std.specs.Prelude.{max}
 use Rattle.theory_saturation.specs.Saturation.{saturated}
-use Rattle.htt_syntax.specs.Trees.{TermTree, FixTree, TermTrees}
+use Rattle.htt_syntax.specs.Trees.{TermTree, FixTree}
 use Rattle.htt_syntax.specs.Views.{term_tree, ty_tree, step_tree}
 use Rattle.htt_syntax.specs.Levels.{term_trees, params_tree, steps_tree}
 use Rattle.htt_syntax.specs.declared.tree.Term.{Term}

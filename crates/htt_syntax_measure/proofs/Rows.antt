@@ -1,6 +1,6 @@
 -- What a tree measures with something put for its variables: a rule for each form of node.
-use Rattle.std.proofs.Common.{◌≡◌, ℕ, ◌+◌, refl, sym, ap, ◌∙◌, subst, List, Option}
-use Rattle.std.specs.Prelude.{Bool, Result, IfOk, option_map}
+use Rattle.std.proofs.Common.{◌≡◌, ℕ, ◌+◌, sym, ap, ◌∙◌, subst, List, Option}
+use Rattle.std.specs.Prelude.{Bool, Result, IfOk, option_map, length}
 use Rattle.htt_syntax.specs.declared.mono.Op.{Op}
 use Rattle.htt_syntax.specs.declared.mono.Mono.{Mono}
 use Rattle.htt_syntax.specs.declared.mono.Mono.TheVariants as vmono
@@ -11,13 +11,12 @@ use Rattle.htt_syntax.specs.declared.tree.Term.{Term}
 use Rattle.htt_syntax.specs.declared.tree.Term.TheVariants as vterm
 use Rattle.htt_syntax.specs.declared.tree.Fix.{Fix}
 use Rattle.htt_syntax.specs.declared.tree.Comp.{Comp}
-use Rattle.htt_syntax.specs.declared.tree.Step.{Step}
 use Rattle.htt_syntax.specs.declared.tree.Step.TheVariants as vstep
 use Rattle.htt_syntax.specs.declared.tree.Formula.{Formula}
 use Rattle.htt_syntax.specs.declared.tree.Formula.TheVariants as vformula
-use Rattle.htt_syntax.specs.Trees.{FixTree, TermTree, x_body}
+use Rattle.htt_syntax.specs.Trees.{x_body}
 use Rattle.htt_syntax.specs.Views.{mono_tree, ty_tree, term_tree, step_tree, formula_tree}
-use Rattle.htt_syntax.specs.Levels.{triple_tree, fix_tree, comp_tree, term_trees, params_tree, steps_tree, mono_var, term_var, mono_word, mono_bool, mono_loc}
+use Rattle.htt_syntax.specs.Levels.{triple_tree, fix_tree, comp_tree, term_trees, mono_var, term_var, mono_word, mono_bool, mono_loc}
 use Rattle.htt_syntax.specs.Levels.{mono_unit, mono_pair, ty_mono, ty_fun, ty_all, ty_hoare, ty_at, term_val, term_def, term_app, term_inst, term_lam}
 use Rattle.htt_syntax.specs.Levels.{term_lam_t, term_do, term_fix, term_word, term_bool, term_loc, term_unit, term_pair, term_fst, term_snd, term_un, term_bin}
 use Rattle.htt_syntax.specs.Levels.{term_eq, term_sel, term_ann, term_made, term_at, step_run, step_alloc, step_get, step_set, step_free, step_if, step_claim}
@@ -36,6 +35,7 @@ use Rattle.htt_syntax_walk.specs.WalkLevels.{formula_eq_walk, formula_at_walk, f
 use Rattle.htt_syntax_measure.specs.declared.size.Size.{Size}
 use Rattle.htt_syntax_measure.specs.Measures.{leaf, beside, counted, node, node_of_two, node_of_three, node_of_four, deeper, mono_measure, option_measure}
 use Rattle.htt_syntax_measure.specs.Measures.{ty_measure, triple_measure, term_measure, fix_measure, comp_measure, step_measure, formula_measure, terms_measure}
+use Rattle.htt_syntax_measure.specs.Measures.{AreParams, AreSteps}
 use Rattle.htt_syntax_measure.proofs.MeasureLevels.{triple_of_measure, body_measure, mono_word_measure, mono_bool_measure, mono_loc_measure, mono_unit_measure}
 use Rattle.htt_syntax_measure.proofs.MeasureLevels.{mono_pair_measure, ty_mono_measure, ty_fun_measure, ty_all_measure, ty_hoare_measure, ty_at_measure}
 use Rattle.htt_syntax_measure.proofs.MeasureLevels.{term_val_measure, term_def_measure, term_app_measure, term_inst_measure, term_lam_measure}
@@ -493,25 +493,30 @@ module _ (p : Puts) (d : ℕ) where
   term_var_row n z h = h ∙ sym (ap (λ t. term_measure (walk_term p d t)) (term_var n) ∙ ap term_measure (term_var_walk p d n))
 
   pub fix_row : {E : Type 0} (x : Fix) (first : Size) (inner : ℕ) (r : Result Size E)
-      → ((rest : FixTree) → fix_measure (walk_fix p d (params_tree x.params rest)) ≡ beside first (fix_measure (walk_fix p inner rest)))
+      → inner ≡ d + length x.params
+      → AreParams p d x.params first
       → IfOk r (λ z.
       z
       ≡ beside first (counted (beside (triple_measure (walk_triple p inner (triple_tree x.triple)))
       (deeper (comp_measure (walk_comp p (inner + 1) (comp_tree x.body)))))))
       → IfOk r (λ z. z ≡ fix_measure (walk_fix p d (fix_tree x)))
   unfolding fix_tree
-  fix_row x first inner r k h =
+  fix_row x first inner r deep k h =
       subst (λ w. IfOk r (λ z. z ≡ w))
       (sym (k (x_body (triple_tree x.triple) (comp_tree x.body))
+      ∙ ap (λ n. beside first (fix_measure (walk_fix p n (x_body (triple_tree x.triple) (comp_tree x.body))))) (sym deep)
       ∙ ap (λ b. beside first (fix_measure b)) (body_walk p inner (triple_tree x.triple) (comp_tree x.body))
       ∙ ap (beside first) (body_measure (walk_triple p inner (triple_tree x.triple)) (walk_comp p (inner + 1) (comp_tree x.body))))) h
 
   pub comp_row : {E : Type 0} (x : Comp) (first : Size) (inner : ℕ) (r : Result Size E)
-      → ((end : TermTree) → comp_measure (walk_comp p d (steps_tree x.steps end)) ≡ beside first (counted (term_measure (walk_term p inner end))))
+      → inner ≡ d + length x.steps
+      → AreSteps p d x.steps first
       → IfOk r (λ z. z ≡ beside first (counted (term_measure (walk_term p inner (term_tree x.result)))))
       → IfOk r (λ z. z ≡ comp_measure (walk_comp p d (comp_tree x)))
   unfolding comp_tree
-  comp_row x first inner r k h = subst (λ w. IfOk r (λ z. z ≡ w)) (sym (k (term_tree x.result))) h
+  comp_row x first inner r deep k h =
+      subst (λ w. IfOk r (λ z. z ≡ w))
+      (sym (k (term_tree x.result) ∙ ap (λ n. beside first (counted (term_measure (walk_term p n (term_tree x.result))))) (sym deep))) h
 
 pub ruleset mono_rows = (
   mono_var_row,

@@ -1,6 +1,6 @@
 -- What stops declarations, and what they declare.
-use Rattle.std.proofs.Common.{◌≡◌, ℕ, zero, suc, refl, sym, ap, ◌∙◌, subst, arith, List, [], ◌∷◌, ◌++◌, length, Option, Some, None}
-use Rattle.std.specs.Prelude.{Bool, true, false, not, ◌&&◌, if◌then◌else◌, count_by, is_none, Result, Ok, Err}
+use Rattle.std.proofs.Common.{◌≡◌, ℕ, suc, refl, ap, subst, arith, List, [], ◌∷◌, ◌++◌, length, Option, Some, None}
+use Rattle.std.specs.Prelude.{not, ◌&&◌, if◌then◌else◌, is_none, Result, Ok, Err}
 use Rattle.htt_syntax.specs.Trees.{MonoTree}
 use Rattle.htt_parser_trees.specs.declared.place.Span.{Span}
 use Rattle.htt_parser_trees.specs.Trees as raw
@@ -8,12 +8,11 @@ use Rattle.htt_parser_trees.specs.Trees.{RawMonoParamTree, mono_param}
 use Rattle.theory_text_names.specs.Stops.{Stop, duplicate, ◌>>=◌}
 use Rattle.theory_text_names.specs.Scopes.{a_mono, a_term, Meaning, means_rec, Declared, Names, Scope, bytes_of, is_reserved, with_local, under, under_name}
 use Rattle.theory_text_names.specs.Scopes.{under_mem, at_top}
-use Rattle.theory_text_names.specs.Uses.{Use, declared_use}
-use Rattle.theory_text.specs.Monotypes.{mono_comes}
+use Rattle.theory_text_names.specs.Uses.{Use}
 use Rattle.theory_text.specs.Phrases.{formula_comes}
-use Rattle.theory_text_items.specs.Items.{Row, Resolved}
+use Rattle.theory_text_items.specs.Items.{Row}
 use Rattle.theory_text_items.specs.Declarations.{may_be_declared, new_name, a_recursion, declares_such, how_many, under_monos, under_params, params_come}
-use Rattle.theory_text_items.specs.Declarations.{closed_params_come, itself, behind_itself, declaration_comes, declarations_come}
+use Rattle.theory_text_items.specs.Declarations.{closed_params_come, behind_itself, declaration_comes, declarations_come}
 use Rattle.theory_text_outlined.specs.Outlines.{AlikeMeaning, alike_mono, alike_pred, alike_rec, alike_def, alike_val, AlikeRow, AlikeNames, with_names}
 use Rattle.theory_text_outlined.specs.Outlines.{SameStop, Related, both_give, both_stop}
 use Rattle.theory_text_outlined.specs.Laws.{DeclarationsHangOnOutlines}

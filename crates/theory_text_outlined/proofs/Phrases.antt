@@ -1,11 +1,11 @@
 -- What stops types, terms, computations and formulas, row by row.
-use Rattle.std.proofs.Common.{◌≡◌, ℕ, refl, sym, ap, ◌∙◌, subst, List, [], ◌∷◌, Option, Some, None}
-use Rattle.std.specs.Prelude.{length, ◌==◌, ◌&&◌, Result, Ok, Err}
-use Rattle.htt_syntax.specs.Trees.{TermTree, FixTree, x_body}
+use Rattle.std.proofs.Common.{◌≡◌, ℕ, refl, ap, subst, List, [], ◌∷◌}
+use Rattle.std.specs.Prelude.{length, ◌==◌, ◌&&◌, Result}
+use Rattle.htt_syntax.specs.Trees.{TermTree, FixTree}
 use Rattle.htt_parser_trees.specs.declared.mono.MonoName.{MonoName}
 use Rattle.htt_parser_trees.specs.declared.mono.MonoName.TheVariants as mono_names
 use Rattle.htt_parser_trees.specs.Trees as raw
-use Rattle.theory_text_names.specs.Stops.{Stop, ◌>>=◌}
+use Rattle.theory_text_names.specs.Stops.{Stop}
 use Rattle.theory_text_names.specs.Scopes.{a_mono, a_term, a_heap, Names, Scope, under, under_name, at_heap, under_mem, under_heaps}
 use Rattle.theory_text_names.specs.Uses.{current_heap}
 use Rattle.theory_text_sugar.specs.Sugar.{left_part, right_part}

@@ -1,9 +1,7 @@
 -- What stops proofs, row by row; the law.
-use Rattle.std.proofs.Common.{◌≡◌, ℕ, refl, subst, ap, List, [], ◌∷◌}
-use Rattle.std.specs.Prelude.{Result, Ok, Err}
-use Rattle.htt_syntax.specs.Trees.{ArgTree, ProofTree}
+use Rattle.std.proofs.Common.{ℕ, List, [], ◌∷◌}
+use Rattle.htt_syntax.specs.Trees.{ProofTree}
 use Rattle.htt_parser_trees.specs.Trees as raw
-use Rattle.theory_text_names.specs.Stops.{Stop, ◌>>=◌}
 use Rattle.theory_text_names.specs.Scopes.{a_term_or_heap, Names, Scope, under, under_hypothesis}
 use Rattle.theory_text.specs.Proofs.{arg_comes, args_come, motive_comes, after_stmt, proof_comes, block_comes, stmt_comes, end_comes, app_rest_comes}
 use Rattle.theory_text_outlined.specs.Outlines.{AlikeNames, with_names, SameStop}

@@ -1,16 +1,15 @@
 -- What names stand for, with other names of the same outlines declared.
-use Rattle.std.proofs.Common.{◌≡◌, ℕ, refl, sym, ap, ◌∙◌, arith, List, [], ◌∷◌, Option, Some, None}
+use Rattle.std.proofs.Common.{◌≡◌, ℕ, refl, ap, arith, List, [], ◌∷◌, Option, Some, None}
 use Rattle.std.specs.Prelude.{Bool, true, false, if◌then◌else◌, length, Result, Ok, Err, bytes_eq}
-use Rattle.htt_syntax.specs.Trees.{MonoTree, TermTree}
 use Rattle.htt_parser_trees.specs.declared.place.Span.{Span}
 use Rattle.htt_parser_trees.specs.declared.tree.RawHeap.{RawHeap}
 use Rattle.htt_parser_trees.specs.declared.tree.RawHeap.TheVariants as heaps
-use Rattle.theory_text_names.specs.Stops.{Stop, unbound, wrong_sort, ◌>>=◌}
-use Rattle.theory_text_names.specs.Scopes.{Sort, a_mono, a_term, a_heap, a_term_or_heap, the_init, the_mem, a_hypothesis, PredTree}
+use Rattle.theory_text_names.specs.Stops.{Stop, ◌>>=◌}
+use Rattle.theory_text_names.specs.Scopes.{PredTree}
 use Rattle.theory_text_names.specs.Scopes.{Meaning, Declared, Names, Scope, bytes_of}
-use Rattle.theory_text_names.specs.Uses.{Use, a_variable, the_hypothesis, a_declared, declares, meaning_of, declared_use, first_some, local_use, use_at}
+use Rattle.theory_text_names.specs.Uses.{Use, a_declared, declares, meaning_of, declared_use, first_some, local_use, use_at}
 use Rattle.theory_text_names.specs.Uses.{mono_of_use, term_of_use, heap_of_use, hypothesis_of_use, pred_of_use, rec_of_use}
-use Rattle.theory_text_names.specs.Uses.{mono_named, term_named, heap_named, hypothesis_named, pred_named, rec_named, heap_comes}
+use Rattle.theory_text_names.specs.Uses.{mono_named, term_named, hypothesis_named, pred_named, rec_named, heap_comes}
 use Rattle.theory_text_outlined.specs.Outlines.{AlikeMeaning, alike_mono, alike_pred, alike_rec, alike_def, alike_val, AlikeRow, AlikeNames, with_names}
 use Rattle.theory_text_outlined.specs.Outlines.{stop_of, SameStop, Related, both_give, both_stop}
 

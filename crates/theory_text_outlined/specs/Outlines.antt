@@ -1,5 +1,5 @@
 -- Names that are alike but for what they stand for, and what stops a phrase.
-use Rattle.std.specs.Prelude.{◌≡◌, ℕ, List, [], ◌∷◌, length, Option, Some, None, Result, Ok, Err}
+use Rattle.std.specs.Prelude.{◌≡◌, ℕ, [], ◌∷◌, length, Option, Some, None, Result, Ok, Err}
 use Rattle.htt_syntax.specs.Trees.{MonoTree}
 use Rattle.theory_text_names.specs.Stops.{Stop}
 use Rattle.theory_text_names.specs.Scopes.{PredTree, Meaning, means_mono, means_pred, means_rec, means_def, means_val}
