@@ -3,30 +3,30 @@ use Rattle.std.proofs.Common.{◌≡◌, ℕ, List, [], ◌∷◌, ◌++◌, map
 use Rattle.std.proofs.lemmas.List.{append-nil, append_assoc, map-append}
 use Rattle.htt_syntax.specs.Trees.{MonoTree, TyTree, TermTree}
 use Rattle.theory_truth.specs.Predicates.{RecTree}
-use Rattle.theory_typing.specs.Contexts.{Environment, Obligation}
+use Rattle.theory_typing.specs.Contexts.{Environment}
 use Rattle.theory_typing.specs.Laws.{none}
 use Rattle.theory_canonical.specs.Skeletons.{skeleton}
 use Rattle.theory_typing_canonical.specs.Environments.{no_entry}
 use Rattle.theory_typing_canonical.proofs.Typed.{fitted}
 use Rattle.theory_typing_canonical.proofs.Typed as Canonical
-use Rattle.theory_items.specs.Items.{ItemTree, Added, with_val, with_added, Derives, derives_abbreviation, derives_pred, derives_def, derives_val, derives_rec}
+use Rattle.theory_items.specs.Items.{ItemTree, with_val, derives_abbreviation, derives_pred, derives_def, derives_val, derives_rec}
 use Rattle.theory_items.proofs.Lists.{no_element, appended}
 use Rattle.theory_items_sound.specs.Environments.{SoundEnvironment}
 use Rattle.theory_items_sound.proofs.Files.{val_file, rec_file}
 use Rattle.theory_items_sound.proofs.Kept.{items_keep_sound}
-use Rattle.theory_formed_shapes.specs.Shapes.{Shape, shape_of}
+use Rattle.theory_formed_shapes.specs.Shapes.{shape_of}
 use Rattle.theory_formed_shapes.specs.Formed.{FileShapes, file_shapes, IsFormedMono, IsFormedTerm, IsFormedTy}
 use Rattle.theory_formed_shapes.specs.Environments.{formed_none}
-use Rattle.theory_formed_shapes.proofs.More.{HasFile, term_more}
+use Rattle.theory_formed_shapes.proofs.More.{term_more}
 use Rattle.theory_formed_typing.proofs.Closed.{map_get, mapped}
 use Rattle.theory_formed_typing.proofs.Typed.{formed_ty, fit_formed}
 use Rattle.theory_formed_items.specs.Environments.{IsFormedEnvironment}
 use Rattle.theory_formed_items.proofs.Kept.{items_keep_formed}
 use Rattle.theory_denotation_relations.specs.Files.{AreVals, vals_end, vals_more}
 use Rattle.theory_logic_unfoldings_satisfied.proofs.Bodies.{ends_run}
-use Rattle.theory_instances.specs.Calls.{ProgramVal, Program}
+use Rattle.theory_instances.specs.Calls.{ProgramVal}
 use Rattle.theory_instances_formed.specs.Formed.{file_with, IsFormedProgram}
-use Rattle.theory_instances_canonical.specs.Keys.{val_tree, IsCanonicalProgram}
+use Rattle.theory_instances_canonical.specs.Keys.{val_tree}
 use Rattle.theory_extraction.specs.Extraction.{HasVals, vals_none, vals_next, program}
 use Rattle.theory_flat_formed.proofs.Listed.{flat_typed}
 use Rattle.theory_extraction_formed.specs.Laws.{FileProgramsAreFormed, FileProgramsAreTyped}
@@ -58,7 +58,7 @@ val_formed env before ty term k d = record {
   terms = λ n v q. elim (appended before (record { ty = ty; term = term }) n v q) [
     | inl f ↦ term_more (val_file env ty) (k.terms n v f)
     | inr (p, f) ↦
-      subst (λ (x : ProgramVal). IsFormedTerm (file_shapes (with_val env ty)) [] x.term (shape_of x.ty)) f (term_more (val_file env ty) d)
+        subst (λ (x : ProgramVal). IsFormedTerm (file_shapes (with_val env ty)) [] x.term (shape_of x.ty)) f (term_more (val_file env ty) d)
   ];
 }
 

@@ -2,10 +2,10 @@
 use Rattle.std.proofs.Common.{◌≡◌, ◌≤◌, ℕ, zero, suc, ◌+◌, List, [], ◌∷◌, ◌++◌, length, map, reverse, All, Some, None, slice_get, refl, sym, ap, ◌∙◌, subst, arith}
 use Rattle.std.proofs.lemmas.List.{reverse-append, reverse-reverse}
 use Rattle.std.proofs.lemmas.Option.{slice_get_within, same_Some}
-use Rattle.htt_syntax.specs.Trees.{MonoTree, TermTree, TermTrees, t_var, t_val, t_fix, t_made}
+use Rattle.htt_syntax.specs.Trees.{MonoTree, TermTree, TermTrees, t_val, t_fix, t_made}
 use Rattle.theory_values.specs.Values.{IsClosed}
-use Rattle.theory_canonical.specs.Skeletons.{Skeleton, skeleton}
-use Rattle.theory_formed_shapes.specs.Shapes.{Shape, sh_comp, shape_of, Shapes}
+use Rattle.theory_canonical.specs.Skeletons.{skeleton}
+use Rattle.theory_formed_shapes.specs.Shapes.{Shape, sh_comp, Shapes}
 use Rattle.theory_formed_shapes.specs.Formed.{MadeShape, FileShapes, IsFormedNeutral, w_made, IsFormedTerms, IsClosedFile}
 use Rattle.theory_formed_canonical.specs.Laws.{bare}
 use Rattle.theory_formed_canonical.proofs.Bare.{bare_shape}
@@ -16,14 +16,14 @@ use Rattle.theory_instances.specs.Bodies.{params_of, result_of}
 use Rattle.theory_instances.specs.Lists.{IsKnownAs, Taken, TakesAll, takes_end, takes_next}
 use Rattle.theory_flat.specs.Flat.{Instance, captured_params, Names, names_key, names_made, IsFlat, AreFlat, flat_none, flat_more}
 use Rattle.theory_flat_typed.specs.Typed.{HaveMonotypes, typed_none, typed_more}
-use Rattle.theory_instances_formed.specs.Formed.{not_made, made_of_head, made_shape, values_shapes, file_with, IsFormedProgram, FormedFixed}
+use Rattle.theory_instances_formed.specs.Formed.{not_made, made_of_head, made_shape, values_shapes, file_with, IsFormedProgram}
 use Rattle.theory_instances_formed.specs.Formed.{IsFormedKey, formed_val, formed_fix}
-use Rattle.theory_instances_formed.proofs.Sites.{FormedArguments, arguments_term, FormedPassed, spine_of, parted}
+use Rattle.theory_instances_formed.proofs.Sites.{FormedArguments, arguments_term, spine_of, parted}
 use Rattle.theory_instances_formed.proofs.Variables.{stand_reverse, stand_passed}
 use Rattle.theory_instances_formed.proofs.Bodies.{fix_plain, fix_ty_shape}
 use Rattle.theory_instances_formed.proofs.Taken.{Told}
 use Rattle.theory_instances_formed.proofs.Named.{captured_at}
-use Rattle.theory_instances_formed.proofs.Listed.{Within, met_stays, taken_stays, named}
+use Rattle.theory_instances_formed.proofs.Listed.{met_stays, taken_stays, named}
 use Rattle.theory_flat_formed.proofs.Terms.{HeadsEnd, passed_typed, terms_typed, no_each}
 use Rattle.theory_flat_formed.proofs.Same.{plain_told, fix_told, same_key}
 

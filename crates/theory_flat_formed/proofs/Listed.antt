@@ -1,22 +1,22 @@
 -- The flat bodies of a formed program's instances are typed, along the list.
-use Rattle.std.proofs.Common.{◌≡◌, ℕ, zero, suc, List, [], ◌∷◌, map, reverse, All, Some, slice_get, refl, sym, ap, ◌∙◌, subst}
+use Rattle.std.proofs.Common.{◌≡◌, ℕ, zero, suc, List, ◌∷◌, reverse, All, Some, slice_get, refl, sym, ap, ◌∙◌, subst}
 use Rattle.std.proofs.lemmas.List.{reverse-reverse}
 use Rattle.std.proofs.lemmas.List.Elements.{All-nil, All-cons}
-use Rattle.htt_syntax.specs.Trees.{MonoTree, TyTree, TermTree, CompTree, StepTree, y_mono, y_fun, y_all, y_hoare, y_at, triple, t_fix}
+use Rattle.htt_syntax.specs.Trees.{MonoTree, TyTree, TermTree, CompTree, StepTree, y_mono, y_fun, y_all, y_hoare, y_at, triple}
 use Rattle.theory_renaming.specs.Renaming.{rename_mono}
 use Rattle.theory_values.specs.Values.{IsClosed}
 use Rattle.theory_typing.specs.Contexts.{EndsInHoare}
-use Rattle.theory_formed_shapes.specs.Shapes.{Shape, sh_mono, sh_comp, shape_of, dropping, in_term, Shapes}
+use Rattle.theory_formed_shapes.specs.Shapes.{sh_mono, sh_comp, shape_of, dropping, in_term, Shapes}
 use Rattle.theory_formed_shapes.specs.Formed.{MadeShape, FileShapes, IsFormedMono, IsFormedComp, z_ret, z_step, IsFormedStep, z_run, z_alloc, z_get, z_set, z_free, z_if, IsFormedTerm, IsFormedNeutral, IsClosedFile}
 use Rattle.theory_formed_typing.proofs.Closed.{mapped}
 use Rattle.theory_instances.specs.Calls.{ProgramVal, Program, bound_mono}
 use Rattle.theory_instances.specs.Keys.{Key}
-use Rattle.theory_instances.specs.Lists.{Taken, HasInstances, TakesAll, main_key}
+use Rattle.theory_instances.specs.Lists.{Taken, HasInstances}
 use Rattle.theory_flat.specs.Flat.{FlatTree, FlatStepTree, flat_call, Instance, Flattens, flattens_ret, flattens_step, FlattensStep, flattens_run, flattens_alloc, IsFlat}
-use Rattle.theory_flat.specs.Flat.{flattens_get, flattens_set, flattens_free, flattens_if, AreFlat, flat_none, flat_more, HasFlatInstances}
+use Rattle.theory_flat.specs.Flat.{flattens_get, flattens_set, flattens_free, flattens_if, AreFlat, flat_none, flat_more}
 use Rattle.theory_flat_typed.specs.Typed.{HasMonotype, IsTyped, typed_ret, typed_step, IsTypedStep, typed_call, typed_alloc, typed_get, typed_set, typed_free, typed_if, IsTypedInstance}
 use Rattle.theory_flat_typed.specs.Typed.{AreTyped}
-use Rattle.theory_instances_formed.specs.Formed.{not_made, made_of_head, made_shape, values_shapes, file_with, IsFormedProgram, IsFormedKey, formed_val, formed_fix}
+use Rattle.theory_instances_formed.specs.Formed.{made_of_head, made_shape, values_shapes, file_with, IsFormedProgram, IsFormedKey, formed_val, formed_fix}
 use Rattle.theory_instances_formed.proofs.Shapes.{closed_renamed, formed_closed}
 use Rattle.theory_instances_formed.proofs.Bodies.{fix_plain, fix_ty_shape}
 use Rattle.theory_instances_formed.proofs.Taken.{reversed_closed}

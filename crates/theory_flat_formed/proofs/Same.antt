@@ -2,14 +2,14 @@
 use Rattle.std.proofs.Common.{◌≡◌, ℕ, List, [], ◌∷◌, ◌++◌, map, reverse, refl, sym, ap, ◌∙◌, subst}
 use Rattle.htt_syntax.specs.Trees.{MonoTree, TermTree, FixTree, y_fun, t_fix, x_param, x_body}
 use Rattle.theory_typing.specs.Positions.{plain_ty, plain_term, plain_fix}
-use Rattle.theory_formed_shapes.specs.Shapes.{Shape, sh_mono, sh_fun, sh_all, sh_comp, shape_of, fill_shape, first_filled, Shapes}
+use Rattle.theory_formed_shapes.specs.Shapes.{Shape, shape_of, fill_shape, first_filled, Shapes}
 use Rattle.theory_formed_shapes.specs.Formed.{FileShapes, IsFormedFix}
 use Rattle.theory_formed_shapes.proofs.Monos.{formed_monos}
 use Rattle.theory_formed_shapes.proofs.ShapesOf.{shape_plain}
-use Rattle.theory_instances.specs.Calls.{Program, Argument, of_term, of_mono, fix_ty, ty_of_val, head_ty}
-use Rattle.theory_instances.specs.Keys.{Key, plain_argument, plain_key, IsSameKey}
+use Rattle.theory_instances.specs.Calls.{Program, Argument, of_mono, fix_ty, ty_of_val, head_ty}
+use Rattle.theory_instances.specs.Keys.{Key, plain_argument, IsSameKey}
 use Rattle.theory_instances.specs.Bodies.{params_of, result_of}
-use Rattle.theory_instances_formed.specs.Formed.{values_shapes, IsFormedProgram, IsFixedShape, FormedFixed, fixed_end, fixed_value, fixed_term, fixed_mono}
+use Rattle.theory_instances_formed.specs.Formed.{values_shapes, IsFormedProgram, FormedFixed, fixed_end, fixed_value, fixed_term, fixed_mono}
 use Rattle.theory_instances_formed.specs.Formed.{IsFormedKey, formed_val, formed_fix}
 use Rattle.theory_instances_formed.proofs.Bodies.{IsPlain, fix_ty_shape, fix_ty_formed}
 use Rattle.theory_instances_formed.proofs.Taken.{Told, told}

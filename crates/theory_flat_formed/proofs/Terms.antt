@@ -1,8 +1,8 @@
 -- Formed terms of monotypes, where all variables have values, are so as terms of flat bodies.
-use Rattle.std.proofs.Common.{◌≡◌, ℕ, zero, suc, List, [], ◌∷◌, All, Some, slice_get, ◌⊎◌, inl, inr, refl, sym, ap, ◌∙◌, subst}
+use Rattle.std.proofs.Common.{◌≡◌, ℕ, zero, suc, List, ◌∷◌, All, Some, slice_get, ◌⊎◌, inl, inr, refl, sym, ap, ◌∙◌, subst}
 use Rattle.htt_syntax.specs.declared.mono.Op.{Op}
 use Rattle.htt_syntax.specs.declared.mono.Op.TheVariants.{Lt}
-use Rattle.htt_syntax.specs.Trees.{MonoTree, TermTree, TermTrees, m_unit, m_pair, m_var, t_var}
+use Rattle.htt_syntax.specs.Trees.{MonoTree, TermTree, TermTrees, m_pair, m_var, t_var}
 use Rattle.theory_values.specs.Values.{IsClosed, closed_word, closed_bool, closed_loc, closed_unit, closed_pair, op_mono}
 use Rattle.theory_substitution.specs.Monotypes.{Filling, next_filling}
 use Rattle.theory_formed_shapes.specs.Shapes.{Shape, sh_mono, sh_fun, sh_all, sh_comp, fill_shape, renaming_of, up_shape, first_filled}

@@ -2,7 +2,7 @@
 use Rattle.std.proofs.Common.{ℕ, zero, suc, List, [], ◌∷◌, ◌++◌, All, Option, Some, None}
 use Rattle.std.proofs.lemmas.List.Elements.{All-nil, All-cons}
 use Rattle.htt_syntax.specs.Trees.{MonoTree, TyTree, TripleTree, TermTree, FixTree, CompTree, StepTree, FormulaTree, TermTrees}
-use Rattle.theory_formed_shapes.specs.Shapes.{Shape, ShapeEntry, Shapes, HasShape, shape_here, shape_there}
+use Rattle.theory_formed_shapes.specs.Shapes.{Shape, ShapeEntry, Shapes, HasShape, shape_there}
 use Rattle.theory_formed_shapes.specs.Formed.{FileShapes, IsFormedTerm, z_word, z_bool}
 use Rattle.theory_formed_shapes.specs.Formed.{z_loc, z_unit, z_pair, z_fst, z_snd, z_not, z_bin, z_eq, z_sel, z_lam, z_lam_t, z_do, z_neutral, IsFormedNeutral}
 use Rattle.theory_formed_shapes.specs.Formed.{w_var, w_val, w_made, w_fix, w_app, w_inst, IsFormedTerms, z_no_terms, z_more_terms, IsFormedFix, z_param, z_body}

@@ -3,35 +3,30 @@ use Rattle.std.proofs.Common.{◌≡◌, ℕ, zero, suc, List, [], ◌∷◌, �
 use Rattle.std.proofs.lemmas.List.Elements.{All-nil, All-cons, All-append, All-head, All-tail}
 use Rattle.std.proofs.lemmas.Option.{same_Some}
 use Rattle.htt_syntax.specs.Trees.{MonoTree, TyTree, TripleTree, TermTree, FixTree, CompTree, StepTree, y_hoare, triple, t_val, t_fix, t_do}
-use Rattle.theory_renaming.specs.Renaming.{rename_term, rename_fix}
+use Rattle.theory_renaming.specs.Renaming.{rename_fix}
 use Rattle.theory_values.specs.Values.{IsClosed, closed_loc, closed_unit}
 use Rattle.theory_canonical.specs.Skeletons.{skeleton}
 use Rattle.theory_substitution.specs.Monotypes.{Filling, next_filling, fill_mono}
-use Rattle.theory_formed_shapes.specs.Shapes.{Shape, sh_mono, sh_comp, shape_of, fill_shape, renaming_of, in_term, Shapes}
+use Rattle.theory_formed_shapes.specs.Shapes.{Shape, sh_mono, sh_comp, shape_of, fill_shape, in_term, Shapes}
 use Rattle.theory_formed_shapes.specs.Formed.{MadeShape, FileShapes, IsFormedMono, IsFormedNeutral, w_var, w_val, w_made, w_fix, w_app, w_inst, IsFormedComp}
 use Rattle.theory_formed_shapes.specs.Formed.{z_ret, z_step, IsFormedStep, z_run, z_alloc, z_get, z_set, z_free, z_if, fill_monos, IsClosedFile}
 use Rattle.theory_formed_shapes.proofs.Monos.{formed_monos}
 use Rattle.theory_formed_shapes.proofs.More.{HasFile, term_more, fix_more, comp_more}
-use Rattle.theory_formed_canonical.specs.Laws.{bare}
 use Rattle.theory_formed_canonical.proofs.Bare.{bare_shape}
 use Rattle.theory_formed_typing.proofs.Closed.{map_get, mapped, closed_term}
-use Rattle.theory_instances.specs.Calls.{ProgramVal, Program, Argument, head_of, arguments_of, fixed_of, fix_ty, ty_of_val, head_ty, bound_mono, Site, sites_of}
+use Rattle.theory_instances.specs.Calls.{ProgramVal, Program, Argument, head_of, arguments_of, fix_ty, ty_of_val, head_ty, bound_mono, Site, sites_of}
 use Rattle.theory_instances.specs.Calls.{sites_of_step}
-use Rattle.theory_instances.specs.Occurrences.{met_in_term, met_in_argument}
-use Rattle.theory_instances.specs.Keys.{Key, captured_of, number_in, mono_at, key_of_site, keys_of_head, keys_of_site}
+use Rattle.theory_instances.specs.Keys.{Key, key_of_site, keys_of_head, keys_of_site}
 use Rattle.theory_instances.specs.Bodies.{params_of, result_of, Puts, past_passed, arguments_within, HasBody, body_of_val, body_of_fix}
 use Rattle.theory_instances.specs.Lists.{Meets, meets_none, meets_known, meets_new, Taken, TakesUp, TakesAll, takes_end, takes_next, IsMain, main_key}
-use Rattle.theory_formed_met.specs.Laws.{CarriesEntry}
-use Rattle.theory_formed_met.proofs.Occurring.{both, head_by_met}
 use Rattle.theory_instances_formed.specs.Formed.{not_made, made_of_head, values_shapes, made_shape, file_with, IsFormedProgram, FormedFixed, fixed_end, fixed_value, fixed_term, fixed_mono, IsFormedKey}
 use Rattle.theory_instances_formed.specs.Formed.{formed_val, formed_fix}
 use Rattle.theory_instances_formed.specs.Laws.{InstancesAreFormed}
-use Rattle.theory_instances_formed.proofs.Shapes.{IsClosedShape, closed_filled, no_mono, no_heap, formed_closed, closed_shape}
-use Rattle.theory_instances_formed.proofs.Captured.{met_among, captured_closed, carries_met}
-use Rattle.theory_instances_formed.proofs.Sites.{FormedArguments, spine_of, parted, fixed_carried}
+use Rattle.theory_instances_formed.proofs.Shapes.{IsClosedShape, closed_filled, formed_closed, closed_shape}
+use Rattle.theory_instances_formed.proofs.Sites.{FormedArguments, spine_of}
 use Rattle.theory_instances_formed.proofs.Bodies.{fix_ty_shape, fix_ty_formed}
 use Rattle.theory_instances_formed.proofs.Named.{NamedCall, named_val, named_fix}
-use Rattle.theory_instances_formed.proofs.Taken.{passed_closed, reversed_closed, Told, told, val_body, fix_body, fix_of}
+use Rattle.theory_instances_formed.proofs.Taken.{passed_closed, reversed_closed, Told, told, val_body, fix_body}
 
 none_some : {A : Type 0} {x : A} → None ≡ Some x → ⊥
 none_some q = cc

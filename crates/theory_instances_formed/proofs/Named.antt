@@ -1,6 +1,6 @@
 -- A call that names a key by itself: the key is formed, and what is passed and captured at the call is of the
 -- monotypes of the key's parameters.
-use Rattle.std.proofs.Common.{◌≡◌, ℕ, zero, List, [], ◌∷◌, ◌++◌, map, flat_map, All, Some, slice_get, refl, sym, ap, ◌∙◌, subst}
+use Rattle.std.proofs.Common.{◌≡◌, ℕ, zero, List, [], ◌++◌, map, flat_map, All, Some, slice_get, sym, ap, ◌∙◌, subst}
 use Rattle.htt_syntax.specs.Trees.{MonoTree, TyTree, TermTree, FixTree, t_val, t_fix}
 use Rattle.theory_renaming.specs.Renaming.{rename_term, rename_fix}
 use Rattle.theory_values.specs.Values.{IsClosed}
@@ -10,18 +10,17 @@ use Rattle.theory_formed_shapes.specs.Formed.{FileShapes, IsFormedNeutral, w_val
 use Rattle.theory_formed_shapes.proofs.Monos.{MonosFormed, formed_monos}
 use Rattle.theory_formed_canonical.specs.Laws.{bare}
 use Rattle.theory_formed_canonical.proofs.Bare.{bare_shape}
-use Rattle.theory_formed_typing.proofs.Closed.{mapped}
 use Rattle.theory_instances.specs.Calls.{ProgramVal, Program, Argument, head_of, arguments_of, fixed_of, passed_of, fix_ty, ty_of_val, head_ty, Site}
 use Rattle.theory_instances.specs.Occurrences.{met_in_term, met_in_argument}
 use Rattle.theory_instances.specs.Keys.{captured_of, number_in, mono_at, key_of_site}
 use Rattle.theory_formed_met.specs.Laws.{CarriesEntry, HasEntry}
 use Rattle.theory_formed_met.proofs.Occurring.{EachMet, both, head_by_met}
 use Rattle.theory_formed_met.proofs.Entries.{joined, head_has_entries, term_has_entries}
-use Rattle.theory_instances_formed.specs.Formed.{values_shapes, file_with, IsFormedProgram, FormedFixed, fixed_end, fixed_value, fixed_term, fixed_mono}
+use Rattle.theory_instances_formed.specs.Formed.{values_shapes, FormedFixed, fixed_end, fixed_value, fixed_term, fixed_mono}
 use Rattle.theory_instances_formed.specs.Formed.{IsFormedKey, formed_val, formed_fix}
 use Rattle.theory_instances_formed.proofs.Shapes.{IsClosedShape, no_mono, no_heap, closed_shape}
 use Rattle.theory_instances_formed.proofs.Captured.{met_among, captured_closed, carries_met, captured_stand}
-use Rattle.theory_instances_formed.proofs.Sites.{FormedArguments, FormedPassed, Parted, parted, fixed_carried}
+use Rattle.theory_instances_formed.proofs.Sites.{FormedArguments, FormedPassed, parted, fixed_carried}
 use Rattle.theory_instances_formed.proofs.Variables.{Stand}
 use Rattle.theory_instances_formed.proofs.Bodies.{fix_ty_shape, fix_ty_formed}
 use Rattle.theory_instances_formed.proofs.Taken.{Told, told, fix_of}
