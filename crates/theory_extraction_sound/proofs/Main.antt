@@ -47,8 +47,9 @@ pub main_of : {final : Environment} {items : List ItemTree} {rows : List (List O
     → (h : HasCode items (Some main) code)
     → HasMain final h.vals main
 main_of {final = final} {main = main} d h =
+    let number = h.has_instances.has.number in
     let m = h.has_instances.has.main in
-    let same : m.number ≡ main = sym (same_Some main m.number m.named) in
+    let same : number ≡ main = sym (same_Some main number m.named) in
     let there = subst (λ n. slice_get h.vals n ≡ Some m.val) same m.there in
     record {
       val = m.val;

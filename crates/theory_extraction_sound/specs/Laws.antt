@@ -1,4 +1,5 @@
--- The code of a derived file is sound.
+-- The code of a derived file is sound. Names aren't looked up here: `main` is the number of the value that is
+-- called so.
 use Rattle.std.specs.Prelude.{◌≡◌, ◌≤◌, ◌<◌, ◌^◌, ℕ, zero, List, All, Ok, Some, slice_get}
 use Rattle.htt_syntax.specs.Trees.{TripleTree, y_hoare}
 use Rattle.theory_values.specs.Values.{IsWord}
