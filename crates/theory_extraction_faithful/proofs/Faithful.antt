@@ -1,6 +1,6 @@
 -- The code of a file does what the run of main's text does: it does what main's flat body does, and this what the text
 -- does.
-use Rattle.std.proofs.Common.{◌≡◌, ◌≢◌, ◌↔◌, ℕ, List, [], Some, refl, sym, ap, ◌∙◌, subst}
+use Rattle.std.proofs.Common.{◌≡◌, ℕ, List, [], Some, refl, sym, ap, ◌∙◌, subst}
 use Rattle.htt_syntax_words.specs.declared.words.Kind.{Kind}
 use Rattle.theory_values.specs.Values.{Value, encoding}
 use Rattle.theory_values.specs.Heaps.{Heap}
@@ -14,9 +14,9 @@ use Rattle.theory_instances.specs.Calls.{ProgramVal}
 use Rattle.theory_flat.specs.Flat.{Instance, HasFlatInstances}
 use Rattle.theory_flat.specs.Reading.{flat_run}
 use Rattle.theory_emission.specs.Codes.{first_code, code_of}
-use Rattle.theory_emitted.specs.Laws.{CodeHalts, CodeAsks, FlatEnds, FlatAsks, NeverWrong, HasOutcomes}
+use Rattle.theory_emitted.specs.Laws.{CodeHalts, FlatEnds, NeverWrong, HasOutcomes}
 use Rattle.theory_emitted.proofs.Main.{programs_emitted}
-use Rattle.theory_extraction.specs.Extraction.{HasVals, HasCode, program}
+use Rattle.theory_extraction.specs.Extraction.{HasVals, program}
 use Rattle.theory_extraction_formed.proofs.Files.{files_typed}
 use Rattle.theory_extraction_faithful.specs.Laws.{text_run, TextEnds, TextFaults, NeverFaults, DoesAsText, ExtractionIsFaithful}
 use Rattle.theory_extraction_faithful.proofs.Text.{flat_of_text, text_of_flat, result_is}
