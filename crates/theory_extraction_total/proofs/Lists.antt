@@ -154,7 +154,7 @@ module _ (p : Program) (program : IsCanonicalProgram p) where
 
   all_decided : (turns : ℕ) → DecidedIn turns
   all_decided zero keys number q l within known = absurd (omega (arith, q, l, within))
-  all_decided (suc turns) = one_turn turns (all_decided turns)
+  all_decided (suc turns) keys number q l within known = one_turn turns (all_decided turns) keys number q l within known
 
   abbrev ProgramDecided : Type 0
   ProgramDecided =
