@@ -1,18 +1,16 @@
 -- A file whose values derive has code, or a reason why it has none.
 use Rattle.std.proofs.Common.{◌≡◌, ℕ, List, [], ◌∷◌, map, Option, Some, None, ◌⊎◌, inl, inr, refl, subst}
 use Rattle.word_loader_code.specs.declared.code.Code.{Code}
-use Rattle.theory_canonical.specs.Skeletons.{skeleton}
 use Rattle.theory_typing.specs.Laws.{none}
 use Rattle.theory_items.specs.Items.{ItemTree}
 use Rattle.theory_items_sound.proofs.Kept.{items_keep_sound}
-use Rattle.theory_denotation.specs.Denotation.{ValTree}
 use Rattle.theory_denotation_relations.specs.Files.{AreVals}
 use Rattle.theory_instances.specs.Calls.{ProgramVal}
 use Rattle.theory_instances_canonical.specs.Keys.{val_tree, IsCanonicalProgram}
 use Rattle.theory_flat.specs.Flat.{Instance, HasFlatInstances}
 use Rattle.theory_emission.specs.Codes.{EmitRefusal, emit_refusal}
 use Rattle.theory_extraction.specs.Extraction.{HasVals, program, HasCodeBy, ExtractionRefusal, of_list, of_code, RefusesCodeBy, refuses_list}
-use Rattle.theory_extraction.specs.Extraction.{refuses_code, IsOfVal}
+use Rattle.theory_extraction.specs.Extraction.{refuses_code}
 use Rattle.theory_adequacy_files.specs.Laws.{trees_of}
 use Rattle.theory_adequacy_files.proofs.Values.{are_vals}
 use Rattle.theory_extraction_total.specs.Laws.{ProgramsAreDecided, ExtractionIsDecided}

@@ -1,5 +1,5 @@
 -- The body of an instance with a canonical key exists: substitution in canonical trees gives a tree.
-use Rattle.std.proofs.Common.{◌≡◌, ◌≤◌, ℕ, zero, suc, ◌+◌, List, [], ◌∷◌, ◌++◌, length, refl, sym, ◌∙◌, subst, arith}
+use Rattle.std.proofs.Common.{◌≡◌, ℕ, zero, ◌+◌, List, [], ◌∷◌, ◌++◌, length, refl, sym, subst, arith}
 use Rattle.htt_syntax.specs.Trees.{TermTree, FixTree, CompTree, t_lam_t, t_fix, t_do}
 use Rattle.theory_renaming.specs.Renaming.{rename_fix}
 use Rattle.theory_canonical.specs.Skeletons.{Skeleton, sk_c, sk_all, skeleton}
@@ -14,7 +14,7 @@ use Rattle.theory_substitution_total.proofs.Filled.{term_filled}
 use Rattle.theory_substitution_total.proofs.Places.{put_fills}
 use Rattle.theory_substitution_total.proofs.Total.{applied_canonical}
 use Rattle.theory_items.proofs.MoreHeads.{term_more}
-use Rattle.theory_instances.specs.Calls.{ProgramVal, Program, Argument, of_term, of_mono, passed_count, fix_ty}
+use Rattle.theory_instances.specs.Calls.{Program, Argument, of_term, of_mono, passed_count, fix_ty}
 use Rattle.theory_instances.specs.Keys.{Key}
 use Rattle.theory_instances.specs.Bodies.{Puts, puts_none, puts_term, puts_mono, opened_fix, opened_skeleton, past_passed, arguments_within, made_of, HasBody}
 use Rattle.theory_instances.specs.Bodies.{body_of_val, body_of_fix}
@@ -101,7 +101,7 @@ fix_bodied {heads = heads} number m at key {fix = fix} {s = s} q there c fixed =
       results = left.results;
       body = d.0;
       has = body_of_fix q refl (subst (λ (t : TermTree). Puts (opened_fix own) (opened_skeleton u own)
-      (arguments_within u key ++ of_term (eta (made_of number u key) (fix_ty own)) ∷ []) left.results t) (d.1) left.puts);
+          (arguments_within u key ++ of_term (eta (made_of number u key) (fix_ty own)) ∷ []) left.results t) (d.1) left.puts);
     }
 
 pub bodied : {p : Program} (all : List Key) (number : ℕ) (key : Key)

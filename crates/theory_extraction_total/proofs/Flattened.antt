@@ -1,13 +1,12 @@
 -- The instances of a canonical program have flat bodies: each call of a body names a key that is known, or an
 -- instance that is there already.
-use Rattle.std.proofs.Common.{◌≡◌, ℕ, zero, suc, ◌+◌, List, [], ◌∷◌, ◌++◌, length, map, flat_map, reverse, take, Some, None, slice_get, refl, sym, ap}
-use Rattle.std.proofs.Common.{◌∙◌, subst, arith}
-use Rattle.htt_syntax.specs.Trees.{MonoTree, TermTree, FixTree, CompTree, StepTree, t_app, t_inst, t_val, t_fix, t_made}
+use Rattle.std.proofs.Common.{◌≡◌, ℕ, zero, suc, List, [], ◌∷◌, ◌++◌, length, map, flat_map, reverse, Some, None, slice_get, refl, ap}
+use Rattle.std.proofs.Common.{subst}
+use Rattle.htt_syntax.specs.Trees.{MonoTree, TermTree, CompTree, StepTree, t_app, t_inst}
 use Rattle.theory_canonical.specs.Skeletons.{Skeleton, sk_o, sk_c, skeleton}
 use Rattle.theory_canonical.specs.Contexts.{Standing, as_term, Heads, HasSkeleton, first_head, later_head}
 use Rattle.theory_canonical.specs.Canonical.{IsNeutral, IsCanonicalComp, IsCanonicalStep, e_var, e_val, e_made, e_fix, e_app, e_inst, n_ret, n_step}
 use Rattle.theory_canonical.specs.Canonical.{n_run, n_alloc, n_get, n_set, n_free, n_if}
-use Rattle.theory_items.proofs.Lists.{get_more}
 use Rattle.theory_instances.specs.Calls.{Program, Argument, Site, head_of, arguments_of, head_ty, bound_mono, sites_of, sites_of_step}
 use Rattle.theory_instances.specs.Keys.{Key, key_of_site, keys_of_head, keys_of_site}
 use Rattle.theory_instances.specs.Lists.{IsKnownAs, Meets, meets_none, meets_known, meets_new, Taken, TakesAll, takes_end, takes_next, HasInstances}
@@ -15,7 +14,7 @@ use Rattle.theory_instances_denoted.specs.Arguments.{CanonicalArguments, argumen
 use Rattle.theory_instances_canonical.specs.Keys.{values_context, heads_with, IsCanonicalProgram}
 use Rattle.theory_instances_canonical.proofs.Contexts.{stands_is}
 use Rattle.theory_instances_canonical.proofs.More.{taken_more, comp_more}
-use Rattle.theory_instances_canonical.proofs.Sites.{Spine, spine_of, EachSite}
+use Rattle.theory_instances_canonical.proofs.Sites.{spine_of, EachSite}
 use Rattle.theory_instances_canonical.proofs.Values.{term_skeleton}
 use Rattle.theory_instances_canonical.proofs.Taken.{canonical}
 use Rattle.theory_flat.specs.Flat.{FlatTree, FlatStepTree, flat_ret, flat_step, flat_call, flat_alloc, flat_get, flat_set, flat_free, flat_if, Instance}

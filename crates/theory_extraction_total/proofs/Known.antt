@@ -1,7 +1,6 @@
 -- A key is one of a list or it is new.
-use Rattle.std.proofs.Common.{◌≡◌, ℕ, zero, suc, List, [], ◌∷◌, map, Some, None, slice_get, ◌⊎◌, inl, inr, refl, sym, ap, ◌∙◌}
+use Rattle.std.proofs.Common.{◌≡◌, ℕ, zero, suc, List, [], ◌∷◌, Some, None, ◌⊎◌, inl, inr, refl, ap, ◌∙◌}
 use Rattle.std.proofs.lemmas.Option.{same_Some}
-use Rattle.htt_syntax.specs.Trees.{MonoTree, TermTree}
 use Rattle.theory_trees_decided.proofs.Decided.{mono_decided, term_decided}
 use Rattle.theory_instances.specs.Calls.{Argument, of_term, of_mono}
 use Rattle.theory_instances.specs.Keys.{Key, plain_key, IsSameKey}

@@ -5,7 +5,7 @@ use Rattle.std.proofs.Common.{refl, sym, ap, ◌∙◌, subst, arith}
 use Rattle.std.proofs.lemmas.Bool.{cases_lt}
 use Rattle.std.proofs.lemmas.List.{length-append}
 use Rattle.std.proofs.lemmas.Option.{slice_get_within}
-use Rattle.htt_syntax.specs.Trees.{TyTree, TripleTree, TermTree, y_mono, y_fun, y_all, y_hoare, y_at, t_val, t_fix}
+use Rattle.htt_syntax.specs.Trees.{TyTree, TripleTree, y_mono, y_fun, y_all, y_hoare, y_at}
 use Rattle.theory_canonical.specs.Skeletons.{Skeleton, skeleton}
 use Rattle.theory_canonical.specs.Contexts.{HasSkeleton}
 use Rattle.theory_items.proofs.Lists.{get_more}

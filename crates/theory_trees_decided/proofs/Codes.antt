@@ -1,5 +1,5 @@
 -- Trees as binary trees of numbers, and back: two trees are equal where these are.
-use Rattle.std.specs.Prelude.{ℕ, zero, suc, Bool, true, false, Option, Some, None}
+use Rattle.std.specs.Prelude.{ℕ, zero, Bool, true, false, Option, Some, None}
 use Rattle.htt_syntax.specs.declared.mono.Op.{Op}
 use Rattle.htt_syntax.specs.declared.mono.Op.TheVariants.{Add, Sub, Mul, And, Or, Xor, Shl, Shr, Lt}
 use Rattle.htt_syntax.specs.Trees.{MonoTree, TyTree, TripleTree, TermTree, TermTrees, FixTree, CompTree, StepTree}
