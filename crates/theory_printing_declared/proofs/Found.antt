@@ -1,7 +1,9 @@
 -- In a table in order each value and each recursive predicate is found by its name, with its number.
-use Rattle.std.proofs.Common.{◌≡◌, ℕ, zero, suc, ◌+◌, List, [], ◌∷◌, ◌++◌, Bool, true, false, cond, refl, ◌∙◌, ap, subst, arith, append_assoc}
-use Rattle.std.specs.Prelude.{if◌then◌else◌, map, Option, Some, None, slice_get, bytes_eq}
+use Rattle.std.proofs.Common.{◌≡◌, ℕ, zero, suc, ◌+◌, List, [], ◌∷◌, ◌++◌, Bool, true, false, cond, refl, sym, ◌∙◌, ap, subst, arith, append_assoc}
+use Rattle.std.specs.Prelude.{if◌then◌else◌, map, Option, Some, None, option_map, slice_get, bytes_eq}
+use Rattle.std.proofs.Math.Nat.{add-zero, zero-add}
 use Rattle.std.proofs.lemmas.List.Sums.{sum_by-append}
+use Rattle.std.proofs.lemmas.Option.{slice_get-map}
 use Rattle.std.proofs.lemmas.Slice.Eq.{bytes_eq-Decides}
 use Rattle.theory_text_names.specs.Scopes.{Sort, Meaning, means_mono, means_pred, means_rec, means_def, means_val, Declared, Names}
 use Rattle.theory_text_names.specs.Uses.{Use, a_declared, declared_use}
@@ -117,9 +119,6 @@ regrouped {d = d} before ds first h e =
       found = subst (λ names. declared_use d.name names ≡ Some (a_declared d.meaning)) (append_assoc before (first ∷ []) ds) h.found;
     }
 
-plus_zero : (n : ℕ) → n ≡ n + zero
-plus_zero n = omega arith
-
 -- behind one more, which is of the kind or not
 behind : (such : Meaning → Bool) (before ds : Names) (first : Declared) (b : Bool)
     → NumbersItsOwn such
@@ -132,7 +131,7 @@ behind : (such : Meaning → Bool) (before ds : Names) (first : Declared) (b : B
 behind such before ds first true numbered is next others zero d at =
     let own : Stands such (before ++ Some first ∷ ds) (how_many such before + zero) first = record {
       is_such = is;
-      number_is = numbered before first.meaning is next.1 ∙ plus_zero (how_many such before);
+      number_is = numbered before first.meaning is next.1 ∙ sym (add-zero (how_many such before));
       found = found_after first.name before (Some first ∷ ds) next.0 ∙ found_first first ds;
     } in
     let same : first ≡ d = cc at in
@@ -154,25 +153,17 @@ all_stand such numbered (Some first ∷ ds) before order n d at =
 -- ---- by their names
 
 -- an item of a list that is mapped
-pub record MappedFrom {A B : Type 0} (f : A → B) (xs : List A) (n : ℕ) (y : B) : Type 0 where
-  pub item : A
-  pub at : slice_get xs n ≡ Some item
-  pub is : f item ≡ y
+record MappedFrom {A B : Type 0} (f : A → B) (xs : List A) (n : ℕ) (y : B) : Type 0 where
+  item : A
+  at : slice_get xs n ≡ Some item
+  is : f item ≡ y
 
-pub mapped_from : {A B : Type 0} (f : A → B) (xs : List A) (n : ℕ) (y : B) → slice_get (map f xs) n ≡ Some y → MappedFrom f xs n y
-mapped_from f [] n y e = absurd (cc e)
-mapped_from f (x ∷ xs) zero y e = record { item = x; at = refl; is = cc e }
-mapped_from f (x ∷ xs) (suc n) y e =
-    let h = mapped_from f xs n y e in
-    record { item = h.item; at = h.at; is = h.is }
-
-mapped : {A B : Type 0} (f : A → B) (xs : List A) (n : ℕ) (x : A) → slice_get xs n ≡ Some x → slice_get (map f xs) n ≡ Some (f x)
-mapped f [] n x e = absurd (cc e)
-mapped f (first ∷ xs) zero x e = let same : first ≡ x = cc e in ap (λ y. Some (f y)) same
-mapped f (first ∷ xs) (suc n) x e = mapped f xs n x e
-
-zero_plus : (n : ℕ) → zero + n ≡ n
-zero_plus n = omega arith
+mapped_from : {A B : Type 0} (f : A → B) (xs : List A) (n : ℕ) (y : B) → slice_get (map f xs) n ≡ Some y → MappedFrom f xs n y
+mapped_from {A} f xs n y e = from (slice_get xs n) refl (sym (slice_get-map f xs n) ∙ e)
+  where
+    from : (o : Option A) → slice_get xs n ≡ o → option_map f o ≡ Some y → MappedFrom f xs n y
+    from None at h = absurd (cc h)
+    from (Some x) at h = record { item = x; at = at; is = cc h }
 
 val_found : (names : Names)
     → AreInOrder [] names
@@ -182,7 +173,7 @@ val_found : (names : Names)
 val_found names order number name e =
     let h = mapped_from (λ d. d.name) (those_in a_value names) number name e in
     let s = all_stand a_value values_numbered names [] order number h.item h.at in
-    let numbered : number_of h.item.meaning ≡ number = s.number_is ∙ zero_plus number in
+    let numbered : number_of h.item.meaning ≡ number = s.number_is ∙ zero-add number in
     subst (λ x. declared_use x names ≡ Some (a_declared (means_val number))) h.is
     (s.found ∙ ap (λ m. Some (a_declared m)) (a_value_is h.item.meaning s.is_such ∙ ap means_val numbered))
 
@@ -196,9 +187,9 @@ rec_found : (names : Names)
 rec_found names order number name e =
     let h = mapped_from (λ d. d.name) (those_in a_recursion names) number name e in
     let s = all_stand a_recursion recursions_numbered names [] order number h.item h.at in
-    let numbered : number_of h.item.meaning ≡ number = s.number_is ∙ zero_plus number in (
+    let numbered : number_of h.item.meaning ≡ number = s.number_is ∙ zero-add number in (
       params_of h.item.meaning,
-      mapped (λ d. params_of d.meaning) (those_in a_recursion names) number h.item h.at,
+      slice_get-map (λ d. params_of d.meaning) (those_in a_recursion names) number ∙ ap (option_map (λ d. params_of d.meaning)) h.at,
       subst (λ x. declared_use x names ≡ Some (a_declared (means_rec number (params_of h.item.meaning)))) h.is
           (s.found
           ∙ ap (λ m. Some (a_declared m))

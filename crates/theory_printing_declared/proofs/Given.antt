@@ -1,5 +1,6 @@
 -- Given names, no two of which are the same, are found in their own table.
 use Rattle.std.proofs.Common.{◌≡◌, ℕ, zero, suc, ◌+◌, List, [], ◌∷◌, ◌++◌, length, false, refl, sym, ◌∙◌, ap, arith}
+use Rattle.std.proofs.Math.Nat.{add-zero, zero-add, add-suc, suc-add}
 use Rattle.std.specs.Prelude.{Some, slice_get, bytes_eq}
 use Rattle.theory_text_names.specs.Scopes.{Sort, means_rec, means_val, Names}
 use Rattle.theory_text_names.specs.Uses.{a_declared, declared_use}
@@ -36,17 +37,6 @@ unfolding AreDifferent
 different_right [] others h = h
 different_right (first ∷ names) others h = different_right names others h.1
 
--- ---- numbers
-
-onto_zero : (n : ℕ) → n ≡ n + zero
-onto_zero n = omega arith
-
-onto_suc : (from n : ℕ) → suc from + n ≡ from + suc n
-onto_suc from n = omega arith
-
-from_zero : (n : ℕ) → zero + n ≡ n
-from_zero n = omega arith
-
 -- ---- rows
 
 val_found : (vals : List (List ℕ)) (from : ℕ) (others : Names) (n : ℕ) (name : List ℕ)
@@ -59,11 +49,11 @@ val_found (first ∷ vals) from others zero name h e =
     let same : name ≡ first = cc (sym e) in
     ap (λ x. declared_use x (val_rows from (first ∷ vals) ++ others)) same
     ∙ found_first (record { name = first; meaning = means_val from }) (val_rows (suc from) vals ++ others)
-    ∙ ap (λ m. Some (a_declared (means_val m))) (onto_zero from)
+    ∙ ap (λ m. Some (a_declared (means_val m))) (sym (add-zero from))
 val_found (first ∷ vals) from others (suc n) name h e =
     found_past name (record { name = first; meaning = means_val from }) (val_rows (suc from) vals ++ others) (differs_at first name vals n h.0 e)
     ∙ val_found vals (suc from) others n name h.1 e
-    ∙ ap (λ m. Some (a_declared (means_val m))) (onto_suc from n)
+    ∙ ap (λ m. Some (a_declared (means_val m))) (suc-add from n ∙ sym (add-suc from n))
 
 -- no value has the name of a recursive predicate
 past_vals : (vals recs : List (List ℕ)) (from : ℕ) (others : Names) (n : ℕ) (name : List ℕ)
@@ -93,7 +83,7 @@ rec_found (first ∷ recs) (params ∷ counts) from zero name h k e =
       refl,
       ap (λ x. declared_use x (rec_rows from (first ∷ recs) (params ∷ counts))) same
           ∙ found_first (record { name = first; meaning = means_rec from params }) (rec_rows (suc from) recs counts)
-          ∙ ap (λ m. Some (a_declared (means_rec m params))) (onto_zero from),
+          ∙ ap (λ m. Some (a_declared (means_rec m params))) (sym (add-zero from)),
     )
 rec_found (first ∷ recs) (params ∷ counts) from (suc n) name h k e =
     let further = rec_found recs counts (suc from) n name h.1 (omega (arith, k)) e in (
@@ -102,7 +92,7 @@ rec_found (first ∷ recs) (params ∷ counts) from (suc n) name h k e =
       found_past name (record { name = first; meaning = means_rec from params }) (rec_rows (suc from) recs counts)
           (differs_at first name recs n h.0 e)
           ∙ further.2
-          ∙ ap (λ m. Some (a_declared (means_rec m further.0))) (onto_suc from n),
+          ∙ ap (λ m. Some (a_declared (means_rec m further.0))) (suc-add from n ∙ sym (add-suc from n)),
     )
 
 pub declared_given : (entries : List Sort) (hypotheses : ℕ) (vals recs : List (List ℕ)) (counts : List ℕ)
@@ -112,13 +102,13 @@ pub declared_given : (entries : List Sort) (hypotheses : ℕ) (vals recs : List 
 declared_given entries hypotheses vals recs counts k h = record {
   vals = λ number name e.
       val_found vals zero (rec_rows zero recs counts) number name (different_left vals recs h) e
-      ∙ ap (λ m. Some (a_declared (means_val m))) (from_zero number);
+      ∙ ap (λ m. Some (a_declared (means_val m))) (zero-add number);
   recs = λ number name e.
       let found = rec_found recs counts zero number name (different_right vals recs h) k e in (
         found.0,
         found.1,
         past_vals vals recs zero (rec_rows zero recs counts) number name h e
             ∙ found.2
-            ∙ ap (λ m. Some (a_declared (means_rec m found.0))) (from_zero number),
+            ∙ ap (λ m. Some (a_declared (means_rec m found.0))) (zero-add number),
       );
 }
