@@ -70,12 +70,18 @@ abbrev pub doubled_instances : ℕ → List Taken
 doubled_instances k =
     record { key = main_key 1; params = []; result = m_unit; body = doubled_main k } ∷ dup_at (words k) ∷ []
 
--- fix f (h : (x : word) -> word) (b : bool) : {tt} z : bool {tt} . y <- f (fun x . h (h x)) b; ret not (not .. y)
-abbrev pub varying : ℕ → FixTree
-varying n =
+-- fix f (h : (x : word) -> word) (b : bool) : {tt} z : bool {tt} . y <- f (fun x . h (h x)) b; ret M
+abbrev pub varying_to : TermTree → FixTree
+varying_to result =
     x_param word_to_word (x_param (y_mono m_bool)
     (x_body (triple f_tt m_bool f_tt)
-    (c_step (s_run (t_app (t_app (t_var 0) (t_lam (t_app (t_var 3) (t_app (t_var 3) (t_var 0))))) (t_var 1)) (Some m_bool)) (c_ret (negations n (t_var 0))))))
+    (c_step
+    (s_run (t_app (t_app (t_var 0) (t_lam (t_app (t_var 3) (t_app (t_var 3) (t_var 0))))) (t_var 1)) (Some m_bool))
+    (c_ret result))))
+
+-- where M is not (not .. y)
+abbrev pub varying : ℕ → FixTree
+varying n = varying_to (negations n (t_var 0))
 
 -- val main = do r <- (fix f ..) (fun x . x + 2) true; ret r, where `fix` is byte 40
 abbrev pub varying_main : ℕ → CompTree
