@@ -4,11 +4,17 @@
 
 ghost use Rattle.theory_extraction_examples.specs.Captures.{WorkedCaptures};
 ghost use Rattle.theory_extraction_examples.specs.Heads.{WorkedHeads};
+ghost use Rattle.theory_extraction_examples.specs.Handed.{WorkedHanded};
 ghost use Rattle.theory_extraction_examples.specs.Branches.{WorkedBranches};
 
 /// A recursive function that captures two variables: its instances, its flat bodies, and a run of its code.
 pub fn worked_captures()
     ensures examples { WorkedCaptures }
+{}
+
+/// A recursive function with captured variables that is handed to another: the same.
+pub fn worked_handed()
+    ensures examples { WorkedHanded }
 {}
 
 /// Calls of one head: with other fixed arguments, with a function that is written twice, and of itself as an

@@ -35,7 +35,7 @@ other_value : (key : Key) (j : ℕ) → value_number (plain_term key.head) ≢ s
 unfolding plain_term
 other_value key j d e = d (ap (λ (k : Key). value_number k.head) e)
 
-value_differs : (i j : ℕ) → i ≢ j → IsSameKey (main_key i) (main_key j) → ⊥
+pub value_differs : (i j : ℕ) → i ≢ j → IsSameKey (main_key i) (main_key j) → ⊥
 unfolding plain_term
 value_differs i j d = other_value (main_key i) j (λ q. d (omega (arith, q)))
 
@@ -52,7 +52,7 @@ grown other (x ∷ keys) f d (suc n) k =
     (record { known = k.known; at = k.at; same = k.same })
 
 -- the keys of the values from one on, up to another
-abbrev Unmet : List Key → ℕ → ℕ → Type 0
+abbrev pub Unmet : List Key → ℕ → ℕ → Type 0
 Unmet keys first last = (j : ℕ) → first ≤ j → j < last → IsNew keys (main_key j)
 
 unmet_further : {keys : List Key} {first last : ℕ} → Unmet keys first last → Unmet (keys ++ main_key first ∷ []) (suc first) last
@@ -71,7 +71,7 @@ meets_values (suc count) first last keys l q u =
     (meets_values count (suc first) last (keys ++ main_key first ∷ []) (omega (arith, length-append keys (main_key first ∷ []), l)) (omega arith)
     (unmet_further u)))
 
-meets_more : (count first last : ℕ) (keys : List Key)
+pub meets_more : (count first last : ℕ) (keys : List Key)
     → length keys ≤ instance_limit
     → instance_limit < length keys + count
     → first + count ≡ last
@@ -101,7 +101,7 @@ value_site : (p : Program) (g : List MonoTree) (n : ℕ) → keys_of_site p (rec
 unfolding head_of arguments_of met_in_term rename_term
 value_site p g n = ap (λ (fixed : List Argument). key_of g (t_val n) fixed ∷ []) (none_fixed (skeleton (ty_of_val (slice_get p.vals n))))
 
-values_met : (p : Program) (g : List MonoTree) (first count : ℕ) → keys_met p g (runs_from first count) ≡ keys_from first count
+pub values_met : (p : Program) (g : List MonoTree) (first count : ℕ) → keys_met p g (runs_from first count) ≡ keys_from first count
 unfolding sites_of
 values_met p g first zero = refl
 values_met p g first (suc count) = λ j. value_site p g first j ++ values_met p (m_unit ∷ g) (suc first) count j
@@ -125,7 +125,7 @@ value_up p mono number n comp f w there = record {
   result = sym (ap (λ (v : Option ProgramVal). result_mono m_var (ty_of_val v) []) there ∙ f);
 }
 
-unit_up : (p : Program) (number n : ℕ) (comp : CompTree) → slice_get p.vals n ≡ Some (a_unit comp) → TakesUp p number (main_key n) (unit_taken n comp)
+pub unit_up : (p : Program) (number n : ℕ) (comp : CompTree) → slice_get p.vals n ≡ Some (a_unit comp) → TakesUp p number (main_key n) (unit_taken n comp)
 unfolding fill_mono nodes_mono
 unit_up p number n comp there = value_up p m_unit number n comp refl refl there
 
@@ -138,11 +138,11 @@ at_units zero i others l = absurd (omega arith)
 at_units (suc n) zero others l = refl
 at_units (suc n) (suc i) others l = at_units n i others (omega arith)
 
-past_units : (n : ℕ) (v : ProgramVal) (others : List ProgramVal) → slice_get (units n (v ∷ others)) n ≡ Some v
+pub past_units : (n : ℕ) (v : ProgramVal) (others : List ProgramVal) → slice_get (units n (v ∷ others)) n ≡ Some v
 past_units zero v others = refl
 past_units (suc n) v others = past_units n v others
 
-next_past_units : (n : ℕ) (u v : ProgramVal) → slice_get (units n (u ∷ v ∷ [])) (suc n) ≡ Some v
+pub next_past_units : (n : ℕ) (u v : ProgramVal) → slice_get (units n (u ∷ v ∷ [])) (suc n) ≡ Some v
 next_past_units zero u v = refl
 next_past_units (suc n) u v = next_past_units n u v
 

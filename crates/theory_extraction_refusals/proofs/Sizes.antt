@@ -29,7 +29,7 @@ use Rattle.theory_extraction_refusals.proofs.Limits.{is_past, is_within}
 
 -- ---- counts
 
-nodes_words : (k : ℕ) → nodes_mono (words k) ≡ k + k + 1
+pub nodes_words : (k : ℕ) → nodes_mono (words k) ≡ k + k + 1
 unfolding nodes_mono
 nodes_words zero = refl
 nodes_words (suc k) = omega (arith, nodes_words k)

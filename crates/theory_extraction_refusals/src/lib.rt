@@ -4,6 +4,7 @@
 
 ghost use Rattle.theory_extraction_refusals.specs.Sizes.{WorkedSizes};
 ghost use Rattle.theory_extraction_refusals.specs.Crowds.{WorkedCrowds};
+ghost use Rattle.theory_extraction_refusals.specs.Orders.{WorkedOrders};
 
 /// Programs whose trees or monotypes are as large as may be, or larger.
 pub fn worked_sizes()
@@ -13,4 +14,9 @@ pub fn worked_sizes()
 /// Programs with as many instances as may be, or with one more.
 pub fn worked_crowds()
     ensures examples { WorkedCrowds }
+{}
+
+/// A program whose second instance may be refused for its nodes, its parameter's monotype and its calls.
+pub fn worked_orders()
+    ensures examples { WorkedOrders }
 {}
