@@ -1,9 +1,9 @@
 -- The recursive function that captures a truth value and a pair.
-use Rattle.std.proofs.Common.{◌≡◌, [], ◌∷◌, Some, refl, arith}
+use Rattle.std.proofs.Common.{[], ◌∷◌, Some, refl, arith}
 use Rattle.std.proofs.lemmas.List.Elements.{All-nil, All-cons}
 use Rattle.htt_syntax.specs.declared.mono.Op.TheVariants.{Add}
 use Rattle.htt_syntax.specs.Trees.{CompTree, m_word, m_bool, triple, t_var, t_app, t_word, t_fst, t_snd, t_bin, t_do, t_lam, t_fix, c_ret, c_step, s_run, s_if, f_tt}
-use Rattle.theory_renaming.specs.Renaming.{lift, lifts, rename_mono, rename_term, rename_fix}
+use Rattle.theory_renaming.specs.Renaming.{lift, lifts, rename_mono, rename_term}
 use Rattle.theory_canonical.specs.Skeletons.{skeleton}
 use Rattle.theory_canonical.specs.Eta.{expansion}
 use Rattle.theory_canonical.specs.Folding.{contractum}

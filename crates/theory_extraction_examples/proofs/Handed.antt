@@ -1,7 +1,7 @@
 -- The recursive function that is handed to another.
-use Rattle.std.proofs.Common.{◌≡◌, zero, suc, [], ◌∷◌, Some, refl, ap, ◌∙◌, arith}
+use Rattle.std.proofs.Common.{[], ◌∷◌, Some, refl, arith}
 use Rattle.std.proofs.lemmas.List.Elements.{All-nil, All-cons}
-use Rattle.htt_syntax.specs.Trees.{TermTree, m_word, m_loc, triple, t_var, t_val, t_app, t_word, t_do, t_lam, c_ret, c_step, s_run, f_tt}
+use Rattle.htt_syntax.specs.Trees.{m_word, m_loc, triple, t_var, t_app, t_word, t_do, t_lam, c_ret, c_step, s_run, f_tt}
 use Rattle.theory_renaming.specs.Renaming.{lift, lifts, rename_mono, rename_term}
 use Rattle.theory_canonical.specs.Skeletons.{skeleton}
 use Rattle.theory_canonical.specs.Eta.{expansion}
@@ -14,9 +14,8 @@ use Rattle.theory_substitution.specs.Substitution.{k_var, k_val, k_made, k_app, 
 use Rattle.theory_substitution.specs.Substitution.{u_no_terms, u_more_terms, u_ret, u_step, u_spliced, b_ret, b_step, u_run, u_s_get, u_s_if}
 use Rattle.theory_typing.specs.Positions.{plain_term}
 use Rattle.word_loader_code.specs.Machine.{step, after_steps}
-use Rattle.theory_instances.specs.Calls.{of_term, head_of, arguments_of, fix_ty, fix_comp, sites_of}
+use Rattle.theory_instances.specs.Calls.{head_of, arguments_of, fix_ty, fix_comp, sites_of}
 use Rattle.theory_instances.specs.Occurrences.{met_in_term}
-use Rattle.theory_instances.specs.Keys.{Key, IsSameKey}
 use Rattle.theory_instances.specs.Bodies.{opened_fix, opened_skeleton, puts_none, puts_term, body_of_val, body_of_fix}
 use Rattle.theory_instances.specs.Varying.{PassesOnAt, passes_end, passes_value}
 use Rattle.theory_instances.specs.Lists.{computation_in, meets_none, meets_new, TakesUp, takes_end, takes_next, HasInstances, main_key}
@@ -27,7 +26,7 @@ use Rattle.theory_flat.specs.Flat.{flat_none, flat_more}
 use Rattle.theory_emission.specs.Terms.{emit_term, emit_terms}
 use Rattle.theory_emission.specs.Bodies.{emit_flat}
 use Rattle.theory_extraction_examples.specs.Handed.{WorkedHanded, handed, handed_main, handed_flat, handed_instances, handing, handing_comp, handing_key}
-use Rattle.theory_extraction_examples.specs.Handed.{expanded, made_with, using, using_key}
+use Rattle.theory_extraction_examples.specs.Handed.{expanded, made_with, using_key}
 
 handing_up : TakesUp handed 1 handing_key (record {
   key = handing_key;

@@ -1,9 +1,9 @@
 -- Calls of one head.
-use Rattle.std.proofs.Common.{◌≡◌, ℕ, zero, suc, List, [], ◌∷◌, Some, refl, sym, ap, ◌∙◌, subst, arith}
+use Rattle.std.proofs.Common.{◌≡◌, ℕ, List, [], ◌∷◌, refl, ap, ◌∙◌, arith}
 use Rattle.std.proofs.lemmas.List.Elements.{All-nil}
 use Rattle.htt_syntax.specs.Trees.{m_word, triple, t_var, t_word, t_do, t_lam, t_bin, t_fix, c_ret, f_tt}
 use Rattle.htt_syntax.specs.declared.mono.Op.TheVariants.{Add}
-use Rattle.theory_renaming.specs.Renaming.{lift, lifts, rename_mono, rename_term, rename_fix}
+use Rattle.theory_renaming.specs.Renaming.{lift, lifts, rename_mono, rename_term}
 use Rattle.theory_canonical.specs.Skeletons.{skeleton}
 use Rattle.theory_canonical.specs.Eta.{expansion}
 use Rattle.theory_canonical.specs.Folding.{contractum}
@@ -16,7 +16,6 @@ use Rattle.theory_truth.specs.TermValue.{term_value}
 use Rattle.theory_typing.specs.Positions.{plain_term}
 use Rattle.theory_instances.specs.Calls.{of_term, head_of, arguments_of, fix_ty, fix_comp, sites_of}
 use Rattle.theory_instances.specs.Occurrences.{met_in_term}
-use Rattle.theory_instances.specs.Keys.{IsSameKey}
 use Rattle.theory_instances.specs.Bodies.{opened_fix, opened_skeleton, puts_none, puts_term, body_of_val, body_of_fix}
 use Rattle.theory_instances.specs.Varying.{PassesOnAt, varies_here}
 use Rattle.theory_instances.specs.Lists.{computation_in, meets_none, meets_known, meets_new, TakesUp, takes_end, takes_next, HasInstances, main_key}
@@ -33,7 +32,7 @@ use Rattle.theory_emission.specs.Bodies.{emit_flat}
 use Rattle.theory_emission_variants.specs.Variants.{at_function, adds_twice}
 use Rattle.theory_emission_variants.proofs.Missed.{missed}
 use Rattle.theory_extraction_once.proofs.Flat.{flat_instances_once}
-use Rattle.theory_extraction_examples.specs.Heads.{WorkedHeads, plus, adds, adds_body, added, twins, twins_body, twins_instances, twins_flat, giving_back, giving_key}
+use Rattle.theory_extraction_examples.specs.Heads.{WorkedHeads, adds, adds_body, added, twins, twins_body, twins_instances, twins_flat, giving_back, giving_key}
 use Rattle.theory_extraction_examples.specs.Heads.{given_itself, itself_main, giving_itself}
 
 -- fun h . fun n . do ret h n, given the function that adds m, and then the parameter

@@ -1,7 +1,7 @@
 -- A recursive function that captures variables and is handed to another: its made function is a fixed argument,
 -- and what it has captured is captured again.
 use Rattle.std.specs.Prelude.{◌≡◌, List, [], ◌∷◌, Some}
-use Rattle.htt_syntax.specs.Trees.{TyTree, TermTree, TermTrees, FixTree, CompTree, m_word, m_loc, y_mono, y_fun, triple}
+use Rattle.htt_syntax.specs.Trees.{TermTree, FixTree, CompTree, m_word, m_loc, y_mono, y_fun, triple}
 use Rattle.htt_syntax.specs.Trees.{t_var, t_val, t_app, t_lam, t_do, t_fix, t_word, t_eq, t_made, x_param, x_body, c_ret}
 use Rattle.htt_syntax.specs.Trees.{c_step, s_run, s_alloc, s_get, s_if, f_tt, no_terms, more_terms}
 use Rattle.theory_values.specs.Heaps.{empty_heap, with_block}

@@ -1,5 +1,5 @@
 -- Programs with as many instances as may be, or with one more.
-use Rattle.std.proofs.Common.{◌≡◌, ◌≢◌, ◌<◌, ◌≤◌, ◌+◌, ℕ, zero, suc, List, [], ◌∷◌, ◌++◌, length, flat_map, reverse, Option, Some, None, slice_get, refl, sym, ap, ◌∙◌, subst, arith, ◌⊎◌, inl, inr}
+use Rattle.std.proofs.Common.{◌≡◌, ◌≢◌, ◌<◌, ◌≤◌, ◌+◌, ℕ, zero, suc, List, [], ◌∷◌, ◌++◌, length, reverse, Option, Some, None, slice_get, refl, sym, ap, ◌∙◌, subst, arith, inl, inr}
 use Rattle.std.proofs.lemmas.Bool.{cases_lt}
 use Rattle.std.proofs.lemmas.List.{append-nil, append_assoc, length-append}
 use Rattle.std.proofs.lemmas.List.Elements.{All-nil}
@@ -11,13 +11,13 @@ use Rattle.theory_canonical.specs.Eta.{expansion}
 use Rattle.theory_counts.specs.Nodes.{nodes_mono}
 use Rattle.theory_substitution.specs.Monotypes.{fill_mono}
 use Rattle.theory_typing.specs.Positions.{plain_term}
-use Rattle.theory_instances.specs.Calls.{ProgramVal, Program, Argument, Site, head_of, arguments_of, fixed_of, ty_of_val, fix_ty, fix_comp, sites_of}
+use Rattle.theory_instances.specs.Calls.{ProgramVal, Program, Argument, head_of, arguments_of, fixed_of, ty_of_val, fix_ty, fix_comp, sites_of}
 use Rattle.theory_instances.specs.Occurrences.{met_in_term}
 use Rattle.theory_instances.specs.Keys.{Key, key_of, keys_of_site, IsSameKey, plain_key}
 use Rattle.theory_instances.specs.Bodies.{passed_monos, result_mono, puts_none, body_of_val}
 use Rattle.theory_instances.specs.Varying.{PassesOnAt, varies_here, varies_past_value}
 use Rattle.theory_instances.specs.Lists.{IsNew, instance_limit, keys_met, mono_refusal, Meets, meets_none, meets_new, MeetsTooMany, too_many_here, too_many_past_new}
-use Rattle.theory_instances.specs.Lists.{Taken, TakesUp, TakesAll, takes_end, takes_next, RefusesAll, HasInstances, IsMain, main_key, RefusesUp, up_varies}
+use Rattle.theory_instances.specs.Lists.{TakesUp, TakesAll, takes_end, takes_next, HasInstances, IsMain, main_key, RefusesUp, up_varies}
 use Rattle.theory_instances.specs.Lists.{RefusesInstances, is_varying, too_many_instances, refuses_list, refuses_up, refuses_calls, refuses_later}
 use Rattle.theory_instances.specs.Examples.{always}
 use Rattle.theory_instances.specs.Orders.{a_word, value_taken, second_changes}

@@ -1,4 +1,4 @@
 pub mod Limits
 pub mod Sizes
 pub mod Crowds
-pub mod Orders
+pub mod Precedence

@@ -1,5 +1,5 @@
 -- What is past a limit refuses, and what isn't leaves it to the next test.
-use Rattle.std.proofs.Common.{◌≡◌, ◌<◌, ◌≤◌, ℕ, Option, Some, refl, arith}
+use Rattle.std.proofs.Common.{◌≡◌, ◌<◌, ◌≤◌, ℕ, Option, Some, refl}
 use Rattle.std.proofs.lemmas.Bool.{lt-ltb, le-ltb}
 use Rattle.theory_instances.specs.Lists.{Refusal, past_limit}
 

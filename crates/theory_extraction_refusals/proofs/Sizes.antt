@@ -1,13 +1,13 @@
 -- Programs whose trees or monotypes are as large as may be, or larger.
 use Rattle.std.proofs.Common.{◌≡◌, ◌<◌, ◌≤◌, ◌+◌, ℕ, zero, suc, List, [], ◌∷◌, Some, None, refl, sym, ap, ◌∙◌, subst, arith}
 use Rattle.std.proofs.lemmas.List.Elements.{All-nil}
-use Rattle.htt_syntax.specs.Trees.{MonoTree, TermTree, FixTree, m_bool, m_loc, m_unit, m_word, m_pair, triple, t_var, t_val, t_do, t_not, t_eq, t_fix, t_lam, c_ret}
-use Rattle.htt_syntax.specs.Trees.{f_tt, f_ff, c_step, s_get}
+use Rattle.htt_syntax.specs.Trees.{MonoTree, TermTree, FixTree, m_bool, m_loc, m_unit, m_word, m_pair, triple, t_var, t_val, t_do, t_not, t_eq, t_fix, t_lam}
+use Rattle.htt_syntax.specs.Trees.{f_tt, f_ff, s_get}
 use Rattle.theory_renaming.specs.Renaming.{Map, lift, lifts, rename_mono, rename_term}
 use Rattle.theory_canonical.specs.Skeletons.{skeleton, sk_o}
 use Rattle.theory_canonical.specs.Eta.{expansion}
 use Rattle.theory_canonical.specs.Folding.{contractum, folding}
-use Rattle.theory_counts.specs.Nodes.{nodes_mono, nodes_option, nodes_term, nodes_comp}
+use Rattle.theory_counts.specs.Nodes.{nodes_mono, nodes_term, nodes_comp}
 use Rattle.theory_counts_monotypes.specs.Monotypes.{greatest_in_term}
 use Rattle.theory_substitution.specs.Closing.{closing}
 use Rattle.theory_substitution.specs.Monotypes.{fill_mono, fill_term, next_filling, put_mono}
@@ -16,7 +16,7 @@ use Rattle.theory_typing.specs.Positions.{plain_term}
 use Rattle.theory_instances.specs.Calls.{of_term, of_mono, head_of, arguments_of, fix_ty, fix_comp, sites_of}
 use Rattle.theory_instances.specs.Occurrences.{met_in_term}
 use Rattle.theory_instances.specs.Keys.{Key, IsSameKey, captured_of, key_with, number_in}
-use Rattle.theory_instances.specs.Bodies.{opened_fix, opened_skeleton, puts_none, puts_term, puts_mono, HasBody, body_of_val}
+use Rattle.theory_instances.specs.Bodies.{puts_none, puts_term, puts_mono, HasBody, body_of_val}
 use Rattle.theory_instances.specs.Varying.{PassesOnAt, varies_here}
 use Rattle.theory_instances.specs.Lists.{Refusal, computation_in, node_limit, mono_limit, too_large, mono_too_large, past_limit, result_refusal, mono_refusal}
 use Rattle.theory_instances.specs.Lists.{Meets, keys_met, meets_none, meets_new, TakesUp, takes_end, takes_next, HasInstances, IsMain, main_key, RefusesUp, up_varies}
@@ -271,22 +271,22 @@ unfolding rename_term
 innermost_stays m zero q = ap t_var q
 innermost_stays m (suc n) q = ap t_not (innermost_stays m n q)
 
-abbrev varying_key : TermTree → Key
-varying_key result = record { head = t_fix 40 (varying_to result); fixed = of_term plus_two ∷ []; captured = [] }
+abbrev negating_key : TermTree → Key
+negating_key result = record { head = t_fix 40 (varying_to result); fixed = of_term plus_two ∷ []; captured = [] }
 
 none_captured : (n : ℕ) → captured_of (t_fix 40 (varying n)) (of_term plus_two ∷ []) ≡ []
 unfolding met_in_term
 none_captured n = rw (none_met n) refl
 
-varying_met : (n : ℕ) → keys_met (varies_and_negates n) [] (varying_main n) ≡ varying_key (negations n (t_var 0)) ∷ []
+varying_met : (n : ℕ) → keys_met (varies_and_negates n) [] (varying_main n) ≡ negating_key (negations n (t_var 0)) ∷ []
 unfolding skeleton sites_of head_of arguments_of fix_ty rename_term rename_mono lift lifts
 varying_met n =
     ap (λ (captured : List ℕ). key_with captured [] (t_fix 40 (varying n)) (of_term plus_two ∷ []) ∷ []) (none_captured n) ∙
-    ap (λ (result : TermTree). varying_key result ∷ []) (innermost_stays (lift (lift (lift (lift (number_in []))))) n refl)
+    ap (λ (result : TermTree). negating_key result ∷ []) (innermost_stays (lift (lift (lift (lift (number_in []))))) n refl)
 
-varying_new : (n : ℕ) → IsSameKey (main_key 0) (varying_key (negations n (t_var 0))) → ⊥
+varying_new : (n : ℕ) → IsSameKey (main_key 0) (negating_key (negations n (t_var 0))) → ⊥
 unfolding plain_term
-varying_new n = other_head (main_key 0) (varying_key (negations n (t_var 0))) (λ q. omega (arith, q))
+varying_new n = other_head (main_key 0) (negating_key (negations n (t_var 0))) (λ q. omega (arith, q))
 
 varies_first : (n : ℕ) → RefusesInstances (varies_and_negates n) (is_varying 40 1)
 unfolding skeleton greatest_in_term nodes_mono fix_ty fix_comp met_in_term rename_term rename_mono lift lifts fill_mono expansion
@@ -300,7 +300,7 @@ varies_first n =
     })
     (refuses_later {taken = record { key = main_key 0; params = []; result = m_bool; body = varying_main n }} refl
     (record { never_varies = tt; results = []; has_body = body_of_val refl refl puts_none; results_within = refl; monos_within = refl; same_key = refl; params = refl; result = refl })
-    (subst (λ met. Meets (main_key 0 ∷ []) met (main_key 0 ∷ varying_key (negations n (t_var 0)) ∷ [])) (sym (varying_met n))
+    (subst (λ met. Meets (main_key 0 ∷ []) met (main_key 0 ∷ negating_key (negations n (t_var 0)) ∷ [])) (sym (varying_met n))
     (meets_new (new_to_one (varying_new n)) (omega arith) meets_none))
     (refuses_up refl (up_varies refl (record {
       before = [];

@@ -1,3 +1,3 @@
 pub mod Sizes
 pub mod Crowds
-pub mod Orders
+pub mod Precedence

@@ -4,7 +4,7 @@
 
 ghost use Rattle.theory_extraction_refusals.specs.Sizes.{WorkedSizes};
 ghost use Rattle.theory_extraction_refusals.specs.Crowds.{WorkedCrowds};
-ghost use Rattle.theory_extraction_refusals.specs.Orders.{WorkedOrders};
+ghost use Rattle.theory_extraction_refusals.specs.Precedence.{WorkedPrecedence};
 
 /// Programs whose trees or monotypes are as large as may be, or larger.
 pub fn worked_sizes()
@@ -17,6 +17,6 @@ pub fn worked_crowds()
 {}
 
 /// A program whose second instance may be refused for its nodes, its parameter's monotype and its calls.
-pub fn worked_orders()
-    ensures examples { WorkedOrders }
+pub fn worked_precedence()
+    ensures examples { WorkedPrecedence }
 {}

@@ -1,6 +1,6 @@
 -- A program whose second instance may be too large, have a parameter of too large a monotype, and call too many
 -- values: what of these comes first.
-use Rattle.std.specs.Prelude.{◌+◌, ◌*◌, ◌<◌, ◌≤◌, ℕ, suc, List, [], ◌∷◌, Some}
+use Rattle.std.specs.Prelude.{◌+◌, ◌*◌, ◌<◌, ◌≤◌, ℕ, suc, [], ◌∷◌, Some}
 use Rattle.htt_syntax.specs.Trees.{CompTree, m_unit, y_mono, y_fun, t_val, t_app, t_lam, t_do, t_unit, c_ret, c_step, s_run}
 use Rattle.theory_instances.specs.Calls.{ProgramVal, Program}
 use Rattle.theory_instances.specs.Lists.{RefusesInstances, too_many_instances, too_large, mono_too_large, node_limit}
@@ -21,7 +21,7 @@ all_main k n = c_step (s_run (t_app (t_val n) (zeros k)) (Some m_unit)) (c_ret t
 abbrev pub runs : ℕ → ℕ → Program
 runs k n = record { vals = units n (runs_all k n ∷ a_unit (all_main k n) ∷ []); main = Some (suc n) }
 
-pub record WorkedOrders : Type 0 where
+pub record WorkedPrecedence : Type 0 where
   -- what is left of the value has 3 n + 3 nodes: too many come before a wide parameter and too many calls
   pub nodes_first : (k n : ℕ) → node_limit < 3 * n + 3 → RefusesInstances (runs k n) too_large
   -- a wide parameter comes before too many calls

@@ -1,6 +1,6 @@
 -- The program whose second instance may be refused for three reasons.
 use Rattle.std.proofs.Common.{◌≡◌, ◌<◌, ◌≤◌, ◌+◌, ◌*◌, ℕ, zero, suc, List, [], ◌∷◌, ◌++◌, reverse, Option, Some, None, slice_get, refl, sym, ap, ◌∙◌, subst, arith}
-use Rattle.htt_syntax.specs.Trees.{MonoTree, TermTree, m_unit, m_var, m_word, m_pair, triple, t_var, t_val, t_do, t_unit, c_ret, f_tt}
+use Rattle.htt_syntax.specs.Trees.{MonoTree, TermTree, m_unit, m_var, m_word, m_pair, triple, t_var, t_val, t_do, f_tt}
 use Rattle.theory_renaming.specs.Renaming.{rename_mono, rename_term}
 use Rattle.theory_canonical.specs.Skeletons.{Skeleton, skeleton, sk_o}
 use Rattle.theory_counts.specs.Nodes.{nodes_mono, nodes_option, nodes_term, nodes_comp}
@@ -8,17 +8,17 @@ use Rattle.theory_counts_monotypes.specs.Monotypes.{greatest_in_term, greatest_i
 use Rattle.theory_substitution.specs.Closing.{up}
 use Rattle.theory_substitution.specs.Monotypes.{fill_mono}
 use Rattle.theory_substitution.specs.Substitution.{SubComp, k_val, applied, u_do, u_ret, u_unit, u_step, u_run}
-use Rattle.theory_instances.specs.Calls.{ProgramVal, Program, Argument, of_term, head_of, arguments_of, fixed_of, ty_of_val, sites_of}
+use Rattle.theory_instances.specs.Calls.{ProgramVal, of_term, head_of, arguments_of, fixed_of, ty_of_val, sites_of}
 use Rattle.theory_instances.specs.Occurrences.{met_in_term}
 use Rattle.theory_instances.specs.Keys.{Key, key_of}
 use Rattle.theory_instances.specs.Bodies.{passed_monos, result_mono, params_of, result_of, puts_none, puts_term, HasBody, body_of_val}
 use Rattle.theory_instances.specs.Lists.{Refusal, too_large, mono_too_large, too_many_instances, past_limit, node_limit, mono_limit, result_refusal, mono_refusal}
-use Rattle.theory_instances.specs.Lists.{keys_met, Meets, meets_none, meets_new, MeetsTooMany, TakesUp, IsMain, main_key, RefusesUp, up_result, up_mono}
+use Rattle.theory_instances.specs.Lists.{keys_met, Meets, meets_none, meets_new, MeetsTooMany, TakesUp, IsMain, main_key, up_result, up_mono}
 use Rattle.theory_instances.specs.Lists.{RefusesAll, RefusesInstances, refuses_list, refuses_up, refuses_calls, refuses_later}
 use Rattle.theory_instances.proofs.Worked.{new_to_one, new_to_two}
 use Rattle.theory_extraction_refusals.specs.Sizes.{words, zeros}
-use Rattle.theory_extraction_refusals.specs.Crowds.{a_unit, runs_from, unit_taken}
-use Rattle.theory_extraction_refusals.specs.Orders.{runs, runs_all, all_main, WorkedOrders}
+use Rattle.theory_extraction_refusals.specs.Crowds.{a_unit, runs_from}
+use Rattle.theory_extraction_refusals.specs.Precedence.{runs, runs_all, all_main, WorkedPrecedence}
 use Rattle.theory_extraction_refusals.proofs.Limits.{is_past, is_within}
 use Rattle.theory_extraction_refusals.proofs.Sizes.{nodes_words}
 use Rattle.theory_extraction_refusals.proofs.Crowds.{value_differs, Unmet, meets_more, values_met, unit_up, past_units, next_past_units}
@@ -139,5 +139,5 @@ module _ (k n : ℕ) where
       behind_main (refuses_calls refl (all_up l w)
       (subst (MeetsTooMany two) (sym (values_met (runs k n) (words k ∷ []) 0 n)) (meets_more n 0 n two (omega arith) (omega arith) (omega arith) two_unmet)))
 
-pub worked : WorkedOrders
+pub worked : WorkedPrecedence
 worked = record { nodes_first = nodes_first; monotypes_second = monotypes_second; calls_last = calls_last }
