@@ -1,8 +1,9 @@
 -- The texts of a file's values and their canonical terms come to the same.
-use Rattle.std.proofs.Common.{◌≡◌, ◌≢◌, ◌<◌, ◌≤◌, ◌↔◌, ℕ, zero, suc, ◌+◌, List, [], Some, slice_get, refl, sym, ap, ◌∙◌, subst, arith}
+use Rattle.std.proofs.Common.{◌≡◌, ◌↔◌, ℕ, zero, suc, ◌+◌, List, [], Some, slice_get, refl, sym, ap, ◌∙◌, subst, arith}
 use Rattle.htt_syntax.specs.Trees.{MonoTree, TyTree, TripleTree, y_hoare}
+use Rattle.theory_values.specs.Values.{Value}
 use Rattle.theory_values.specs.Heaps.{Heap}
-use Rattle.theory_meaning.specs.Closures.{RunValue, RunResult, done, no_fuel, asks, fault, Items}
+use Rattle.theory_meaning.specs.Closures.{RunValue, base, RunResult, done, no_fuel, asks, fault, Items}
 use Rattle.theory_meaning.specs.Meaning.{item_result, inner_result, run_with, then_run, start_result, runner_of}
 use Rattle.theory_triples.specs.Triples.{run_of_val}
 use Rattle.theory_canonical.specs.Skeletons.{Skeleton, sk_c, skeleton}
@@ -15,7 +16,7 @@ use Rattle.theory_denotation.specs.Denotation.{term_den}
 use Rattle.theory_denotation.specs.Satisfaction.{answer_mono}
 use Rattle.theory_denotation.specs.Laws.{run_result}
 use Rattle.theory_denotation_heads.proofs.Files.{denote}
-use Rattle.theory_meaning_simulation.specs.Simulation.{AlikeOutcomes, Does, ValDoes}
+use Rattle.theory_meaning_simulation.specs.Simulation.{Shaped, AlikeOutcomes, Does, ValDoes}
 use Rattle.theory_meaning_simulation.proofs.Results.{alike_with}
 use Rattle.theory_file_derived.specs.Derived.{val_terms, def_terms, texts_of}
 use Rattle.theory_instances.specs.Calls.{ProgramVal}
@@ -95,6 +96,14 @@ unfolding skeleton
 running_is e number v ty spec q is =
     ap running_of_entry (is ∙ ap (λ (s : Skeleton). den_term s (term_den e [] v.term s)) (ap skeleton q))
 
+done_with : (t : MonoTree) (u : RunValue) (k : Heap) (left : List ℕ) (o : Outcome)
+    → AlikeOutcomes t (done u k left) o
+    → (x : Value) × (u ≡ base x) × Shaped x t
+done_with t u k left (ended v g ds) a = (v, a.0, a.1)
+done_with t u k left out_of_fuel a = absurd a
+done_with t u k left asking a = absurd a
+done_with t u k left wrong a = absurd a
+
 pub files : FilesAreAdequate
 files = record {
   values = λ items vals d number v q. (file_values items vals d number v q).realises;
@@ -109,4 +118,12 @@ files = record {
       (running_is e number v v.ty spec is x.denotes)
       (same_outcomes (answer_mono [] spec) (λ j. run_of_val texts number j cs h) (λ n. running_of_entry (e.vals number) n h cs) end has
       (λ j. run_alike texts e number spec h cs j does) (λ n. run_reaches texts e number spec h cs n realises));
+  results = λ items vals d number v spec q is h cs fuel u k left ends.
+      let x = file_values items vals d number v q in
+      let e = entries_of vals in
+      let texts = texts_of items in
+      let does = subst (ValDoes texts e number) is x.does in
+      let o = running_of_entry (e.vals number) fuel h cs in
+      done_with (answer_mono [] spec) u k left o
+      (subst (λ r. AlikeOutcomes (answer_mono [] spec) r o) ends (run_alike texts e number spec h cs fuel does));
 }

@@ -1,6 +1,6 @@
 -- A value or definition that is typed where those before it do and realise what they denote, does and
 -- realises what it denotes.
-use Rattle.std.proofs.Common.{List, ◌≡◌, ℕ, [], ◌∷◌, ◌++◌, length, Some, slice_get, sym, subst, ◌⊎◌, inl, inr}
+use Rattle.std.proofs.Common.{List, ◌≡◌, ℕ, [], length, Some, slice_get, sym, subst, ◌⊎◌, inl, inr}
 use Rattle.htt_syntax.specs.Trees.{TyTree, TermTree}
 use Rattle.theory_meaning.specs.Closures.{nothing, Items}
 use Rattle.theory_meaning.specs.Meaning.{item_result, inner_result}

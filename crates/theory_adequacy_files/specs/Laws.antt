@@ -1,7 +1,9 @@
 -- A file's texts and the canonical terms of its values come to the same.
 use Rattle.std.specs.Prelude.{◌≡◌, ◌≢◌, ◌↔◌, ℕ, List, [], ◌∷◌, Some, slice_get}
 use Rattle.htt_syntax.specs.Trees.{TripleTree, y_hoare}
+use Rattle.theory_values.specs.Values.{Value}
 use Rattle.theory_values.specs.Heaps.{Heap}
+use Rattle.theory_meaning.specs.Closures.{RunValue, base, done}
 use Rattle.theory_triples.specs.Triples.{run_of_val}
 use Rattle.theory_canonical.specs.Skeletons.{sk_c, skeleton}
 use Rattle.theory_typing.specs.Laws.{none}
@@ -9,7 +11,9 @@ use Rattle.theory_items.specs.Items.{ItemTree}
 use Rattle.theory_denotation.specs.Outcomes.{Outcome, out_of_fuel}
 use Rattle.theory_denotation.specs.Valuations.{HeadEntries}
 use Rattle.theory_denotation.specs.Denotation.{term_den, ValTree, heads_of_vals}
+use Rattle.theory_denotation.specs.Satisfaction.{answer_mono}
 use Rattle.theory_denotation.specs.Laws.{run_result}
+use Rattle.theory_meaning_simulation.specs.Simulation.{Shaped}
 use Rattle.theory_file_derived.specs.Derived.{texts_of}
 use Rattle.theory_instances.specs.Calls.{ProgramVal}
 use Rattle.theory_extraction.specs.Extraction.{HasVals}
@@ -42,3 +46,12 @@ pub record FilesAreAdequate : Type 0 where
       → end ≢ out_of_fuel
       → ((fuel : ℕ) × (run_of_val (texts_of items) number fuel cs h ≡ run_result end))
       ↔ ((n : ℕ) × (term_den (entries_of vals) [] v.term sk_c n h cs ≡ end))
+  -- what the run of such a text is done with is a value of the form of the triple's monotype
+  pub results : (items : List ItemTree) (vals : List ProgramVal)
+      → HasVals none items vals
+      → (number : ℕ) (v : ProgramVal) (spec : TripleTree)
+      → slice_get vals number ≡ Some v
+      → v.ty ≡ y_hoare spec
+      → (h : Heap) (cs : List ℕ) (fuel : ℕ) (result : RunValue) (k : Heap) (left : List ℕ)
+      → run_of_val (texts_of items) number fuel cs h ≡ done result k left
+      → (x : Value) × (result ≡ base x) × Shaped x (answer_mono [] spec)

@@ -38,6 +38,14 @@ worked = record {
     within = refl;
     is = refl;
   };
+  sum_first_code = record {
+    vals = sum.vals;
+    has_vals = two_vals;
+    instances = sum_flat;
+    has_instances = flat.worked.sum_has;
+    within = refl;
+    is = refl;
+  };
   unnamed = refuses_list two_vals (refuses_no_main refl);
   empty = refuses_list vals_none (refuses_no_main refl);
 }

@@ -1,5 +1,5 @@
--- A program has one list of instances, with one list of flat bodies, or one reason why it has none; and so has
--- a file one code, or one reason.
+-- A program has at most one list of instances, with one list of flat bodies, or one reason why it has none; and so
+-- has a file at most one code, or one reason, of each version.
 use Rattle.std.specs.Prelude.{◌≡◌, ℕ, List, Option}
 use Rattle.word_loader_code.specs.declared.code.Code.{Code}
 use Rattle.theory_items.specs.Items.{ItemTree}
@@ -7,7 +7,7 @@ use Rattle.theory_instances.specs.Calls.{Program}
 use Rattle.theory_instances.specs.Keys.{Key}
 use Rattle.theory_instances.specs.Lists.{Taken, HasInstances, Refusal, RefusesInstances}
 use Rattle.theory_flat.specs.Flat.{Instance, HasFlatInstances}
-use Rattle.theory_extraction.specs.Extraction.{HasCode, ExtractionRefusal, RefusesExtraction}
+use Rattle.theory_extraction.specs.Extraction.{HasCodeBy, ExtractionRefusal, RefusesCodeBy}
 
 pub record InstancesAreOne : Type 0 where
   pub lists : (p : Program) (instances others : List Taken) (keys more : List Key)
@@ -27,16 +27,17 @@ pub record InstancesAreOne : Type 0 where
       → RefusesInstances p refusal
       → ⊥
 
-pub record CodeIsOne : Type 0 where
+-- Of the code that instances are written as.
+pub record CodeIsOne (written : List Instance → Code) : Type 0 where
   pub codes : (items : List ItemTree) (main : Option ℕ) (code other : Code)
-      → HasCode items main code
-      → HasCode items main other
+      → HasCodeBy written items main code
+      → HasCodeBy written items main other
       → code ≡ other
   pub refusals : (items : List ItemTree) (main : Option ℕ) (refusal other : ExtractionRefusal)
-      → RefusesExtraction items main refusal
-      → RefusesExtraction items main other
+      → RefusesCodeBy written items main refusal
+      → RefusesCodeBy written items main other
       → refusal ≡ other
   pub either : (items : List ItemTree) (main : Option ℕ) (code : Code) (refusal : ExtractionRefusal)
-      → HasCode items main code
-      → RefusesExtraction items main refusal
+      → HasCodeBy written items main code
+      → RefusesCodeBy written items main refusal
       → ⊥

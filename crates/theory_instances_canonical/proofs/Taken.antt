@@ -56,7 +56,7 @@ all_more p i (takes_next r u m rest) =
 
 module _ (p : Program) (program : IsCanonicalProgram p) where
   -- each key is canonical with those before it
-  abbrev Known : List Key → Type 0
+  abbrev pub Known : List Key → Type 0
   Known keys = (n : ℕ) (k : Key) → slice_get keys n ≡ Some k → IsCanonicalKey (heads_with p (take n keys)) p k
 
   one_known : (keys : List Key) (key : Key) → Known keys → IsCanonicalKey (heads_with p keys) p key → Known (keys ++ key ∷ [])
@@ -67,16 +67,16 @@ module _ (p : Program) (program : IsCanonicalProgram p) where
         (subst (λ (before : List Key). IsCanonicalKey (heads_with p before) p key) (sym (take_at keys (key ∷ []) n (r.0))) c)
   ]
 
-  met_known : {keys met after : List Key} → Meets keys met after → Known keys → EachKeyOf (heads_with p keys) p met → Known after
+  pub met_known : {keys met after : List Key} → Meets keys met after → Known keys → EachKeyOf (heads_with p keys) p met → Known after
   met_known meets_none a b = a
   met_known (meets_known i l m) a b = met_known m a (b.1)
   met_known {keys = keys} (meets_new {others = others} {key = key} f l m) a b =
       met_known m (one_known keys key a (b.0)) (each_more p (front_more p keys (key ∷ [])) others (b.1))
 
-  abbrev Body : List Key → ℕ → Taken → Type 0
+  abbrev pub Body : List Key → ℕ → Taken → Type 0
   Body keys number taken = (m : ℕ) × IsCanonicalComp (heads_with p (take (suc number) keys)) (values_context m) taken.body
 
-  taken_body : (keys : List Key) (number : ℕ) (key : Key) {taken : Taken}
+  pub taken_body : (keys : List Key) (number : ℕ) (key : Key) {taken : Taken}
       → slice_get keys number ≡ Some key
       → IsCanonicalKey (heads_with p (take number keys)) p key
       → TakesUp p number key taken
@@ -112,7 +112,7 @@ module _ (p : Program) (program : IsCanonicalProgram p) where
       let stays = comp_more (all_more p (suc number) (takes_next q u m rest)) (body.1) in
       (r.0, one_more_body final number taken others (body.0, stays) (r.1))
 
-  main_known : {number : ℕ} → IsMain p number → Known (main_key number ∷ [])
+  pub main_known : {number : ℕ} → IsMain p number → Known (main_key number ∷ [])
   unfolding skeleton
   main_known {number = number} m zero k q =
       subst (IsCanonicalKey (heads_with p []) p) (same_Some (main_key number) k q)

@@ -14,7 +14,7 @@ use Rattle.theory_text_items.specs.Resolving.{file_comes}
 use Rattle.theory_text_bytes.specs.Texts.{Derives, IsText, IsStopped, IsWithin}
 use Rattle.theory_text_bytes.specs.Laws.{TextsAreOne, StopsAreOne}
 
-one_tree : {T : Type 0} {IsTree : List Token → T → Type 0}
+pub one_tree : {T : Type 0} {IsTree : List Token → T → Type 0}
     → ((tokens : List Token) (tree other : T) → IsTree tokens tree → IsTree tokens other → tree ≡ other)
     → (text : List ℕ) (tree other : T)
     → Derives IsTree text tree

@@ -1,0 +1,4 @@
+pub mod Captures
+pub mod Heads
+pub mod Branches
+pub mod Handed

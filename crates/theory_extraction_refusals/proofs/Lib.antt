@@ -1,0 +1,4 @@
+pub mod Limits
+pub mod Sizes
+pub mod Crowds
+pub mod Precedence

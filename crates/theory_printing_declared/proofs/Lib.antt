@@ -1,0 +1,4 @@
+pub mod Found
+pub mod Order
+pub mod Given
+pub mod Laws

@@ -1,0 +1,2 @@
+pub mod Sequents
+pub mod Examples

@@ -1,0 +1,3 @@
+pub mod Sequents
+pub mod Laws
+pub mod Examples
