@@ -2,7 +2,7 @@
 use Rattle.std.proofs.Common.{ℕ, zero, suc, ◌+◌, ◌≡◌, refl, ap, sym, ◌∙◌, List, [], ◌∷◌, Some, arith}
 use Rattle.htt_syntax.specs.Trees.{MonoTree, TyTree, TripleTree, TermTree, m_var, y_mono, y_fun, y_all, y_hoare, y_at, triple, t_var, t_app, t_inst, t_lam}
 use Rattle.htt_syntax.specs.Trees.{t_lam_t, t_do, c_ret, c_step, s_run}
-use Rattle.theory_renaming.specs.Renaming.{Map, lift, lifts, shifting, rename_mono, rename_ty, rename_term, rename_triple}
+use Rattle.theory_renaming.specs.Renaming.{Map, lift, lifts, shifting, rename_ty, rename_term}
 use Rattle.theory_renaming.proofs.Identity.{mono_stays}
 use Rattle.theory_renaming.proofs.Composition.{mono_joins}
 use Rattle.theory_canonical.specs.Eta.{expansion, eta}

@@ -1,8 +1,8 @@
 -- What stays true when the list of parts grows, and what the memo says.
-use Rattle.std.proofs.Common.{◌≡◌, ℕ, ◌+◌, ◌<◌, ◌≤◌, List, length, refl, sym, ap, ◌∙◌, subst, arith, rules, Option, None, Some, Bool, true, false, cond, IfSome}
+use Rattle.std.proofs.Common.{◌≡◌, ℕ, List, refl, sym, ap, ◌∙◌, subst, arith, rules, Option, None, Some, Bool, true, false, cond, IfSome}
 use Rattle.shared_terms_rows.specs.declared.slots.Slot.{Slot}
 use Rattle.shared_terms_rows.specs.Parts.{Part}
-use Rattle.shared_terms_rows.specs.Rows.{at, Extends}
+use Rattle.shared_terms_rows.specs.Rows.{Extends}
 use Rattle.theory_renaming.specs.Renaming.{Map}
 use Rattle.theory_rows_renaming.specs.Renaming.{rename_part}
 use Rattle.shared_terms_renaming.specs.declared.renaming.Renaming.{Renaming}

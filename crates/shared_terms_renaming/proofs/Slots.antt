@@ -1,12 +1,12 @@
 -- A row whose slots hold what was renamed is the row, renamed.
-use Rattle.std.proofs.Common.{◌≡◌, ℕ, ◌+◌, ◌<◌, ◌≤◌, List, length, refl, sym, ap, ◌∙◌, subst, arith, Option, None, Some, Bool, true, ◌&&◌, nat_eq, Result, Ok, Err, IfOk}
+use Rattle.std.proofs.Common.{◌≡◌, ℕ, ◌≤◌, List, length, refl, sym, ap, ◌∙◌, subst, arith, Option, None, Some, true, ◌&&◌, nat_eq, Result, Ok, Err, IfOk}
 use Rattle.std.proofs.lemmas.Bool.{and_parts}
 use Rattle.theory_renaming.specs.Renaming.{Map, lifts}
 use Rattle.shared_terms_rows.specs.declared.form.Form.{Form}
 use Rattle.shared_terms_rows.specs.declared.row.Row.{Row}
 use Rattle.shared_terms_rows.specs.declared.slots.Slot.{Slot}
 use Rattle.shared_terms_rows.specs.declared.slots.Slots.{Slots}
-use Rattle.shared_terms_rows.specs.Parts.{Part, of_term, kind_of, build}
+use Rattle.shared_terms_rows.specs.Parts.{Part, kind_of, build}
 use Rattle.shared_terms_rows.specs.Forms.{slots}
 use Rattle.shared_terms_rows.specs.Rows.{at, in_slot, node, behind, bound, bound_in, node_in, number, slot_fits, fits, fits_in, RowIs}
 use Rattle.theory_rows_renaming.specs.Renaming.{rename_part, rename_form, rename_slot}

@@ -1,5 +1,5 @@
 -- The size of a row is that of what it stands for, and a column with one more size.
-use Rattle.std.proofs.Common.{◌≡◌, ℕ, ◌+◌, ◌<◌, ◌≤◌, List, [], ◌∷◌, ◌++◌, length, slice_index_or, Option, None, Some, refl, sym, ap, ◌∙◌, arith, Bool, true}
+use Rattle.std.proofs.Common.{◌≡◌, ℕ, ◌+◌, ◌<◌, ◌≤◌, List, [], ◌∷◌, ◌++◌, length, slice_index_or, Option, None, Some, sym, ap, ◌∙◌, arith, true}
 use Rattle.std.proofs.Common.{◌&&◌, ◌⊎◌, inl, inr, subst}
 use Rattle.std.proofs.lemmas.Bool.{and_parts, cases_lt}
 use Rattle.std.proofs.lemmas.Grind.{common_steps}
@@ -7,7 +7,7 @@ use Rattle.shared_terms_rows.specs.declared.row.Row.{Row}
 use Rattle.shared_terms_rows.specs.declared.slots.Slot.{Slot}
 use Rattle.shared_terms_rows.specs.Parts.{Part, kind_of}
 use Rattle.shared_terms_rows.specs.Forms.{slots}
-use Rattle.shared_terms_rows.specs.Rows.{at, in_slot, behind, bound, number, slot_fits, fits, RowIs, IsOfSlot}
+use Rattle.shared_terms_rows.specs.Rows.{at, in_slot, behind, bound, slot_fits, fits, RowIs, IsOfSlot}
 use Rattle.shared_terms_rows.proofs.Built.{kind_told}
 use Rattle.theory_rows_counts.specs.Counts.{nodes_part, own_nodes, slot_nodes}
 use Rattle.theory_rows_counts.proofs.Sums.{nodes_add_up}

@@ -1,4 +1,4 @@
-use Rattle.std.proofs.Common.{ℕ, ◌+◌, ◌*◌}
+use Rattle.std.proofs.Common.{◌+◌, ◌*◌}
 use Rattle.shared_terms_rows.specs.Rows.{behind}
 use Rattle.shared_terms_renaming.proofs.work.Work.+rename.Given as goal
 
