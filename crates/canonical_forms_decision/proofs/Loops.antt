@@ -45,21 +45,22 @@ module _ (h : Heads) where
   unfolding term_is_canonical
   terms_end g i xs all past = ap (λ ts. all && terms_are_canonical h g (term_trees ts)) (drop_all i xs past) ∙ and_true all
 
-  pub steps_next : (g inner : List Standing) (i : ℕ) (xs : List Step) (x : Step) (result : TermTree) (all this new : Bool)
+  pub steps_next : (k : Heads) (g inner : List Standing) (i : ℕ) (xs : List Step) (x : Step) (result : TermTree) (all this new : Bool)
+      → k ≡ h
       → i < length xs
       → x ≡ get_or xs i x
-      → this ≡ step_is_canonical h g (step_tree x)
+      → this ≡ step_is_canonical k g (step_tree x)
       → new ≡ (all && this)
       → inner ≡ as_term sk_o ∷ g
       → (all && comp_is_canonical h g (steps_tree (drop i xs) result)) ≡ (new && comp_is_canonical h inner (steps_tree (drop (i + 1) xs) result))
   unfolding term_is_canonical
-  steps_next g inner i xs x result all this new below at is more under =
-      let rest : List Standing → Bool = λ k. comp_is_canonical h k (steps_tree (drop (i + 1) xs) result) in
+  steps_next k g inner i xs x result all this new same below at is more under =
+      let rest : List Standing → Bool = λ l. comp_is_canonical h l (steps_tree (drop (i + 1) xs) result) in
       ap (λ ts. all && comp_is_canonical h g (steps_tree ts result)) (drop_read xs i x below at)
-      ∙ ap (λ t. all && (t && rest (as_term sk_o ∷ g))) (sym is)
+      ∙ ap (λ t. all && (t && rest (as_term sk_o ∷ g))) (ap (λ l. step_is_canonical l g (step_tree x)) (sym same) ∙ sym is)
       ∙ assoc all this (rest (as_term sk_o ∷ g))
       ∙ ap (λ t. t && rest (as_term sk_o ∷ g)) (sym more)
-      ∙ ap (λ k. new && rest k) (sym under)
+      ∙ ap (λ l. new && rest l) (sym under)
 
   pub steps_end : (g : List Standing) (i : ℕ) (xs : List Step) (result : TermTree) (all : Bool)
       → length xs ≤ i
@@ -67,22 +68,23 @@ module _ (h : Heads) where
   unfolding term_is_canonical
   steps_end g i xs result all past = ap (λ ts. all && comp_is_canonical h g (steps_tree ts result)) (drop_all i xs past)
 
-  pub params_next : (g inner : List Standing) (w : Skeleton) (i : ℕ) (xs : List Ty) (x : Ty) (rest : FixTree) (all this new : Bool)
+  pub params_next : (k : Heads) (g inner : List Standing) (w : Skeleton) (i : ℕ) (xs : List Ty) (x : Ty) (rest : FixTree) (all this new : Bool)
+      → k ≡ h
       → i < length xs
       → x ≡ get_or xs i x
-      → this ≡ ty_is_canonical h g (ty_tree x)
+      → this ≡ ty_is_canonical k g (ty_tree x)
       → new ≡ (all && this)
       → inner ≡ as_term (skeleton (ty_tree x)) ∷ g
       → (all && fix_is_canonical h g w (params_tree (drop i xs) rest)) ≡ (new && fix_is_canonical h inner w (params_tree (drop (i + 1) xs) rest))
   unfolding term_is_canonical
-  params_next g inner w i xs x rest all this new below at is more under =
-      let others : List Standing → Bool = λ k. fix_is_canonical h k w (params_tree (drop (i + 1) xs) rest) in
+  params_next k g inner w i xs x rest all this new same below at is more under =
+      let others : List Standing → Bool = λ l. fix_is_canonical h l w (params_tree (drop (i + 1) xs) rest) in
       let here : List Standing = as_term (skeleton (ty_tree x)) ∷ g in
       ap (λ ts. all && fix_is_canonical h g w (params_tree ts rest)) (drop_read xs i x below at)
-      ∙ ap (λ t. all && (t && others here)) (sym is)
+      ∙ ap (λ t. all && (t && others here)) (ap (λ l. ty_is_canonical l g (ty_tree x)) (sym same) ∙ sym is)
       ∙ assoc all this (others here)
       ∙ ap (λ t. t && others here) (sym more)
-      ∙ ap (λ k. new && others k) (sym under)
+      ∙ ap (λ l. new && others l) (sym under)
 
   pub params_end : (g : List Standing) (w : Skeleton) (i : ℕ) (xs : List Ty) (rest : FixTree) (all : Bool)
       → length xs ≤ i

@@ -10,7 +10,7 @@ ghost use Rattle.theory_canonical_decided.specs.Decision.{fix_is_canonical, comp
 ghost use Rattle.canonical_forms_skeletons.specs.Views.{skeleton_tree};
 ghost use Rattle.canonical_forms_decision.specs.Views.{context_tree, heads_tree};
 
-use crate::answers::{both_hold, tells_c};
+use crate::answers::{and, both_hold, kept_if, tells_c};
 use crate::context::{Context, Entry};
 use crate::mono::mono_at;
 use crate::terms::{neutral, value_at};
@@ -48,7 +48,7 @@ pub(crate) fn fix_told(
 {
     let whole = skeleton_of_fix(alloc, fix)?;
     let holds = fix_at(alloc, fix, context, &whole)?;
-    Ok(if holds { Some(whole) } else { None })
+    Ok(kept_if(holds, Some(whole)))
 }
 
 /// Whether the recursive function, which has this skeleton, is canonical.
@@ -68,8 +68,10 @@ fn fix_at(
     for param in fix.params.as_slice() {
         match left {
             Skeleton::Arrow(argument, answer) => {
-                all = both_hold(Ok(all), ty_at(alloc, param, &inner))?;
-                inner = inner.under(alloc, Entry::Term(argument.get()))?;
+                let this = ty_at(alloc, param, &inner)?;
+                all = and(all, this);
+                let next = inner.under(alloc, Entry::Term(argument.get()))?;
+                inner = next;
                 left = answer.get();
             }
             Skeleton::O => unreachable!(),
@@ -95,8 +97,10 @@ pub(crate) fn comp_at(alloc: Global, comp: &Comp, context: &Context<'_>) -> Resu
     let mut inner = context.copy(alloc)?;
     let mut all = true;
     for step in comp.steps.as_slice() {
-        all = both_hold(Ok(all), step_at(alloc, step, &inner))?;
-        inner = inner.under(alloc, Entry::Value)?;
+        let this = step_at(alloc, step, &inner)?;
+        all = and(all, this);
+        let next = inner.under(alloc, Entry::Value)?;
+        inner = next;
     }
     both_hold(Ok(all), value_at(alloc, &comp.result, &inner))
 }

@@ -11,7 +11,7 @@ ghost use Rattle.canonical_forms_skeletons.specs.declared.skeleton.Skeleton.{Ske
 ghost use Rattle.canonical_forms_skeletons.specs.Views.{skeleton_tree};
 ghost use Rattle.canonical_forms_decision.specs.Views.{context_tree, heads_tree};
 
-use crate::answers::{both_hold, instance, is_o, kept_if, tells_o, told_if};
+use crate::answers::{and, both_hold, instance, is_o, kept_if, tells_o, told_if};
 use crate::computations::{comp_at, fix_told};
 use crate::context::{Context, Entry};
 use crate::folding::{bin_stays, eq_stays, fst_stays, not_stays, sel_stays, snd_stays};
@@ -277,7 +277,8 @@ pub(crate) fn values_at(
 {
     let mut all = true;
     for term in terms {
-        all = both_hold(Ok(all), value_at(alloc, term, context))?;
+        let this = value_at(alloc, term, context)?;
+        all = and(all, this);
     }
     Ok(all)
 }

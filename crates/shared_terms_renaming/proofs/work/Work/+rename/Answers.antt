@@ -1,5 +1,3 @@
-use Rattle.std.proofs.Common.{arith}
-use Rattle.shared_terms_rows.specs.Rows.{bound, fits}
 use Rattle.shared_terms_table.proofs.Lists.{extends_trans, row_kept}
 use Rattle.shared_terms_renaming.proofs.Grows.{slot_kept}
 use Rattle.shared_terms_renaming.proofs.Slots.{renamed_row, renames_row, ok_map}
