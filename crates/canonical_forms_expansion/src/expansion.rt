@@ -5,7 +5,7 @@ ghost use Rattle.htt_syntax.specs.Trees.{t_app, t_do, t_inst, t_var, m_var};
 ghost use Rattle.htt_syntax.specs.Views.{mono_tree, term_tree, ty_tree};
 ghost use Rattle.theory_canonical.specs.Eta.{eta};
 ghost use Rattle.theory_renaming.specs.Renaming.{rename_term, rename_ty, shifting};
-ghost use Rattle.canonical_forms_expansion.specs.Runs.{run_of};
+ghost use Rattle.theory_canonical_expansion.specs.Forms.{run_of};
 
 use htt_syntax::{Comp, Mono, Step, Term, Ty};
 use htt_syntax_build::{term_app, term_inst, term_lam, term_lam_t};
@@ -23,7 +23,7 @@ pub fn expand(alloc: Global, term: Term, ty: &Ty) -> Result<Term, AllocError>
 }
 
 #[cycle(expand)]
-#[tactic(auto, using(htt_syntax::specs::Levels::ty_levels, htt_syntax::specs::Levels::term_levels, crate::proofs::Forms::eta_forms))]
+#[tactic(auto, using(htt_syntax::specs::Levels::ty_levels, htt_syntax::specs::Levels::term_levels, theory_canonical_expansion::proofs::Forms::eta_forms))]
 fn expand_at(alloc: Global, term: Term, ty: &Ty) -> Result<Term, AllocError>
     ensures expanded { IfOk result (λ t. term_tree t ≡ eta (term_tree term) (ty_tree ty.now)) }
 {

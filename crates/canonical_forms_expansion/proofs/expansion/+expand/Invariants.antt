@@ -1,6 +1,6 @@
 use Rattle.std.proofs.Common.{◌+◌, ◌*◌}
 use Rattle.htt_syntax.specs.Views.{ty_tree}
-use Rattle.canonical_forms_expansion.specs.Rungs.{rungs}
+use Rattle.theory_canonical_expansion.specs.Forms.{rungs}
 use Rattle.canonical_forms_expansion.proofs.expansion.+expand.Given as goal
 
 abbrev pub decreases-expand_at : goal.decreases-expand_at
