@@ -23,7 +23,7 @@ pub fn expand(alloc: Global, term: Term, ty: &Ty) -> Result<Term, AllocError>
 }
 
 #[cycle(expand)]
-#[tactic(auto, using(htt_syntax::specs::Levels::ty_levels, htt_syntax::specs::Levels::term_levels, theory_canonical_expansion::proofs::Forms::eta_forms))]
+#[tactic(auto, using(htt_syntax::specs::Levels::ty_levels, htt_syntax::specs::Levels::term_levels, theory_canonical_expansion::proofs::Forms::eta_forms), unfolding(theory_canonical_expansion::specs::Forms::rungs))]
 fn expand_at(alloc: Global, term: Term, ty: &Ty) -> Result<Term, AllocError>
     ensures expanded { IfOk result (λ t. term_tree t ≡ eta (term_tree term) (ty_tree ty.now)) }
 {
@@ -44,7 +44,7 @@ fn expand_at(alloc: Global, term: Term, ty: &Ty) -> Result<Term, AllocError>
 
 /// The term, one entry further, applied to that entry, which is written out.
 #[cycle(expand)]
-#[tactic(auto, using(htt_syntax::specs::Levels::term_levels))]
+#[tactic(auto, using(htt_syntax::specs::Levels::term_levels, theory_canonical_expansion::proofs::Forms::rungs_kept))]
 fn applied(alloc: Global, term: &Term, argument: &Ty) -> Result<Term, AllocError>
     ensures applied { IfOk result (λ t. term_tree t ≡ t_app (rename_term (shifting 0 1) (term_tree term.now))
         (eta (t_var 0) (rename_ty (shifting 0 1) (ty_tree argument.now)))) }
