@@ -1,12 +1,15 @@
 -- Where in a list that has the innermost one last a variable finds what is put for it.
 use Rattle.std.proofs.Common.{◌≡◌, ℕ, zero, suc, ◌+◌, ◌-◌, ◌<◌, ◌≤◌, inl, inr, List, [], ◌∷◌, ◌++◌, length, map, get_or, refl, sym, ap, ◌∙◌, arith, subst}
 use Rattle.std.proofs.Common.{Option, Some, None, slice_get}
-use Rattle.std.specs.Prelude.{reverse, option_map, option_and_then}
+use Rattle.std.specs.Prelude.{reverse, option_map, option_and_then, Result, IfOk}
 use Rattle.std.proofs.lemmas.Option.{slice_get_read, slice_get-get_or, slice_get_past, get_or_from_slice_get, slice_get-map}
 use Rattle.std.proofs.lemmas.List.{get_or-reverse, length-reverse, length-map, map-append, reverse-append}
 use Rattle.theory_renaming.specs.Renaming.{lifts, shifting}
 use Rattle.theory_text_sugar.specs.Putting as putting
-use Rattle.theory_text_sugar.specs.Putting.{from_outside, put_for}
+use Rattle.htt_syntax.specs.declared.mono.Mono.{Mono}
+use Rattle.htt_syntax.specs.declared.tree.Term.{Term}
+use Rattle.htt_syntax.specs.Views.{mono_tree, term_tree}
+use Rattle.theory_text_sugar.specs.Putting.{from_outside, put_for, mono_for, term_for, heap_for}
 use Rattle.htt_resolve_sugar.specs.declared.puts.Put.{Put}
 use Rattle.htt_resolve_sugar.specs.declared.measure.PutSize.{PutSize}
 use Rattle.htt_resolve_sugar.specs.Views.{put_tree, puts_tree, put_size, Measures, IsMeasured, IsPlace}
@@ -78,6 +81,25 @@ put_more all more x is =
 pub heap_past : (depth heap past : ℕ) → past ≡ heap + depth → past ≡ shifting 0 depth heap
 unfolding lifts
 heap_past depth heap past h = h
+
+-- what stands there for what is put, when it is found
+pub term_found : {E : Type 0} (d n : ℕ) (found put : Option putting.Put) (r : Result Term E)
+    → found ≡ put
+    → IfOk r (λ t. term_tree t ≡ term_for d n found)
+    → IfOk r (λ t. term_tree t ≡ term_for d n put)
+term_found d n found put r is h = subst (λ x. IfOk r (λ t. term_tree t ≡ term_for d n x)) is h
+
+pub mono_found : {E : Type 0} (d n : ℕ) (found put : Option putting.Put) (r : Result Mono E)
+    → found ≡ put
+    → IfOk r (λ t. mono_tree t ≡ mono_for d n found)
+    → IfOk r (λ t. mono_tree t ≡ mono_for d n put)
+mono_found d n found put r is h = subst (λ x. IfOk r (λ t. mono_tree t ≡ mono_for d n x)) is h
+
+pub heap_found : {E : Type 0} (d n : ℕ) (found put : Option putting.Put) (r : Result ℕ E)
+    → found ≡ put
+    → IfOk r (λ h. h ≡ heap_for d n found)
+    → IfOk r (λ h. h ≡ heap_for d n put)
+heap_found d n found put r is h = subst (λ x. IfOk r (λ k. k ≡ heap_for d n x)) is h
 
 -- ---- sizes
 

@@ -28,21 +28,21 @@ term_put d n (Some (put_mono t)) z h = grind arith
 term_put d n (Some (put_term M)) z h = (let is : term_measure M ≡ z = grind (arith, h) in sym is) ∙ sym (renamed_term d M)
 term_put d n (Some (put_heap k)) z h = grind arith
 
-pub term_of_mono : (d n : ℕ) (put : Option Put) (z : Size) → IsMeasured (Some (sizes.Mono z)) put → leaf ≡ term_measure (term_for d n put)
-term_of_mono d n None z h = grind arith
-term_of_mono d n (Some (put_mono t)) z h = sym (term_var_measure n)
-term_of_mono d n (Some (put_term M)) z h = grind arith
-term_of_mono d n (Some (put_heap k)) z h = grind arith
+pub term_of_mono : (d n : ℕ) (put : Option Put) (z x : Size) → x ≡ leaf → IsMeasured (Some (sizes.Mono z)) put → x ≡ term_measure (term_for d n put)
+term_of_mono d n None z x is h = grind arith
+term_of_mono d n (Some (put_mono t)) z x is h = is ∙ sym (term_var_measure n)
+term_of_mono d n (Some (put_term M)) z x is h = grind arith
+term_of_mono d n (Some (put_heap k)) z x is h = grind arith
 
-pub term_of_heap : (d n : ℕ) (put : Option Put) → IsMeasured (Some sizes.Heap) put → leaf ≡ term_measure (term_for d n put)
-term_of_heap d n None h = grind arith
-term_of_heap d n (Some (put_mono t)) h = grind arith
-term_of_heap d n (Some (put_term M)) h = grind arith
-term_of_heap d n (Some (put_heap k)) h = sym (term_var_measure n)
+pub term_of_heap : (d n : ℕ) (put : Option Put) (x : Size) → x ≡ leaf → IsMeasured (Some sizes.Heap) put → x ≡ term_measure (term_for d n put)
+term_of_heap d n None x is h = grind arith
+term_of_heap d n (Some (put_mono t)) x is h = grind arith
+term_of_heap d n (Some (put_term M)) x is h = grind arith
+term_of_heap d n (Some (put_heap k)) x is h = is ∙ sym (term_var_measure n)
 
-pub term_of_none : (d n : ℕ) (put : Option Put) → IsMeasured None put → leaf ≡ term_measure (term_for d n put)
-term_of_none d n None h = sym (term_var_measure n)
-term_of_none d n (Some p) h = grind arith
+pub term_of_none : (d n : ℕ) (put : Option Put) (x : Size) → x ≡ leaf → IsMeasured None put → x ≡ term_measure (term_for d n put)
+term_of_none d n None x is h = is ∙ sym (term_var_measure n)
+term_of_none d n (Some p) x is h = grind arith
 
 pub ruleset terms = (term_put, term_of_mono, term_of_heap, term_of_none)
 
@@ -52,21 +52,21 @@ mono_put d n (Some (put_mono t)) z h = (let is : mono_measure t ≡ z = grind (a
 mono_put d n (Some (put_term M)) z h = grind arith
 mono_put d n (Some (put_heap k)) z h = grind arith
 
-pub mono_of_term : (d n : ℕ) (put : Option Put) (z : Size) → IsMeasured (Some (sizes.Term z)) put → leaf ≡ mono_measure (mono_for d n put)
-mono_of_term d n None z h = grind arith
-mono_of_term d n (Some (put_mono t)) z h = grind arith
-mono_of_term d n (Some (put_term M)) z h = sym (mono_var_measure n)
-mono_of_term d n (Some (put_heap k)) z h = grind arith
+pub mono_of_term : (d n : ℕ) (put : Option Put) (z x : Size) → x ≡ leaf → IsMeasured (Some (sizes.Term z)) put → x ≡ mono_measure (mono_for d n put)
+mono_of_term d n None z x is h = grind arith
+mono_of_term d n (Some (put_mono t)) z x is h = grind arith
+mono_of_term d n (Some (put_term M)) z x is h = is ∙ sym (mono_var_measure n)
+mono_of_term d n (Some (put_heap k)) z x is h = grind arith
 
-pub mono_of_heap : (d n : ℕ) (put : Option Put) → IsMeasured (Some sizes.Heap) put → leaf ≡ mono_measure (mono_for d n put)
-mono_of_heap d n None h = grind arith
-mono_of_heap d n (Some (put_mono t)) h = grind arith
-mono_of_heap d n (Some (put_term M)) h = grind arith
-mono_of_heap d n (Some (put_heap k)) h = sym (mono_var_measure n)
+pub mono_of_heap : (d n : ℕ) (put : Option Put) (x : Size) → x ≡ leaf → IsMeasured (Some sizes.Heap) put → x ≡ mono_measure (mono_for d n put)
+mono_of_heap d n None x is h = grind arith
+mono_of_heap d n (Some (put_mono t)) x is h = grind arith
+mono_of_heap d n (Some (put_term M)) x is h = grind arith
+mono_of_heap d n (Some (put_heap k)) x is h = is ∙ sym (mono_var_measure n)
 
-pub mono_of_none : (d n : ℕ) (put : Option Put) → IsMeasured None put → leaf ≡ mono_measure (mono_for d n put)
-mono_of_none d n None h = sym (mono_var_measure n)
-mono_of_none d n (Some p) h = grind arith
+pub mono_of_none : (d n : ℕ) (put : Option Put) (x : Size) → x ≡ leaf → IsMeasured None put → x ≡ mono_measure (mono_for d n put)
+mono_of_none d n None x is h = is ∙ sym (mono_var_measure n)
+mono_of_none d n (Some p) x is h = grind arith
 
 pub ruleset monos = (mono_put, mono_of_term, mono_of_heap, mono_of_none)
 

@@ -1,10 +1,10 @@
 //! The size of a body with what is put for its free variables, from the sizes of these.
 
-ghost use Rattle.std.specs.Prelude.{◌≡◌, List, IfOk};
+ghost use Rattle.std.specs.Prelude.{◌≡◌, ℕ, List, Option, IfOk};
 ghost use Rattle.htt_syntax.specs.Trees.{TermTree};
 ghost use Rattle.htt_syntax.specs.Views.{mono_tree, formula_tree};
-ghost use Rattle.htt_syntax_measure.specs.Measures.{term_measure, formula_measure};
-ghost use Rattle.theory_text_sugar.specs.Putting.{Put, put_for, putting, put_into_formula};
+ghost use Rattle.htt_syntax_measure.specs.Measures.{mono_measure, term_measure, formula_measure};
+ghost use Rattle.theory_text_sugar.specs.Putting.{Put, put_for, mono_for, term_for, putting, put_into_formula};
 ghost use Rattle.htt_resolve_sugar.specs.Views.{Measures, IsMeasured, with_argument};
 
 use crate::places::place;
@@ -39,23 +39,41 @@ impl PutSizes<'_> {
     }
 }
 
+/// The size of a term variable for which something of this size is put; a variable that stays is one node.
+#[tactic(auto, using(crate::proofs::Measured::terms))]
+fn term_size(found: Option<PutSize>) -> Size
+    ensures sized { (d n : ℕ) (put : Option Put) → IsMeasured found put → result ≡ term_measure (term_for d n put) }
+{
+    match found {
+        Some(PutSize::Term(size)) => size,
+        Some(PutSize::Mono(_)) => Size::leaf(),
+        Some(PutSize::Heap) => Size::leaf(),
+        None => Size::leaf(),
+    }
+}
+
+/// The size of a monotype variable likewise.
+#[tactic(auto, using(crate::proofs::Measured::monos))]
+fn mono_size(found: Option<PutSize>) -> Size
+    ensures sized { (d n : ℕ) (put : Option Put) → IsMeasured found put → result ≡ mono_measure (mono_for d n put) }
+{
+    match found {
+        Some(PutSize::Mono(size)) => size,
+        Some(PutSize::Term(_)) => Size::leaf(),
+        Some(PutSize::Heap) => Size::leaf(),
+        None => Size::leaf(),
+    }
+}
+
 impl Sizes for PutSizes<'_> {
     ghost measures = { λ s p. (puts : List Put) × Measures s.sizes.now puts × (p ≡ putting puts) };
 
-    #[tactic(auto, using(crate::proofs::Measured::terms))]
     fn at_term(&self, index: u32, depth: u32) -> Size {
-        match self.size_for(index, depth) {
-            Some(PutSize::Term(size)) => size,
-            Some(PutSize::Mono(_) | PutSize::Heap) | None => Size::leaf(),
-        }
+        term_size(self.size_for(index, depth))
     }
 
-    #[tactic(auto, using(crate::proofs::Measured::monos))]
     fn at_mono(&self, index: u32, depth: u32) -> Size {
-        match self.size_for(index, depth) {
-            Some(PutSize::Mono(size)) => size,
-            Some(PutSize::Term(_) | PutSize::Heap) | None => Size::leaf(),
-        }
+        mono_size(self.size_for(index, depth))
     }
 }
 
@@ -86,7 +104,9 @@ pub fn put_argument_size(
 /// The size of the body with what is put for its free variables, from the sizes of these. It takes no memory, and fails
 /// where more than 32 bits of binders stand around a place.
 pub fn body_size(body: &Formula, puts: &[PutSize]) -> Result<Size, AllocError>
-    ensures measured { (put : List Put) → Measures puts.now put → IfOk result (λ z. z ≡ formula_measure (put_into_formula put (formula_tree body.now))) }
+    ensures measured { (put : List Put)
+        → Measures puts.now put
+        → IfOk result (λ z. z ≡ formula_measure (put_into_formula put (formula_tree body.now))) }
 {
     measure_formula(body, &PutSizes { sizes: puts }, 0)
 }

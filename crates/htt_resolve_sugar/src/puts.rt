@@ -4,6 +4,7 @@ ghost use Rattle.std.specs.Prelude.{◌≡◌, IfOk, option_map};
 ghost use Rattle.htt_syntax.specs.Trees.{t_ann, y_mono};
 ghost use Rattle.htt_syntax.specs.Views.{mono_tree, term_tree, formula_tree};
 ghost use Rattle.theory_text_sugar.specs.Putting.{put_for, putting, put_into_mono, put_into_formula};
+ghost use Rattle.theory_text_sugar.specs.Putting.{mono_for, term_for, heap_for};
 ghost use Rattle.htt_resolve_sugar.specs.Views.{put_tree, puts_tree, with_argument};
 
 use crate::places::place;
@@ -41,41 +42,82 @@ impl Putting<'_> {
     }
 }
 
+/// A term variable under `depth` binders, for which this is put; a variable of theirs stays.
+#[tactic(auto, using(htt_syntax::specs::Levels::term_levels))]
+fn term_for(
+    alloc: Global,
+    found: Option<&Put>,
+    index: u32,
+    depth: u32,
+) -> Result<Term, AllocError>
+    ensures put { IfOk result (λ t. term_tree t ≡ term_for depth index (option_map (λ p. put_tree p.now) found)) }
+{
+    match found {
+        Some(Put::Term(term)) => shift_term(alloc, term, 0, depth),
+        Some(Put::Mono(_)) => Ok(Term::Var(index)),
+        Some(Put::Heap(_)) => Ok(Term::Var(index)),
+        None => Ok(Term::Var(index)),
+    }
+}
+
+/// A monotype variable likewise.
+#[tactic(auto, using(htt_syntax::specs::Levels::mono_levels))]
+fn mono_for(
+    alloc: Global,
+    found: Option<&Put>,
+    index: u32,
+    depth: u32,
+) -> Result<Mono, AllocError>
+    ensures put { IfOk result (λ t. mono_tree t ≡ mono_for depth index (option_map (λ p. put_tree p.now) found)) }
+{
+    match found {
+        Some(Put::Mono(mono)) => shift_mono(alloc, mono, 0, depth),
+        Some(Put::Term(_)) => Ok(Mono::Var(index)),
+        Some(Put::Heap(_)) => Ok(Mono::Var(index)),
+        None => Ok(Mono::Var(index)),
+    }
+}
+
+/// A heap likewise.
+#[tactic(auto, using(crate::proofs::Found::heap_past))]
+fn heap_for(found: Option<&Put>, index: u32, depth: u32) -> Result<u32, AllocError>
+    ensures put { IfOk result (λ h. h ≡ heap_for depth index (option_map (λ p. put_tree p.now) found)) }
+{
+    match found {
+        Some(Put::Heap(heap)) => match heap.checked_add(depth) {
+            Some(past) => Ok(past),
+            None => Err(AllocError),
+        },
+        Some(Put::Mono(_)) => Ok(index),
+        Some(Put::Term(_)) => Ok(index),
+        None => Ok(index),
+    }
+}
+
 impl Action for Putting<'_> {
     ghost puts = { λ p. putting (puts_tree p.puts.now) };
 
-    #[tactic(auto, using(htt_syntax::specs::Levels::term_levels))]
+    #[tactic(auto, using(crate::proofs::Found::term_found))]
     fn at_term(&self, alloc: Global, index: u32, depth: u32) -> Result<Term, AllocError> {
-        match self.put_for(index, depth) {
-            Some(Put::Term(term)) => shift_term(alloc, term, 0, depth),
-            Some(Put::Mono(_) | Put::Heap(_)) | None => Ok(Term::Var(index)),
-        }
+        term_for(alloc, self.put_for(index, depth), index, depth)
     }
 
-    #[tactic(auto, using(htt_syntax::specs::Levels::mono_levels))]
+    #[tactic(auto, using(crate::proofs::Found::mono_found))]
     fn at_mono(&self, alloc: Global, index: u32, depth: u32) -> Result<Mono, AllocError> {
-        match self.put_for(index, depth) {
-            Some(Put::Mono(mono)) => shift_mono(alloc, mono, 0, depth),
-            Some(Put::Term(_) | Put::Heap(_)) | None => Ok(Mono::Var(index)),
-        }
+        mono_for(alloc, self.put_for(index, depth), index, depth)
     }
 
-    #[tactic(auto, using(crate::proofs::Found::heap_past))]
+    #[tactic(auto, using(crate::proofs::Found::heap_found))]
     fn at_heap(&self, index: u32, depth: u32) -> Result<u32, AllocError> {
-        match self.put_for(index, depth) {
-            Some(Put::Heap(heap)) => match heap.checked_add(depth) {
-                Some(past) => Ok(past),
-                None => Err(AllocError),
-            },
-            Some(Put::Mono(_) | Put::Term(_)) | None => Ok(index),
-        }
+        heap_for(self.put_for(index, depth), index, depth)
     }
 }
 
 /// The argument with the monotype of its parameter.
 #[tactic(auto, using(htt_syntax::specs::Levels::term_levels, htt_syntax::specs::Levels::ty_levels))]
 fn annotated(alloc: Global, puts: &[Put], param: &Mono, argument: Term) -> Result<Term, AllocError>
-    ensures annotated { IfOk result (λ t. term_tree t ≡ t_ann (term_tree argument) (y_mono (put_into_mono (puts_tree puts.now) (mono_tree param.now)))) }
+    ensures annotated { IfOk result (λ t. term_tree t
+        ≡ t_ann (term_tree argument) (y_mono (put_into_mono (puts_tree puts.now) (mono_tree param.now)))) }
 {
     term_ann(
         boxed(alloc, Ok(argument)),
