@@ -117,23 +117,23 @@ module _ {X Y W Z : Type 0} (f : X → Size) (g : Y → Size) (k : W → Size) (
   threes e L R S p q r = three_sized e L R S ∙ (λ j. three (p j) (q j) (r j))
 
 module _ {X Y W V Z : Type 0} (f : X → Size) (g : Y → Size) (k : W → Size) (m : V → Size) (h : Z → Size) (c : X → Y → W → V → Z)
-    where
-  four_sized : ((x : X) (y : Y) (w : W) (v : V) → h (c x y w v) ≡ node_of_four (f x) (g y) (k w) (m v))
-      → (L : Result X Stop) (R : Result Y Stop) (S : Result W Stop) (T : Result V Stop)
-      → sized h (L >>= (λ x. R >>= (λ y. S >>= (λ w. T >>= (λ v. Ok (c x y w v))))))
-      ≡ four (sized f L) (sized g R) (sized k S) (sized m T)
-  unfolding ◌>>=◌ four
-  four_sized e (Ok x) (Ok y) (Ok w) (Ok v) = ap Ok (e x y w v)
-  four_sized e (Ok x) (Ok y) (Ok w) (Err stop) = refl
-  four_sized e (Ok x) (Ok y) (Err stop) T = refl
-  four_sized e (Ok x) (Err stop) S T = refl
-  four_sized e (Err stop) R S T = refl
+  where
+    four_sized : ((x : X) (y : Y) (w : W) (v : V) → h (c x y w v) ≡ node_of_four (f x) (g y) (k w) (m v))
+        → (L : Result X Stop) (R : Result Y Stop) (S : Result W Stop) (T : Result V Stop)
+        → sized h (L >>= (λ x. R >>= (λ y. S >>= (λ w. T >>= (λ v. Ok (c x y w v))))))
+        ≡ four (sized f L) (sized g R) (sized k S) (sized m T)
+    unfolding ◌>>=◌ four
+    four_sized e (Ok x) (Ok y) (Ok w) (Ok v) = ap Ok (e x y w v)
+    four_sized e (Ok x) (Ok y) (Ok w) (Err stop) = refl
+    four_sized e (Ok x) (Ok y) (Err stop) T = refl
+    four_sized e (Ok x) (Err stop) S T = refl
+    four_sized e (Err stop) R S T = refl
 
-  pub fours : ((x : X) (y : Y) (w : W) (v : V) → h (c x y w v) ≡ node_of_four (f x) (g y) (k w) (m v))
-      → (L : Result X Stop) (R : Result Y Stop) (S : Result W Stop) (T : Result V Stop) {a b d t : Result Size Stop}
-      → sized f L ≡ a → sized g R ≡ b → sized k S ≡ d → sized m T ≡ t
-      → sized h (L >>= (λ x. R >>= (λ y. S >>= (λ w. T >>= (λ v. Ok (c x y w v)))))) ≡ four a b d t
-  fours e L R S T p q r i = four_sized e L R S T ∙ (λ j. four (p j) (q j) (r j) (i j))
+    pub fours : ((x : X) (y : Y) (w : W) (v : V) → h (c x y w v) ≡ node_of_four (f x) (g y) (k w) (m v))
+        → (L : Result X Stop) (R : Result Y Stop) (S : Result W Stop) (T : Result V Stop) {a b d t : Result Size Stop}
+        → sized f L ≡ a → sized g R ≡ b → sized k S ≡ d → sized m T ≡ t
+        → sized h (L >>= (λ x. R >>= (λ y. S >>= (λ w. T >>= (λ v. Ok (c x y w v)))))) ≡ four a b d t
+    fours e L R S T p q r i = four_sized e L R S T ∙ (λ j. four (p j) (q j) (r j) (i j))
 
 -- ---- what stands behind something else
 
@@ -173,12 +173,12 @@ module _ (L : Result MonoTree Stop) (H : Result ℕ Stop) (R S : Result TermTree
       → formula_measure (c t k x y) ≡ node_of_three (mono_measure t) (term_measure x) (term_measure y))
       → sized formula_measure (L >>= (λ t. H >>= (λ k. R >>= (λ x. S >>= (λ y. Ok (c t k x y))))))
       ≡ three (sized mono_measure L) (after H (sized term_measure R)) (sized term_measure S)
+  unfolding ◌>>=◌ three after
   cell_sized e = by_case L H R S
     where
       by_case : (L : Result MonoTree Stop) (H : Result ℕ Stop) (R S : Result TermTree Stop)
           → sized formula_measure (L >>= (λ t. H >>= (λ k. R >>= (λ x. S >>= (λ y. Ok (c t k x y))))))
           ≡ three (sized mono_measure L) (after H (sized term_measure R)) (sized term_measure S)
-      unfolding ◌>>=◌ three after
       by_case (Ok t) (Ok k) (Ok x) (Ok y) = ap Ok (e t k x y)
       by_case (Ok t) (Ok k) (Ok x) (Err stop) = refl
       by_case (Ok t) (Ok k) (Err stop) S = refl
@@ -195,27 +195,27 @@ module _ (L : Result MonoTree Stop) (H : Result ℕ Stop) (R S : Result TermTree
   cells e p q = cell_sized e ∙ (λ j. three (sized mono_measure L) (after H (p j)) (q j))
 
 module _ (L : Result MonoTree Stop) (H : Result ℕ Stop) (R : Result TermTree Stop) (c : MonoTree → ℕ → TermTree → FormulaTree)
-    where
-  block_sized :
-      ((t : MonoTree) (k : ℕ) (x : TermTree) → formula_measure (c t k x) ≡ node_of_two (mono_measure t) (term_measure x))
-      → sized formula_measure (L >>= (λ t. H >>= (λ k. R >>= (λ x. Ok (c t k x)))))
-      ≡ two (sized mono_measure L) (after H (sized term_measure R))
-  block_sized e = by_case L H R
-    where
-      by_case : (L : Result MonoTree Stop) (H : Result ℕ Stop) (R : Result TermTree Stop)
-          → sized formula_measure (L >>= (λ t. H >>= (λ k. R >>= (λ x. Ok (c t k x)))))
-          ≡ two (sized mono_measure L) (after H (sized term_measure R))
-      unfolding ◌>>=◌ two after
-      by_case (Ok t) (Ok k) (Ok x) = ap Ok (e t k x)
-      by_case (Ok t) (Ok k) (Err stop) = refl
-      by_case (Ok t) (Err stop) R = refl
-      by_case (Err stop) H R = refl
+  where
+    block_sized :
+        ((t : MonoTree) (k : ℕ) (x : TermTree) → formula_measure (c t k x) ≡ node_of_two (mono_measure t) (term_measure x))
+        → sized formula_measure (L >>= (λ t. H >>= (λ k. R >>= (λ x. Ok (c t k x)))))
+        ≡ two (sized mono_measure L) (after H (sized term_measure R))
+    unfolding ◌>>=◌ two after
+    block_sized e = by_case L H R
+      where
+        by_case : (L : Result MonoTree Stop) (H : Result ℕ Stop) (R : Result TermTree Stop)
+            → sized formula_measure (L >>= (λ t. H >>= (λ k. R >>= (λ x. Ok (c t k x)))))
+            ≡ two (sized mono_measure L) (after H (sized term_measure R))
+        by_case (Ok t) (Ok k) (Ok x) = ap Ok (e t k x)
+        by_case (Ok t) (Ok k) (Err stop) = refl
+        by_case (Ok t) (Err stop) R = refl
+        by_case (Err stop) H R = refl
 
-  pub blocks : ((t : MonoTree) (k : ℕ) (x : TermTree) → formula_measure (c t k x) ≡ node_of_two (mono_measure t) (term_measure x))
-      → {a : Result Size Stop}
-      → sized term_measure R ≡ a
-      → sized formula_measure (L >>= (λ t. H >>= (λ k. R >>= (λ x. Ok (c t k x))))) ≡ two (sized mono_measure L) (after H a)
-  blocks e p = block_sized e ∙ (λ j. two (sized mono_measure L) (after H (p j)))
+    pub blocks : ((t : MonoTree) (k : ℕ) (x : TermTree) → formula_measure (c t k x) ≡ node_of_two (mono_measure t) (term_measure x))
+        → {a : Result Size Stop}
+        → sized term_measure R ≡ a
+        → sized formula_measure (L >>= (λ t. H >>= (λ k. R >>= (λ x. Ok (c t k x))))) ≡ two (sized mono_measure L) (after H a)
+    blocks e p = block_sized e ∙ (λ j. two (sized mono_measure L) (after H (p j)))
 
 body_sized : (L : Result TripleTree Stop) (R : Result CompTree Stop)
     → sized fix_measure (L >>= (λ x. R >>= (λ y. Ok (x_body x y))))

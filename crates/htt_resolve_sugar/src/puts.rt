@@ -44,12 +44,7 @@ impl Putting<'_> {
 
 /// A term variable under `depth` binders, for which this is put; a variable of theirs stays.
 #[tactic(auto, using(htt_syntax::specs::Levels::term_levels))]
-fn term_for(
-    alloc: Global,
-    found: Option<&Put>,
-    index: u32,
-    depth: u32,
-) -> Result<Term, AllocError>
+fn term_for(alloc: Global, found: Option<&Put>, index: u32, depth: u32) -> Result<Term, AllocError>
     ensures put { IfOk result (λ t. term_tree t ≡ term_for depth index (option_map (λ p. put_tree p.now) found)) }
 {
     match found {
@@ -62,12 +57,7 @@ fn term_for(
 
 /// A monotype variable likewise.
 #[tactic(auto, using(htt_syntax::specs::Levels::mono_levels))]
-fn mono_for(
-    alloc: Global,
-    found: Option<&Put>,
-    index: u32,
-    depth: u32,
-) -> Result<Mono, AllocError>
+fn mono_for(alloc: Global, found: Option<&Put>, index: u32, depth: u32) -> Result<Mono, AllocError>
     ensures put { IfOk result (λ t. mono_tree t ≡ mono_for depth index (option_map (λ p. put_tree p.now) found)) }
 {
     match found {
