@@ -207,3 +207,7 @@ pub side_stops : (stop : NameStop) (z : Size) (L R : Result Size Stop) → IsSiz
     (side (Ok z) (side L R))
 unfolding side ◌>>=◌
 side_stops stop z L R h = stopped (event_of stop) (side L R) _ (stopped (event_of stop) L _ h)
+
+pub ruleset sums = (sum_starts, sum_first_stops, sum_next, sum_stops, sum_ends)
+
+pub ruleset prods = (prod_starts, prod_first_stops, prod_next, prod_stops, prod_ends)
