@@ -1,77 +1,110 @@
-//! Phrases of texts at the top of a file.
+//! Types of a text at the top of a file, built by hand.
 
 use crate::measure_ty;
-use htt_lexer::tokens;
-use htt_parser::parse;
-use htt_parser_trees::RawDecl;
+use htt_parser_trees::{
+    Binder, MonoName, RawConj, RawDisj, RawFatom, RawFormula, RawHeap, RawMono, RawRight, RawStar,
+    RawTriple, RawTy, Span,
+};
 use htt_resolve_names::NameStop;
 use htt_resolve_scopes::Scope;
 use htt_syntax_measure::Size;
-use std::alloc::Global;
+use htt_syntax_seq::Seq;
+use sqlite_items::Boxed;
+use std::alloc::{AllocError, Global};
 use std::test::Fail;
 
-/// What the type of the text's first declaration measures.
-fn measured(alloc: Global, text: &str) -> Result<Size, NameStop> {
-    let found = match tokens(alloc, text.as_bytes()) {
-        Ok(found) => found,
-        Err(_) => return Err(NameStop::NoMemory),
+fn formula(alloc: Global, star: RawStar) -> Result<RawFormula, AllocError> {
+    let disj = RawDisj::Conj(RawConj::Star(star));
+    Ok(RawFormula::Disj(Boxed::new(alloc, disj)?))
+}
+
+/// `{ pre } _ : word { post }`
+fn hoare(alloc: Global, pre: RawStar, post: RawStar) -> Result<RawTy, AllocError> {
+    let word = RawMono {
+        name: MonoName::Word { at: 9 },
+        right: RawRight::Nothing,
+        brackets: Seq::of(Vec::new(alloc)),
     };
-    let file = match parse(alloc, text.as_bytes(), found.as_slice()) {
-        Ok(file) => file,
-        Err(_) => return Err(NameStop::NoMemory),
+    let triple = RawTriple {
+        pre: formula(alloc, pre)?,
+        name: Binder::Blank,
+        result: word,
+        post: formula(alloc, post)?,
     };
-    let scope = Scope::at_top(alloc, text.as_bytes(), &[]);
-    match file.first() {
-        Some(
-            RawDecl::Val {
-                name: _,
-                ty,
-                term: _,
-            },
-        ) => measure_ty(alloc, &scope, ty),
-        _ => Err(NameStop::NoMemory),
-    }
+    Ok(RawTy::Hoare {
+        at: 0,
+        triple: Boxed::new(alloc, triple)?,
+    })
+}
+
+/// `Emp(heap)`
+fn emp_of(heap: RawHeap) -> RawStar {
+    RawStar::Fatom(RawFatom::EmpOf { at: 1, heap })
+}
+
+/// The heap whose name is the text's letter at this byte.
+fn named(at: u64) -> RawHeap
+    requires room { at < 1000 }
+{
+    RawHeap::Name(Span {
+        from: at,
+        to: at + 1,
+    })
+}
+
+fn measured(alloc: Global, ty: &RawTy) -> Result<Size, NameStop> {
+    measure_ty(alloc, &Scope::at_top(alloc, "abc".as_bytes(), &[]), ty)
 }
 
 #[test]
 fn stops_stand_where_the_text_says(rt: HostRuntime) -> Result<(), Fail> {
-    let table = [
-        (
-            "val main : {Emp(a)} x : word {tt} = do ret 0",
-            NameStop::Unbound { at: 16 },
-        ),
-        (
-            "val main : {Emp(init)} x : word {tt} = do ret 0",
-            NameStop::WrongSort { at: 16 },
-        ),
-        (
-            "val main : {!p()} x : word {tt} = do ret 0",
-            NameStop::Unbound { at: 13 },
-        ),
-    ];
-    for (text, stop) in table {
-        assert_eq!(rt; measured(rt.alloc(), text), Err(stop), "{text}");
-    }
+    let tt = RawStar::Fatom(RawFatom::Tt { at: 12 });
+    let unbound = hoare(rt.alloc(), emp_of(named(2)), tt)?;
+    assert_eq!(rt;
+        measured(rt.alloc(), &unbound),
+        Err(NameStop::Unbound { at: 2 })
+    );
+    let tt = RawStar::Fatom(RawFatom::Tt { at: 12 });
+    let init = RawHeap::Init { at: 5, over: None };
+    let outside = hoare(rt.alloc(), emp_of(init), tt)?;
+    assert_eq!(rt;
+        measured(rt.alloc(), &outside),
+        Err(NameStop::WrongSort { at: 5 })
+    );
     Ok(())
 }
 
 #[test]
-fn sizes_are_those_of_the_expansion(rt: HostRuntime) -> Result<(), Fail> {
-    let table = [
-        (
-            "val main : {emp} x : word {Same(init, mem)} = do ret 0",
-            Size { nodes: 5, depth: 3 },
-        ),
-        (
-            "val main : {emp ** emp} x : word {tt} = do ret 0",
-            Size {
-                nodes: 11,
-                depth: 7,
-            },
-        ),
-    ];
-    for (text, size) in table {
-        assert_eq!(rt; measured(rt.alloc(), text), Ok(size), "{text}");
-    }
+fn the_first_stop_counts(rt: HostRuntime) -> Result<(), Fail> {
+    let both = hoare(rt.alloc(), emp_of(named(1)), emp_of(named(2)))?;
+    assert_eq!(rt;
+        measured(rt.alloc(), &both),
+        Err(NameStop::Unbound { at: 1 })
+    );
+    Ok(())
+}
+
+#[test]
+fn a_postcondition_sees_the_heap_at_entry(rt: HostRuntime) -> Result<(), Fail> {
+    let emp = RawStar::Fatom(RawFatom::Emp { at: 1 });
+    let init = RawHeap::Init { at: 5, over: None };
+    let ty = hoare(rt.alloc(), emp, emp_of(init))?;
+    assert_eq!(rt; measured(rt.alloc(), &ty), Ok(Size { nodes: 5, depth: 3 }));
+    Ok(())
+}
+
+#[test]
+fn a_star_measures_what_it_stands_for(rt: HostRuntime) -> Result<(), Fail> {
+    let emp = RawStar::Fatom(RawFatom::Emp { at: 6 });
+    let star = RawStar::Times(RawFatom::Emp { at: 1 }, Boxed::new(rt.alloc(), emp)?);
+    let tt = RawStar::Fatom(RawFatom::Tt { at: 12 });
+    let ty = hoare(rt.alloc(), star, tt)?;
+    assert_eq!(rt;
+        measured(rt.alloc(), &ty),
+        Ok(Size {
+            nodes: 11,
+            depth: 7
+        })
+    );
     Ok(())
 }
