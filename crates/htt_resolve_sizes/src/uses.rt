@@ -1,13 +1,20 @@
 //! Uses of predicates: their bodies with what is put into them.
 
-ghost use Rattle.std.specs.Prelude.{map};
-ghost use Rattle.theory_text.specs.Phrases.{fatom_comes};
+ghost use Rattle.std.specs.Prelude.{◌≡◌, map, length, List, IfOk, IfErr};
+ghost use Rattle.htt_syntax.specs.Views.{mono_tree};
+ghost use Rattle.theory_text_sugar.specs.Putting.{Put};
+ghost use Rattle.theory_text.specs.Monotypes.{monos_come};
+ghost use Rattle.theory_text.specs.Phrases.{terms_come, fatom_comes};
 ghost use Rattle.htt_parser_trees.specs.Trees.{g_use};
 ghost use Rattle.htt_parser_trees.specs.MonoLevels.{raw_mono_tree};
 ghost use Rattle.htt_parser_trees.specs.TreeLevels.{raw_term_trees};
 ghost use Rattle.htt_syntax_measure.specs.Measures.{formula_measure};
 ghost use Rattle.htt_resolve_scopes.specs.Views.{scope_tree};
+ghost use Rattle.htt_resolve_names.specs.Views.{event_of};
+ghost use Rattle.htt_resolve_names.specs.Answers.{IsStop};
 ghost use Rattle.htt_resolve_monos.specs.Sized.{AnswersSize};
+ghost use Rattle.htt_resolve_sugar.specs.Views.{Measures};
+ghost use Rattle.htt_resolve_sizes.specs.Uses.{ArePutMonos, ArePutArguments};
 
 use crate::terms::term_size;
 use htt_parser_trees::{RawMono, RawTerm, Span};
@@ -45,11 +52,10 @@ pub(crate) fn measure_use(
 }
 
 /// The sizes of the monotypes that are put.
-fn monos_put(
-    alloc: Global,
-    scope: &Scope<'_>,
-    monos: &[RawMono],
-) -> Result<Vec<PutSize>, NameStop> {
+fn monos_put(alloc: Global, scope: &Scope<'_>, monos: &[RawMono]) -> Result<Vec<PutSize>, NameStop>
+    ensures put { IfOk result (λ puts. ArePutMonos (scope_tree scope.now) (map raw_mono_tree monos.now) puts.items) }
+    ensures stopped { IfErr result (λ stop. IsStop (event_of stop) (monos_come (scope_tree scope.now) (map raw_mono_tree monos.now))) }
+{
     let mut puts = Vec::new(alloc);
     for mono in monos {
         puts.push(PutSize::Mono(measure_mono(scope, mono)?))?;
@@ -65,7 +71,14 @@ fn put_arguments(
     puts: &mut Vec<PutSize>,
     params: &[Mono],
     arguments: &[RawTerm],
-) -> Result<(), NameStop> {
+) -> Result<(), NameStop>
+    requires counted { length params.now ≡ length arguments.now }
+    ensures put { (before : List Put)
+        → Measures puts.old.items before
+        → IfOk result (λ _. ArePutArguments (scope_tree scope.now) before (map mono_tree params.now)
+        (raw_term_trees arguments.now) puts.new.items) }
+    ensures stopped { IfErr result (λ stop. IsStop (event_of stop) (terms_come (scope_tree scope.now) (raw_term_trees arguments.now))) }
+{
     for (param, argument) in params.iter().zip(arguments) {
         let size = term_size(alloc, scope, argument)?;
         put_argument_size(puts, param, size)?;
