@@ -1,5 +1,5 @@
 -- What emission needs of a list holds of the instances of a file, so its code is valid.
-use Rattle.std.proofs.Common.{◌≡◌, ◌≤◌, ℕ, zero, List, [], ◌∷◌, All, Option, Some, None, slice_get, sym, ◌∙◌, ap, subst}
+use Rattle.std.proofs.Common.{◌≡◌, ℕ, zero, List, [], ◌∷◌, All, Option, Some, None, slice_get, sym, ◌∙◌, ap, subst}
 use Rattle.std.proofs.lemmas.Option.{same_Some}
 use Rattle.word_loader_code.specs.declared.code.Code.{Code}
 use Rattle.word_loader_code.specs.Valid.{IsValid}
@@ -9,7 +9,6 @@ use Rattle.theory_items.specs.Items.{ItemTree}
 use Rattle.theory_instances.specs.Calls.{ProgramVal}
 use Rattle.theory_flat.specs.Flat.{Instance, HasFlatInstances}
 use Rattle.theory_flat_closed.proofs.Closed.{closed}
-use Rattle.theory_emission.specs.Codes.{code_of, emit_refusal}
 use Rattle.theory_emission_valid.specs.Laws.{BeginsWithMain, IsEmittable}
 use Rattle.theory_emission_valid.proofs.Codes.{is_valid, numbers_fit}
 use Rattle.theory_extraction.specs.Extraction.{HasVals, program}

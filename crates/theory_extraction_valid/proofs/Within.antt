@@ -1,10 +1,10 @@
 -- No monotype of a program's instances is past the limit, where none of its values' is.
-use Rattle.std.proofs.Common.{◌≡◌, ◌≤◌, ℕ, zero, suc, ◌+◌, max, List, [], ◌∷◌, ◌++◌, All, Bool, true, false, if◌then◌else◌, Option, Some, None, slice_get, refl, sym, ap, subst, arith}
+use Rattle.std.proofs.Common.{◌≡◌, ◌≤◌, ℕ, zero, suc, ◌+◌, max, List, [], ◌∷◌, ◌++◌, All, Bool, true, false, if◌then◌else◌, Option, Some, None, slice_get, refl, sym, subst, arith}
 use Rattle.std.specs.Prelude.{nat_lt}
 use Rattle.std.proofs.Math.Nat.{le-max_left, le-max_right}
 use Rattle.std.proofs.lemmas.Bool.{ltb-false}
 use Rattle.std.proofs.lemmas.List.Elements.{All-nil, All-cons}
-use Rattle.htt_syntax.specs.Trees.{MonoTree, TermTree, CompTree, StepTree, t_do}
+use Rattle.htt_syntax.specs.Trees.{MonoTree, TermTree, CompTree, StepTree}
 use Rattle.theory_counts.specs.Nodes.{nodes_mono}
 use Rattle.theory_counts_monotypes.specs.Monotypes.{greatest_in_term, greatest_in_comp, greatest_in_step}
 use Rattle.theory_canonical.specs.Skeletons.{Skeleton}
@@ -48,28 +48,28 @@ next_within head result others q =
     ((not_past node_limit (nodes_left head result) too_large
     (past_limit mono_limit (greatest_in_term result) mono_too_large (result_refusal head others)) q).1)
 
-last_within : {head function last : TermTree} {s : Skeleton} {arguments : List Argument} {results : List TermTree}
+last_within : (head : TermTree) {function last : TermTree} {s : Skeleton} {arguments : List Argument} {results : List TermTree}
     → Puts function s arguments results last
     → result_refusal head results ≡ None
     → greatest_in_term function ≤ mono_limit
     → greatest_in_term last ≤ mono_limit
-last_within puts_none q w = w
-last_within {head = head} (puts_term {next = next} {results = results} a rest) q w =
-    let r = next_within head next results q in last_within rest (r.1) (r.0)
-last_within {head = head} {results = result ∷ results} (puts_mono rest) q w =
-    let r = next_within head result results q in last_within rest (r.1) (r.0)
+last_within head puts_none q w = w
+last_within head (puts_term {next = next} {results = results} a rest) q w =
+    let r = next_within head next results q in last_within head rest (r.1) (r.0)
+last_within head {results = result ∷ results} (puts_mono rest) q w =
+    let r = next_within head result results q in last_within head rest (r.1) (r.0)
 
 -- where there is an argument, nothing is asked of the function
-given_within : {head function last : TermTree} {s : Skeleton} {arguments : List Argument} {results : List TermTree}
+given_within : (head : TermTree) {function last : TermTree} {s : Skeleton} {arguments : List Argument} {results : List TermTree}
     → Puts function s arguments results last
     → (arguments ≡ [] → ⊥)
     → result_refusal head results ≡ None
     → greatest_in_term last ≤ mono_limit
-given_within puts_none some q = absurd (some refl)
-given_within {head = head} (puts_term {next = next} {results = results} a rest) some q =
-    let r = next_within head next results q in last_within rest (r.1) (r.0)
-given_within {head = head} {results = result ∷ results} (puts_mono rest) some q =
-    let r = next_within head result results q in last_within rest (r.1) (r.0)
+given_within head puts_none some q = absurd (some refl)
+given_within head (puts_term {next = next} {results = results} a rest) some q =
+    let r = next_within head next results q in last_within head rest (r.1) (r.0)
+given_within head {results = result ∷ results} (puts_mono rest) some q =
+    let r = next_within head result results q in last_within head rest (r.1) (r.0)
 
 not_empty : {A : Type 0} (xs : List A) (x : A) → xs ++ x ∷ [] ≡ [] → ⊥
 not_empty [] x q = cc
@@ -81,9 +81,9 @@ module _ (p : Program) (narrow : HaveMonosWithin p.vals) where
       → result_refusal key.head results ≡ None
       → greatest_in_comp comp ≤ mono_limit
   unfolding greatest_in_term
-  body_within (body_of_val {n = n} {v = v} is there puts) q =
-      last_within puts q (All-slice_get (λ (u : ProgramVal). greatest_in_term u.term ≤ mono_limit) p.vals n v narrow there)
-  body_within (body_of_fix is own puts) q = given_within puts (λ e. not_empty _ _ e) q
+  body_within {key = key} (body_of_val {n = n} {v = v} is there puts) q =
+      last_within key.head puts q (All-slice_get (λ (u : ProgramVal). greatest_in_term u.term ≤ mono_limit) p.vals n v narrow there)
+  body_within {key = key} (body_of_fix is own puts) q = given_within key.head puts (λ e. not_empty _ _ e) q
 
   mutual
     unfolding greatest_in_comp EachMono
@@ -93,9 +93,10 @@ module _ (p : Program) (narrow : HaveMonosWithin p.vals) where
         → greatest_in_comp comp ≤ mono_limit
         → EachMono IsWithin flat
     flat_within flattens_ret q = tt
-    flat_within (flattens_step {step = step} {others = others} a b) q =
-        (step_within a (left_of (greatest_in_step step) (greatest_in_comp others) mono_limit q),
-        flat_within b (right_of (greatest_in_step step) (greatest_in_comp others) mono_limit q))
+    flat_within (flattens_step {step = step} {others = others} a b) q = (
+      step_within a (left_of (greatest_in_step step) (greatest_in_comp others) mono_limit q),
+      flat_within b (right_of (greatest_in_step step) (greatest_in_comp others) mono_limit q),
+    )
 
     step_within : {keys : List Key} {g : List MonoTree} {step : StepTree} {flat : FlatStepTree}
         → FlattensStep p keys g step flat
@@ -110,10 +111,11 @@ module _ (p : Program) (narrow : HaveMonosWithin p.vals) where
     step_within (flattens_if {mono = mono} {test = test} {on_true = on_true} {on_false = on_false} a b) q =
         let branches = max (greatest_in_comp on_true) (greatest_in_comp on_false) in
         let after = right_of (nodes_mono mono) (max (greatest_in_term test) branches) mono_limit q in
-        let both = right_of (greatest_in_term test) branches mono_limit after in
-        (left_of (nodes_mono mono) (max (greatest_in_term test) branches) mono_limit q,
-        flat_within a (left_of (greatest_in_comp on_true) (greatest_in_comp on_false) mono_limit both),
-        flat_within b (right_of (greatest_in_comp on_true) (greatest_in_comp on_false) mono_limit both))
+        let both = right_of (greatest_in_term test) branches mono_limit after in (
+          left_of (nodes_mono mono) (max (greatest_in_term test) branches) mono_limit q,
+          flat_within a (left_of (greatest_in_comp on_true) (greatest_in_comp on_false) mono_limit both),
+          flat_within b (right_of (greatest_in_comp on_true) (greatest_in_comp on_false) mono_limit both),
+        )
 
   instance_within : {number : ℕ} {keys : List Key} {key : Key} {taken : Taken} {instance : Instance}
       → TakesUp p number key taken
