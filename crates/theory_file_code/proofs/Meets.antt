@@ -7,7 +7,8 @@ use Rattle.theory_values.proofs.Joins.{join_of_empty, empty_is_heap}
 use Rattle.theory_truth.specs.Truth.{Holds}
 use Rattle.theory_truth.specs.Predicates.{RecTree}
 use Rattle.theory_meaning.specs.Closures.{base}
-use Rattle.theory_triples.specs.Triples.{PreHolds, Leaves}
+use Rattle.theory_triples.specs.Triples.{PreHolds, Leaves, MeetsTriple, run_of_val}
+use Rattle.theory_file_derived.specs.Derived.{texts_of}
 use Rattle.theory_file_sound.proofs.Sound.{derived_sound}
 use Rattle.theory_extraction_faithful.specs.Laws.{NeverFaults, TextEnds, DoesAsText}
 use Rattle.theory_extraction_faithful.proofs.Faithful.{faithful}
@@ -16,13 +17,14 @@ use Rattle.theory_file_code.specs.Laws.{DerivedCodeMeetsTriple, StartsEmpty, sta
 pub meets : DerivedCodeMeetsTriple
 meets items proofs final main code spec derived has named whole h k choices heap parts pre words_only =
     let table = final.recs in
-    let triple = λ fuel. derived_sound.triples items proofs final derived main spec named fuel choices words_only h k in
+    let triple : (fuel : ℕ) → MeetsTriple table spec (run_of_val (texts_of items) main fuel choices) h k = λ fuel. derived_sound.triples items proofs final derived main spec named fuel choices words_only h k in
     let safe : NeverFaults items main whole choices = λ fuel. (triple fuel).no_fault whole heap parts pre in
     let does : DoesAsText items main code whole choices = faithful.code items main code has whole choices in
     let so : (words : List ℕ) (g : Heap)
     → TextEnds items main whole choices words g
     → (v : Value) × (words ≡ encoding v) × Leaves table spec h k (base v) g =
-    λ words g (fuel, v, left, ends, is). (v, is, (triple fuel).ends_so whole heap parts pre (base v) g left ends) in
+    λ words g t.
+    (t.1, t.4, (triple (t.0)).ends_so whole heap parts pre (base (t.1)) g (t.2) (t.3)) in
     record {
       never = does.never safe;
       halts = does.halts safe;

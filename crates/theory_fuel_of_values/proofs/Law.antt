@@ -40,11 +40,12 @@ reached_end f g h cs end q other (n, is) = let found = q.at n h cs (λ x. other 
 
 pub counted : CountedValuesKeepOutcomes
 counted p e a c term canonical h cs end other =
-    let plain = plain_heads p in
-    (reached_end (term_den e [] term sk_c) (term_den plain [] term sk_c) h cs end
-    (term_reached (plain_reached p.vals e plain a c.at (plain_is p a)) canonical closed) other,
-    reached_end (term_den plain [] term sk_c) (term_den e [] term sk_c) h cs end
-    (term_reached (counted_reached p.vals e plain a c.at (plain_is p a)) canonical closed) other)
+    let plain = plain_heads p in (
+      reached_end (term_den e [] term sk_c) (term_den plain [] term sk_c) h cs end
+          (term_reached (plain_reached p.vals e plain a c.at (plain_is p a)) canonical closed) other,
+      reached_end (term_den plain [] term sk_c) (term_den e [] term sk_c) h cs end
+          (term_reached (counted_reached p.vals e plain a c.at (plain_is p a)) canonical closed) other,
+    )
 
 pub instance_heads : InstanceHeadsKeepOutcomes
 instance_heads p keys e a heads number v there run =

@@ -46,12 +46,13 @@ module _ (f g : Running) (a b : Value → Running) (q : ReachedBy f g) (k : Kept
       let j = second.0 in
       let ends : g m h cs ≡ ended v i ds = first.1 ∙ is in
       let still : g (m + j) h cs ≡ ended v i ds = k.at m j h cs (λ x. absurd (cc)) ∙ ends in
-      let turned : j + m ≡ m + j = omega arith in
-      (m + j,
-      ap (λ x. then_outcome x (λ u d es. b u (m + j) d es)) still
-      ∙ ap (λ x. b v x i ds) (sym turned)
-      ∙ (l v).at j m i ds (λ x. other (sym (second.1) ∙ x))
-      ∙ second.1)
+      let turned : j + m ≡ m + j = omega arith in (
+        m + j,
+        ap (λ x. then_outcome x (λ u d es. b u (m + j) d es)) still
+            ∙ ap (λ x. b v x i ds) (sym turned)
+            ∙ (l v).at j m i ds (λ x. other (sym (second.1) ∙ x))
+            ∙ second.1,
+      )
   sequence_at n h cs out_of_fuel is other = absurd (other refl)
   sequence_at n h cs asking is other =
       let first = q.at n h cs (λ x. absurd (cc)) in
@@ -84,7 +85,8 @@ turns_reached_by f g q k = record {
       let found = (q (suc n)).at n h cs other in
       let m = found.0 in
       let turn : suc n + m ≡ suc (n + m) = omega arith in
-      let fuel : m + n ≡ n + m = omega arith in
-      (n + m,
-      (λ j. g (sym turn j) (sym fuel j) h cs) ∙ (k (suc n) m).at m n h cs (λ x. other (sym (found.1) ∙ x)) ∙ found.1);
+      let fuel : m + n ≡ n + m = omega arith in (
+        n + m,
+        (λ j. g (sym turn j) (sym fuel j) h cs) ∙ (k (suc n) m).at m n h cs (λ x. other (sym (found.1) ∙ x)) ∙ found.1,
+      );
 }
