@@ -1,6 +1,6 @@
 -- The code of a file does what the run of main's text does: it does what main's flat body does, and this what the text
 -- does.
-use Rattle.std.proofs.Common.{◌≡◌, ◌≢◌, ◌↔◌, ℕ, List, [], Some, refl, sym, ap, ◌∙◌, subst}
+use Rattle.std.proofs.Common.{◌≡◌, ℕ, List, [], Some, refl, sym, ap, ◌∙◌, subst}
 use Rattle.htt_syntax_words.specs.declared.words.Kind.{Kind}
 use Rattle.theory_values.specs.Values.{Value, encoding}
 use Rattle.theory_values.specs.Heaps.{Heap}
@@ -14,9 +14,9 @@ use Rattle.theory_instances.specs.Calls.{ProgramVal}
 use Rattle.theory_flat.specs.Flat.{Instance, HasFlatInstances}
 use Rattle.theory_flat.specs.Reading.{flat_run}
 use Rattle.theory_emission.specs.Codes.{first_code, code_of}
-use Rattle.theory_emitted.specs.Laws.{CodeHalts, CodeAsks, FlatEnds, FlatAsks, NeverWrong, HasOutcomes}
+use Rattle.theory_emitted.specs.Laws.{CodeHalts, FlatEnds, NeverWrong, HasOutcomes}
 use Rattle.theory_emitted.proofs.Main.{programs_emitted}
-use Rattle.theory_extraction.specs.Extraction.{HasVals, HasCode, program}
+use Rattle.theory_extraction.specs.Extraction.{HasVals, program}
 use Rattle.theory_extraction_formed.proofs.Files.{files_typed}
 use Rattle.theory_extraction_faithful.specs.Laws.{text_run, TextEnds, TextFaults, NeverFaults, DoesAsText, ExtractionIsFaithful}
 use Rattle.theory_extraction_faithful.proofs.Text.{flat_of_text, text_of_flat, result_is}
@@ -27,7 +27,7 @@ module _ (items : List ItemTree) (vals : List ProgramVal) (main : ℕ) (instance
   faults_too flat = text_of_flat items vals main instances d has h cs wrong (λ q. cc) flat
 
   never_wrong : NeverFaults items main h cs → NeverWrong instances h cs
-  never_wrong no n q = let f = faults_too (n, q) in no (f.0) (f.1)
+  never_wrong safe n q = let f = faults_too (n, q) in safe (f.0) (f.1)
 
   text_ends : (words : List ℕ) (k : Heap) → FlatEnds instances h cs words k → TextEnds items main h cs words k
   text_ends words k (n, v, left, flat, is) =
@@ -53,13 +53,13 @@ module _ (items : List ItemTree) (vals : List ProgramVal) (main : ℕ) (instance
 
   pub does_as_text : DoesAsText items main code h cs
   does_as_text = record {
-    never = λ no steps kind l q. let f = faults_so steps kind l q in no (f.0) (f.1);
-    halts = λ no words k. (
-      (λ halts. text_ends words k ((outcomes.halts (never_wrong no) words k).0 halts)),
+    never = λ safe steps kind l q. let f = faults_so steps kind l q in safe (f.0) (f.1);
+    halts = λ safe words k. (
+      (λ halts. text_ends words k ((outcomes.halts (never_wrong safe) words k).0 halts)),
       (λ ends. outcomes.ends words k (flat_ends words k ends)),
     );
-    asks = λ no. (
-      (λ asks. text_of_flat items vals main instances d has h cs asking (λ q. cc) ((outcomes.asks (never_wrong no)).0 asks)),
+    asks = λ safe. (
+      (λ asks. text_of_flat items vals main instances d has h cs asking (λ q. cc) ((outcomes.asks (never_wrong safe)).0 asks)),
       (λ text. outcomes.flat_asks (flat_of_text items vals main instances d has h cs asking (λ q. cc) text)),
     );
     ends = ends_so;
