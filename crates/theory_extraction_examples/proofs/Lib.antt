@@ -1,0 +1,5 @@
+pub mod Limits
+pub mod Added
+pub mod Written
+pub mod Picked
+pub mod Worked

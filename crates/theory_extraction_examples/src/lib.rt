@@ -1,0 +1,14 @@
+//! Worked examples of lists of instances and of limits. A function without a body states laws by its contract.
+#![tactic(auto)]
+
+ghost use Rattle.theory_extraction_examples.specs.Examples.{WorkedLimits, WorkedLists};
+
+/// Lists of instances with their flat bodies, and one that is none.
+pub fn worked_lists()
+    ensures examples { WorkedLists }
+{}
+
+/// Results and monotypes at their limits and past them.
+pub fn worked_limits()
+    ensures examples { WorkedLimits }
+{}
