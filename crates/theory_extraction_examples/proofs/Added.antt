@@ -85,13 +85,13 @@ adding_flat = record {
 }
 
 -- which instance the second call of the first body names
+abbrev second_in : FlatTree → ℕ
+second_in (flat_step first (flat_step (flat_call number params) rest)) = number
+second_in flat = 0
+
 abbrev second_call : List Instance → ℕ
-second_call (i ∷ others) = second_in i.body
-  where
-    abbrev second_in : FlatTree → ℕ
-    second_in (flat_step first (flat_step (flat_call number params) rest)) = number
-    second_in flat = 0
 second_call [] = 0
+second_call (i ∷ others) = second_in i.body
 
 pub first_is_another : HasFlatInstances adding (adds_twice 1) → ⊥
 first_is_another h = let q : 2 ≡ 1 = ap second_call (flat_instances_once adding_flat h) in omega (arith, q)

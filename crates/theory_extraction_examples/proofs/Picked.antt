@@ -2,7 +2,7 @@
 use Rattle.std.proofs.Common.{◌≡◌, ℕ, zero, suc, List, [], ◌∷◌, true, Some, refl, arith}
 use Rattle.std.proofs.lemmas.List.Elements.{All-nil, All-cons}
 use Rattle.htt_syntax.specs.declared.mono.Op.TheVariants.{Add}
-use Rattle.htt_syntax.specs.Trees.{TermTree, FixTree, CompTree, m_word, triple, t_var, t_app, t_do, t_lam, t_word, t_snd, t_bin, c_ret, c_step, s_run, s_if}
+use Rattle.htt_syntax.specs.Trees.{TermTree, FixTree, CompTree, m_word, triple, t_var, t_app, t_do, t_lam, t_word, t_snd, t_bin, c_ret, c_step, s_run, s_if, m_bool}
 use Rattle.htt_syntax.specs.Trees.{f_tt, t_fst, t_fix}
 use Rattle.theory_renaming.specs.Renaming.{lift, lifts, rename_mono, rename_term}
 use Rattle.theory_canonical.specs.Skeletons.{Skeleton, sk_o, skeleton}
@@ -33,7 +33,7 @@ abbrev half_picked : TermTree
 half_picked =
     t_lam (t_do (c_step (s_run (t_app (t_fix 50 (picking (t_var 2) (t_var 6) (t_var 2) (t_var 4))) (t_fst (t_var 2))) (Some m_word)) (c_ret (t_var 0))))
 
-pick_up : TakesUp pick 1 (main_key 0) (record { key = main_key 0; params = _; result = m_word; body = pick_body })
+pick_up : TakesUp pick 1 (main_key 0) (record { key = main_key 0; params = m_bool ∷ two_words ∷ []; result = m_word; body = pick_body })
 unfolding skeleton sites_of greatest_in_term nodes_mono nodes_term nodes_option nodes_comp nodes_step head_of arguments_of fix_ty fix_comp met_in_term rename_term
     rename_mono lift lifts plain_term fill_mono fill_term put_mono next_filling closing contractum expansion opened_fix opened_skeleton
     computation_in
@@ -71,7 +71,7 @@ opened_picking =
     c_step (s_if m_word (t_var 3) (c_ret (t_snd (t_var 2)))
     (c_step (s_run (t_app (t_var 0) (t_bin Add (t_var 1) (t_word 1))) (Some m_word)) (c_ret (t_var 0)))) (c_ret (t_var 0))
 
-picking_up : TakesUp pick 2 (picking_key 50) (record { key = picking_key 50; params = _; result = m_word; body = picking_body })
+picking_up : TakesUp pick 2 (picking_key 50) (record { key = picking_key 50; params = m_word ∷ two_words ∷ m_bool ∷ []; result = m_word; body = picking_body })
 unfolding skeleton sites_of greatest_in_term nodes_mono nodes_term nodes_option nodes_comp nodes_step head_of arguments_of fix_ty fix_comp met_in_term rename_term
     rename_mono lift lifts plain_term fill_mono fill_term put_mono next_filling closing contractum expansion opened_fix opened_skeleton
     computation_in

@@ -1,6 +1,6 @@
 -- Lists of instances that were worked out by hand: two functions for one head, a recursive function that captures
 -- variables, one that is written twice; and limits.
-use Rattle.std.specs.Prelude.{◌≡◌, ◌<◌, ℕ, zero, suc, List, [], ◌∷◌, Some, None}
+use Rattle.std.specs.Prelude.{◌≡◌, ◌<◌, ℕ, zero, suc, List, [], ◌∷◌, true, Some, None}
 use Rattle.htt_syntax.specs.declared.mono.Op.TheVariants.{Add}
 use Rattle.htt_syntax.specs.Trees.{TermTree, FixTree, CompTree, m_word, m_bool, y_mono, y_fun, triple, t_var, t_val, t_app}
 use Rattle.htt_syntax.specs.Trees.{t_lam, t_do, t_fix, t_word, t_bool, t_unit, t_pair, t_snd, t_bin, t_eq, t_made, x_param}
