@@ -1,5 +1,5 @@
 -- One head with two functions: two instances, and the second call is that of the second one.
-use Rattle.std.proofs.Common.{◌≡◌, ℕ, zero, suc, List, [], ◌∷◌, refl, ap, arith}
+use Rattle.std.proofs.Common.{◌≡◌, ℕ, List, [], ◌∷◌, refl, ap, arith}
 use Rattle.htt_syntax.specs.declared.mono.Op.TheVariants.{Add}
 use Rattle.htt_syntax.specs.Trees.{TermTree, m_word, triple, t_var, t_word, t_bin, t_do, t_lam, c_ret, f_tt}
 use Rattle.theory_renaming.specs.Renaming.{lift, lifts, rename_mono, rename_term}
@@ -23,7 +23,7 @@ use Rattle.theory_flat.specs.Flat.{HasFlatInstances}
 use Rattle.theory_emission_variants.specs.Variants.{at_function, adds_twice}
 use Rattle.theory_emission_variants.proofs.Missed.{missed}
 use Rattle.theory_extraction_once.proofs.Flat.{flat_instances_once}
-use Rattle.theory_extraction_examples.specs.Examples.{plus, adding_body, apply_val, adding, adding_at, adding_instances}
+use Rattle.theory_extraction_examples.specs.Examples.{adding_body, apply_val, adding, adding_at, adding_instances}
 
 -- x + n, where a term is put for x
 plus_of : {new t r : TermTree} {s : Skeleton} {x n : ℕ} → SubTerm new s x t r → SubTerm new s x (t_bin Add t (t_word n)) (folding (t_bin Add r (t_word n)))

@@ -1,5 +1,5 @@
 -- Results and monotypes at their limits.
-use Rattle.std.proofs.Common.{◌≡◌, ◌<◌, ℕ, zero, suc, ◌+◌, ◌*◌, ◌^◌, List, [], ◌∷◌, Bool, true, false, Option, Some, if◌then◌else◌, nat_lt, refl, sym, ap, ◌∙◌, subst}
+use Rattle.std.proofs.Common.{◌≡◌, ◌<◌, ℕ, zero, suc, ◌+◌, List, [], ◌∷◌, Bool, Option, Some, if◌then◌else◌, refl, ap}
 use Rattle.std.proofs.Common.{arith}
 use Rattle.std.proofs.lemmas.Bool.{lt-ltb}
 use Rattle.htt_syntax.specs.Trees.{TermTree, t_val}

@@ -1,18 +1,18 @@
 -- A recursive function that captures two variables, from its call to its body.
-use Rattle.std.proofs.Common.{◌≡◌, ℕ, zero, suc, List, [], ◌∷◌, true, Some, refl, arith}
+use Rattle.std.proofs.Common.{[], ◌∷◌, Some, refl, arith}
 use Rattle.std.proofs.lemmas.List.Elements.{All-nil, All-cons}
 use Rattle.htt_syntax.specs.declared.mono.Op.TheVariants.{Add}
-use Rattle.htt_syntax.specs.Trees.{TermTree, FixTree, CompTree, m_word, triple, t_var, t_app, t_do, t_lam, t_word, t_snd, t_bin, c_ret, c_step, s_run, s_if, m_bool}
+use Rattle.htt_syntax.specs.Trees.{TermTree, CompTree, m_word, triple, t_var, t_app, t_do, t_lam, t_word, t_snd, t_bin, c_ret, c_step, s_run, s_if, m_bool}
 use Rattle.htt_syntax.specs.Trees.{f_tt, t_fst, t_fix}
 use Rattle.theory_renaming.specs.Renaming.{lift, lifts, rename_mono, rename_term}
-use Rattle.theory_canonical.specs.Skeletons.{Skeleton, sk_o, skeleton}
+use Rattle.theory_canonical.specs.Skeletons.{skeleton}
 use Rattle.theory_canonical.specs.Eta.{expansion}
 use Rattle.theory_canonical.specs.Folding.{contractum}
 use Rattle.theory_counts.specs.Nodes.{nodes_mono, nodes_option, nodes_term, nodes_comp, nodes_step}
 use Rattle.theory_counts_monotypes.specs.Monotypes.{greatest_in_term}
 use Rattle.theory_substitution.specs.Closing.{closing}
 use Rattle.theory_substitution.specs.Monotypes.{fill_mono, fill_term, next_filling, put_mono}
-use Rattle.theory_substitution.specs.Substitution.{SubFix, k_var, k_made, k_fix, k_app, r_var, r_app, applied, u_kept, u_reduced, u_word, u_do, u_bin, u_fst}
+use Rattle.theory_substitution.specs.Substitution.{k_var, k_made, k_fix, k_app, r_var, r_app, applied, u_kept, u_reduced, u_word, u_do, u_bin, u_fst}
 use Rattle.theory_substitution.specs.Substitution.{u_snd, u_lam, u_no_terms, u_more_terms, u_x_param, u_x_body, u_ret, u_step, u_spliced, b_ret, b_step}
 use Rattle.theory_substitution.specs.Substitution.{u_run, u_s_if, u_y_mono, u_triple, u_f_eq}
 use Rattle.theory_typing.specs.Positions.{plain_term}
@@ -22,11 +22,11 @@ use Rattle.theory_instances.specs.Bodies.{opened_fix, opened_skeleton, puts_none
 use Rattle.theory_instances.specs.Varying.{PassesOnAt, passes_end, passes_value}
 use Rattle.theory_instances.specs.Lists.{computation_in, meets_none, meets_new, TakesUp, takes_end, takes_next, HasInstances, main_key}
 use Rattle.theory_instances.specs.Orders.{a_word}
-use Rattle.theory_instances.specs.Examples.{two_words, picking, picking_call, picking_key, pick}
+use Rattle.theory_instances.specs.Examples.{two_words, picking, picking_key, pick}
 use Rattle.theory_instances.proofs.Worked.{other_head, new_to_one, new_to_two}
 use Rattle.theory_flat.specs.Flat.{names_key, names_made, flattens_ret, flattens_step, flattens_run, flattens_if, flat_none, flat_more, HasFlatInstances}
 use Rattle.theory_flat.specs.Examples.{pick_flat}
-use Rattle.theory_extraction_examples.specs.Examples.{pick_main, pick_body, made_picking, picking_body, pick_instances}
+use Rattle.theory_extraction_examples.specs.Examples.{pick_main, pick_body, picking_body, pick_instances}
 
 -- the body of the value, under q' and b' where q is to be b' or q' yet
 abbrev half_picked : TermTree

@@ -1,5 +1,5 @@
 -- A recursive function that is written twice has one instance.
-use Rattle.std.proofs.Common.{◌≡◌, ℕ, zero, suc, List, [], ◌∷◌, refl, arith}
+use Rattle.std.proofs.Common.{[], ◌∷◌, refl, arith}
 use Rattle.std.proofs.lemmas.List.Elements.{All-nil}
 use Rattle.htt_syntax.specs.Trees.{m_word, triple, t_var, t_do, t_lam, c_ret, f_tt}
 use Rattle.theory_renaming.specs.Renaming.{lift, lifts, rename_mono, rename_term}
