@@ -1,8 +1,8 @@
 -- The code of a derived file does what its run does, and this meets main's triple.
-use Rattle.std.proofs.Common.{◌≡◌, ◌≢◌, ◌≤◌, ◌<◌, ◌^◌, ◌+◌, ◌↔◌, ◌⊎◌, ℕ, zero, suc, List, [], ◌∷◌, All, Ok, Some, None, slice_get, inl, inr, refl, sym, ap, ◌∙◌, subst, arith}
+use Rattle.std.proofs.Common.{◌≡◌, ◌≢◌, ◌≤◌, ◌<◌, ◌^◌, ◌+◌, ◌⊎◌, ℕ, zero, suc, List, [], ◌∷◌, All, Some, None, slice_get, inl, inr, refl, sym, ap, ◌∙◌, subst, arith}
 use Rattle.std.proofs.lemmas.List.Elements.{All-nil, All-cons}
 use Rattle.htt_syntax_words.specs.declared.words.Kind.{Kind}
-use Rattle.htt_syntax.specs.Trees.{TripleTree, FormulaTree, triple, y_hoare, f_tt, f_emp}
+use Rattle.htt_syntax.specs.Trees.{TripleTree, FormulaTree, triple, y_hoare}
 use Rattle.theory_values.specs.Values.{Value, IsWord, encoding}
 use Rattle.theory_values.specs.Heaps.{Heap, InUse, IsHeap, IsJoin, empty_heap}
 use Rattle.theory_values.proofs.Joins.{join_of_empty, join_commutes, join_with_empty, empty_is_heap}
@@ -28,7 +28,7 @@ use Rattle.theory_extraction_faithful.proofs.Faithful.{faithful}
 use Rattle.theory_extraction_valid.proofs.Valid.{code_is_valid}
 use Rattle.theory_extraction_sound.specs.Outcomes.{HaltIsRight, IsSoundFrom, StartsEmpty, ReturnIsRight, GoesOnOrReturns}
 use Rattle.theory_extraction_sound.specs.Laws.{ExtractedCodeIsSound}
-use Rattle.theory_extraction_sound.proofs.Main.{HasMain, main_of}
+use Rattle.theory_extraction_sound.proofs.Main.{main_of}
 
 -- ---- from the empty heap
 
