@@ -1,3 +1,4 @@
 pub mod Standings
 pub mod Decision
 pub mod Laws
+pub mod Examples
