@@ -1,4 +1,0 @@
-pub mod Facts
-pub mod Lists
-pub mod Equal
-pub mod Once
