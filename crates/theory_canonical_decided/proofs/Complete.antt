@@ -1,9 +1,9 @@
 -- What is canonical is called so by the cases, and of a neutral term the skeleton is told.
-use Rattle.std.proofs.Common.{◌≡◌, List, ◌∷◌, slice_get, Bool, true, ◌&&◌, Option, Some, None, refl, ap, ◌∙◌}
+use Rattle.std.proofs.Common.{◌≡◌, List, ◌∷◌, true, ◌&&◌, Some, refl, ap, ◌∙◌}
 use Rattle.htt_syntax.specs.Trees.{MonoTree, TyTree, TripleTree, TermTree, FixTree, CompTree, StepTree, FormulaTree, TermTrees, t_var, t_val, t_def, t_app}
 use Rattle.htt_syntax.specs.Trees.{t_inst, t_lam, t_lam_t, t_do, t_fix, t_word, t_bool, t_loc, t_unit, t_pair, t_fst, t_snd, t_not, t_bin, t_eq, t_sel}
 use Rattle.htt_syntax.specs.Trees.{t_ann, t_made, t_at, x_param, x_body}
-use Rattle.theory_canonical.specs.Skeletons.{Skeleton, sk_o, skeleton}
+use Rattle.theory_canonical.specs.Skeletons.{Skeleton, sk_o}
 use Rattle.theory_canonical.specs.Contexts.{Standing, as_term, Heads}
 use Rattle.theory_canonical.specs.Canonical.{IsCanonical, IsNeutral, IsCanonicalTerms, IsCanonicalFix, IsCanonicalComp, IsCanonicalStep, IsCanonicalTy}
 use Rattle.theory_canonical.specs.Canonical.{IsCanonicalTriple, IsCanonicalFormula, IsCanonicalMono, n_m_word, n_m_bool, n_m_loc, n_m_unit, n_m_pair, n_m_var}

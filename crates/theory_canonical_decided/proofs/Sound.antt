@@ -1,5 +1,5 @@
 -- What the cases call canonical is canonical.
-use Rattle.std.proofs.Common.{◌≡◌, List, ◌∷◌, slice_get, Bool, true, ◌&&◌, Option, Some, None, refl, subst}
+use Rattle.std.proofs.Common.{◌≡◌, List, ◌∷◌, slice_get, true, ◌&&◌, Some, None, refl, subst}
 use Rattle.std.proofs.lemmas.Bool.{and_parts}
 use Rattle.htt_syntax.specs.Trees.{MonoTree, TyTree, TripleTree, TermTree, FixTree, CompTree, StepTree, FormulaTree, TermTrees, m_word, m_bool, m_loc, m_unit}
 use Rattle.htt_syntax.specs.Trees.{m_pair, m_var, y_mono, y_fun, y_all, y_hoare, y_at, triple, t_var, t_val, t_def, t_app, t_inst, t_lam, t_lam_t, t_do}
@@ -16,7 +16,7 @@ use Rattle.theory_canonical.specs.Canonical.{e_var, e_val, e_made, e_fix, e_app,
 use Rattle.theory_canonical.specs.Canonical.{n_alloc, n_get, n_set, n_free, n_if, n_mono, n_fun, n_all, n_hoare, n_triple, n_tt, n_ff, n_and, n_or, n_imp}
 use Rattle.theory_canonical.specs.Canonical.{n_all_t, n_ex_t, n_all_h, n_ex_h, n_emp, n_cell, n_block, n_join, n_same, n_equal, n_rec}
 use Rattle.theory_denotation.specs.Denotation.{fix_skeleton}
-use Rattle.theory_canonical_decided.specs.Standings.{is_o, is_told_o, is_told_c, is_kept, of_application, of_instance, skeleton_of_entry, serves_as_heap}
+use Rattle.theory_canonical_decided.specs.Standings.{is_o, is_told_o, is_told_c, is_kept, of_instance, skeleton_of_entry, serves_as_heap}
 use Rattle.theory_canonical_decided.specs.Decision.{mono_is_canonical, term_is_canonical, neutral_skeleton, terms_are_canonical, fix_is_canonical}
 use Rattle.theory_canonical_decided.specs.Decision.{comp_is_canonical, step_is_canonical, ty_is_canonical, triple_is_canonical, formula_is_canonical}
 use Rattle.theory_canonical_decided.proofs.Told.{mono_stands, heap_stands, term_stands, head_has, told_o, told_c, kept, at_o, was_told, application, instance}

@@ -1,11 +1,11 @@
 -- Whether a tree is canonical, by cases on the tree. Of a head with its arguments the skeleton is told, from the head
 -- outwards; what isn't such a head has none.
-use Rattle.std.specs.Prelude.{ℕ, List, ◌∷◌, slice_get, Bool, true, false, ◌&&◌, Option, Some, None}
+use Rattle.std.specs.Prelude.{List, ◌∷◌, slice_get, Bool, true, false, ◌&&◌, Option, Some, None}
 use Rattle.htt_syntax.specs.Trees.{MonoTree, TyTree, TripleTree, TermTree, FixTree, CompTree, StepTree, FormulaTree}
 use Rattle.htt_syntax.specs.Trees.{TermTrees, m_word, m_bool, m_loc, m_unit, m_pair, m_var, y_mono, y_fun, y_all}
-use Rattle.htt_syntax.specs.Trees.{y_hoare, y_at, triple, t_var, t_val, t_def, t_app, t_inst, t_lam, t_lam_t, t_do}
+use Rattle.htt_syntax.specs.Trees.{y_hoare, y_at, triple, t_var, t_val, t_app, t_inst, t_lam, t_lam_t, t_do}
 use Rattle.htt_syntax.specs.Trees.{t_fix, t_word, t_bool, t_loc, t_unit, t_pair, t_fst, t_snd, t_not, t_bin, t_eq}
-use Rattle.htt_syntax.specs.Trees.{t_sel, t_ann, t_made, t_at, no_terms, more_terms, x_param, x_body, c_ret, c_step}
+use Rattle.htt_syntax.specs.Trees.{t_sel, t_made, no_terms, more_terms, x_param, x_body, c_ret, c_step}
 use Rattle.htt_syntax.specs.Trees.{s_run, s_alloc, s_get, s_set, s_free, s_if, s_claim, f_tt, f_ff, f_and, f_or, f_imp}
 use Rattle.htt_syntax.specs.Trees.{f_all_t, f_ex_t, f_all_h, f_ex_h, f_emp, f_cell, f_block, f_join, f_same, f_eq}
 use Rattle.htt_syntax.specs.Trees.{f_at, f_rec}
