@@ -1,5 +1,6 @@
 -- What stops declarations, and what they declare.
-use Rattle.std.proofs.Common.{◌≡◌, ℕ, suc, refl, ap, subst, arith, List, [], ◌∷◌, ◌++◌, length, Option, Some, None}
+use Rattle.std.proofs.Common.{◌≡◌, ℕ, suc, refl, ap, subst, arith, List, [], ◌∷◌, ◌++◌, length, Option, Some, None, ◌+◌, sym, ◌∙◌, cond}
+use Rattle.std.proofs.lemmas.List.Sums.{sum_by-cons}
 use Rattle.std.specs.Prelude.{not, ◌&&◌, if◌then◌else◌, is_none, Result, Ok, Err}
 use Rattle.htt_syntax.specs.Trees.{MonoTree}
 use Rattle.htt_parser_trees.specs.declared.place.Span.{Span}
@@ -32,14 +33,14 @@ from_same : {A B : Type 0} {a : Result A Stop} {b : Result B Stop} → SameStop 
 from_same {a = Ok x} {b = Ok y} h = both_give tt
 from_same {a = Ok x} {b = Err e} h = (let no : None ≡ Some e = h.same in grind arith)
 from_same {a = Err e} {b = Ok y} h = (let no : Some e ≡ None = h.same in grind arith)
-from_same {A} {B} {a = Err e} {b = Err f} h = by_stop h.same
+from_same {A = A} {B = B} {a = Err e} {b = Err f} h = by_stop h.same
   where
     stop_in : Option Stop → Stop
     stop_in None = e
     stop_in (Some x) = x
 
-    by_stop : Some e ≡ Some f → Related {A} {B} (λ x y. Unit {0}) (Err e) (Err f)
-    by_stop is = subst (λ x. Related {A} {B} (λ x y. Unit {0}) (Err e) (Err x)) (ap stop_in is) both_stop
+    by_stop : Some e ≡ Some f → Related {A = A} {B = B} (λ x y. Unit {0}) (Err e) (Err f)
+    by_stop is = subst (λ x. Related {A = A} {B = B} (λ x y. Unit {0}) (Err e) (Err x)) (ap stop_in is) both_stop
 
 -- ---- rows
 
@@ -66,7 +67,10 @@ count_alike : (ds es : Names) → AlikeNames ds es → how_many a_recursion ds �
 count_alike [] [] h = refl
 count_alike [] (e ∷ es) h = absurd h
 count_alike (d ∷ ds) [] h = absurd h
-count_alike (d ∷ ds) (e ∷ es) (row, rows) = grind (arith, row_alike d e row, count_alike ds es rows)
+count_alike (d ∷ ds) (e ∷ es) (row, rows) =
+    sum_by-cons (λ x. cond (declares_such a_recursion x) 1 0) d ds
+    ∙ (λ j. cond (row_alike d e row j) 1 0 + count_alike ds es rows j)
+    ∙ sym (sum_by-cons (λ x. cond (declares_such a_recursion x) 1 0) e es)
 
 -- ---- new names
 

@@ -1,5 +1,5 @@
 -- What stops proofs, row by row; the law.
-use Rattle.std.proofs.Common.{ℕ, List, [], ◌∷◌}
+use Rattle.std.proofs.Common.{◌≡◌, ℕ, refl, subst, List, [], ◌∷◌}
 use Rattle.htt_syntax.specs.Trees.{ProofTree}
 use Rattle.htt_parser_trees.specs.Trees as raw
 use Rattle.theory_text_names.specs.Scopes.{a_term_or_heap, Names, Scope, under, under_hypothesis}
@@ -22,23 +22,35 @@ module _ (names : Names) where
   motive_same : (s : Scope) → AlikeNames s.names names → (m : raw.RawMotiveTree) → SameStop (motive_comes s m) (motive_comes (with_names s names) m)
   motive_same s h (raw.motive_of b F) = formula_same names (under s b a_term_or_heap) h F
 
+  -- behind a statement
+  after_alike : (s : Scope) → AlikeNames s.names names → (d : raw.RawStmtTree) → AlikeNames (after_stmt s d).names names
+  after_alike s h (raw.b_intro at u) = h
+  after_alike s h (raw.b_gen at x) = h
+  after_alike s h (raw.b_open at x u q) = h
+  after_alike s h (raw.b_have at u F q) = h
+
+  after_with : (s : Scope) (d : raw.RawStmtTree) → with_names (after_stmt s d) names ≡ after_stmt (with_names s names) d
+  after_with s (raw.b_intro at u) = refl
+  after_with s (raw.b_gen at x) = refl
+  after_with s (raw.b_open at x u q) = refl
+  after_with s (raw.b_have at u F q) = refl
+
   mutual
     unfolding proof_comes
 
     pub proof_same : (s : Scope) → AlikeNames s.names names → (p : raw.RawProofTree) → SameStop (proof_comes s p) (proof_comes (with_names s names) p)
     proof_same s h (raw.p_end e) = end_same s h e
-    proof_same s h (raw.p_step d p) = bind_same (stmt_same s h d) (λ _ _. bind_same (behind_same s h d p) (λ _ _. ok_same))
+    proof_same s h (raw.p_step d p) =
+        bind_same (stmt_same s h d) (λ _ _.
+        bind_same (subst (λ r. SameStop (block_comes (after_stmt s d) p) (block_comes r p)) (after_with s d)
+        (block_same (after_stmt s d) (after_alike s h d) p)) (λ _ _. ok_same))
 
     block_same : (s : Scope) → AlikeNames s.names names → (p : raw.RawProofTree) → SameStop (block_comes s p) (block_comes (with_names s names) p)
     block_same s h (raw.p_end e) = bind_same (end_same s h e) (λ _ _. ok_same)
-    block_same s h (raw.p_step d p) = bind_same (stmt_same s h d) (λ _ _. bind_same (behind_same s h d p) (λ _ _. ok_same))
-
-    behind_same : (s : Scope) → AlikeNames s.names names → (d : raw.RawStmtTree) (p : raw.RawProofTree)
-        → SameStop (block_comes (after_stmt s d) p) (block_comes (after_stmt (with_names s names) d) p)
-    behind_same s h (raw.b_intro at u) p = block_same (under_hypothesis s u) h p
-    behind_same s h (raw.b_gen at x) p = block_same (under s x a_term_or_heap) h p
-    behind_same s h (raw.b_open at x u q) p = block_same (under_hypothesis (under s x a_term_or_heap) u) h p
-    behind_same s h (raw.b_have at u F q) p = block_same (under_hypothesis s u) h p
+    block_same s h (raw.p_step d p) =
+        bind_same (stmt_same s h d) (λ _ _.
+        bind_same (subst (λ r. SameStop (block_comes (after_stmt s d) p) (block_comes r p)) (after_with s d)
+        (block_same (after_stmt s d) (after_alike s h d) p)) (λ _ _. ok_same))
 
     stmt_same : (s : Scope) → AlikeNames s.names names → (d : raw.RawStmtTree) → SameStop (stmt_comes s d) (stmt_comes (with_names s names) d)
     stmt_same s h (raw.b_intro at u) = ok_same

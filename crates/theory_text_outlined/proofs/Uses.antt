@@ -1,5 +1,5 @@
 -- What names stand for, with other names of the same outlines declared.
-use Rattle.std.proofs.Common.{◌≡◌, ℕ, refl, ap, arith, List, [], ◌∷◌, Option, Some, None}
+use Rattle.std.proofs.Common.{◌≡◌, ℕ, refl, ap, subst, arith, List, [], ◌∷◌, Option, Some, None}
 use Rattle.std.specs.Prelude.{Bool, true, false, if◌then◌else◌, length, Result, Ok, Err, bytes_eq}
 use Rattle.htt_parser_trees.specs.declared.place.Span.{Span}
 use Rattle.htt_parser_trees.specs.declared.tree.RawHeap.{RawHeap}
