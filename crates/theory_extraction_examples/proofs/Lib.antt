@@ -3,3 +3,4 @@ pub mod Added
 pub mod Written
 pub mod Picked
 pub mod Worked
+pub mod Crowd

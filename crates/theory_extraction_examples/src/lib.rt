@@ -1,6 +1,7 @@
 //! Worked examples of lists of instances and of limits. A function without a body states laws by its contract.
 #![tactic(auto)]
 
+ghost use Rattle.theory_extraction_examples.specs.Crowd.{CrowdsAreTooMany};
 ghost use Rattle.theory_extraction_examples.specs.Examples.{WorkedLimits, WorkedLists};
 
 /// Lists of instances with their flat bodies, and one that is none.
@@ -11,4 +12,9 @@ pub fn worked_lists()
 /// Results and monotypes at their limits and past them.
 pub fn worked_limits()
     ensures examples { WorkedLimits }
+{}
+
+/// A main that runs as many values as there may be instances.
+pub fn worked_crowd()
+    ensures example { CrowdsAreTooMany }
 {}
