@@ -1,22 +1,22 @@
 -- The instance that is one too many is met in main.
-use Rattle.std.proofs.Common.{◌≡◌, ◌≤◌, ◌<◌, ℕ, zero, suc, ◌+◌, List, [], ◌∷◌, ◌++◌, length, replicate, flat_map, reverse, Option, Some, None, slice_get, ◌⊎◌, inl, inr}
+use Rattle.std.proofs.Common.{◌≡◌, ◌≤◌, ◌<◌, ℕ, zero, suc, ◌+◌, List, [], ◌∷◌, ◌++◌, length, replicate, flat_map, reverse, Option, Some, slice_get, inl, inr}
 use Rattle.std.proofs.Common.{refl, sym, ap, ◌∙◌, subst, arith}
 use Rattle.std.proofs.lemmas.Bool.{cases_eq, cases_lt}
 use Rattle.std.proofs.lemmas.List.{length-append}
 use Rattle.std.proofs.lemmas.Option.{same_Some}
-use Rattle.htt_syntax.specs.Trees.{MonoTree, TermTree, m_word, m_var, triple, t_val, t_word, t_do, c_ret, f_tt}
+use Rattle.htt_syntax.specs.Trees.{MonoTree, TermTree, m_word, m_var, triple, t_val, t_word, c_ret, f_tt}
 use Rattle.theory_renaming.specs.Renaming.{rename_term}
 use Rattle.theory_canonical.specs.Skeletons.{Skeleton, sk_o, sk_c, sk_arrow, sk_all, skeleton}
 use Rattle.theory_counts.specs.Nodes.{nodes_mono}
 use Rattle.theory_substitution.specs.Monotypes.{fill_mono}
 use Rattle.theory_typing.specs.Positions.{plain_term}
 use Rattle.theory_items.proofs.Lists.{appended}
-use Rattle.theory_instances.specs.Calls.{ProgramVal, Program, Argument, head_of, arguments_of, fixed_of, ty_of_val, head_ty, Site, sites_of}
+use Rattle.theory_instances.specs.Calls.{ProgramVal, Program, head_of, arguments_of, fixed_of, ty_of_val, head_ty, sites_of}
 use Rattle.theory_instances.specs.Occurrences.{met_in_term}
 use Rattle.theory_instances.specs.Keys.{Key, key_of, key_of_site, keys_of_site, plain_key}
 use Rattle.theory_instances.specs.Bodies.{passed_monos, result_mono, puts_none, body_of_val}
-use Rattle.theory_instances.specs.Lists.{IsKnownAs, IsNew, instance_limit, MeetsTooMany, too_many_here, too_many_past_new, keys_met, Taken, TakesUp}
-use Rattle.theory_instances.specs.Lists.{main_key, IsMain, RefusesInstances, too_many_instances, refuses_list, refuses_calls}
+use Rattle.theory_instances.specs.Lists.{IsNew, instance_limit, MeetsTooMany, too_many_here, too_many_past_new, TakesUp}
+use Rattle.theory_instances.specs.Lists.{main_key, RefusesInstances, too_many_instances, refuses_list, refuses_calls}
 use Rattle.theory_instances.specs.Orders.{a_word}
 use Rattle.theory_extraction_examples.specs.Crowd.{runs_from, crowd, CrowdsAreTooMany}
 

@@ -4,3 +4,4 @@ pub mod Written
 pub mod Picked
 pub mod Worked
 pub mod Crowd
+pub mod Stops

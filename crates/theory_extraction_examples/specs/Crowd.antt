@@ -1,5 +1,5 @@
 -- A program whose main runs so many values, and which has too many instances with as many as the limit.
-use Rattle.std.specs.Prelude.{◌≤◌, ℕ, zero, suc, List, [], ◌∷◌, ◌++◌, replicate, Some}
+use Rattle.std.specs.Prelude.{◌≤◌, ℕ, zero, suc, [], ◌∷◌, ◌++◌, replicate, Some}
 use Rattle.htt_syntax.specs.Trees.{CompTree, m_word, t_val, t_word, c_ret, c_step, s_run}
 use Rattle.theory_instances.specs.Calls.{Program}
 use Rattle.theory_instances.specs.Lists.{RefusesInstances, instance_limit, too_many_instances}
