@@ -33,7 +33,7 @@ both P [] ys e = (tt, e)
 both P (x ∷ xs) ys e = let r = both P xs ys (e.1) in ((e.0, r.0), r.1)
 
 -- a variable that is bound inside, or one of those outside
-abbrev Known : (ℕ → Type 0) → Option ℕ → Type 0
+abbrev pub Known : (ℕ → Type 0) → Option ℕ → Type 0
 Known P None = Unit {0}
 Known P (Some n) = P n
 

@@ -1,5 +1,5 @@
 -- What a formed tree needs of its context are the entries of the variables that occur in it. So it is formed in
--- each context into which a map carries these.
+-- each context into which a map carries these. And they have entries.
 use Rattle.std.specs.Prelude.{ℕ, zero, List, [], All}
 use Rattle.htt_syntax.specs.Trees.{TermTree}
 use Rattle.theory_renaming.specs.Renaming.{Map, rename_term}
@@ -30,3 +30,15 @@ pub record OnlyMetIsNeeded : Type 0 where
       → CarriesMet m g h (met_in_term zero [] M)
       → IsFormedNeutral file g M s
       → IsFormedNeutral file h (rename_term m M) (fill_shape (renaming_of m) s)
+
+-- The variable is a term of the context.
+abbrev pub HasEntry : Shapes → ℕ → Type 0
+HasEntry g n = (s : Shape) × HasShape g n s
+
+pub record WhatOccursHasAnEntry : Type 0 where
+  pub terms : (file : FileShapes) (g : Shapes) (M : TermTree) (s : Shape)
+      → IsFormedTerm file g M s
+      → All (λ (o : Occurrence). HasEntry g o.variable) (met_in_term zero [] M)
+  pub heads : (file : FileShapes) (g : Shapes) (M : TermTree) (s : Shape)
+      → IsFormedNeutral file g M s
+      → All (λ (o : Occurrence). HasEntry g o.variable) (met_in_term zero [] M)

@@ -1,6 +1,6 @@
 -- The captured variables of a key: each variable that occurs is among them, and has its monotype at its number.
 use Rattle.std.proofs.Common.{◌≡◌, ℕ, zero, suc, List, [], ◌∷◌, ◌++◌, map, flat_map, All, Bool, true, false, nat_eq, if◌then◌else◌, Some, None, slice_get}
-use Rattle.std.proofs.Common.{refl, ap, ◌∙◌, arith}
+use Rattle.std.proofs.Common.{refl, sym, ap, ◌∙◌, subst, arith}
 use Rattle.std.proofs.lemmas.List.Elements.{All-nil, All-cons, All-head, All-tail}
 use Rattle.std.proofs.lemmas.Option.{same_Some}
 use Rattle.htt_syntax.specs.Trees.{MonoTree, TermTree}
@@ -8,10 +8,12 @@ use Rattle.theory_values.specs.Values.{IsClosed, closed_unit}
 use Rattle.theory_instances.specs.Calls.{Argument}
 use Rattle.theory_instances.specs.Occurrences.{Occurrence, met_in_term, met_in_argument}
 use Rattle.theory_instances.specs.Keys.{is_among, met_after, captured_of, number_in, mono_at}
-use Rattle.theory_formed_met.specs.Laws.{CarriesEntry}
+use Rattle.theory_formed_shapes.specs.Shapes.{sh_mono, HasShape}
+use Rattle.theory_formed_met.specs.Laws.{CarriesEntry, HasEntry}
 use Rattle.theory_formed_met.proofs.Occurring.{EachMet}
 use Rattle.theory_instances_formed.specs.Formed.{values_shapes}
-use Rattle.theory_instances_formed.proofs.Shapes.{carries}
+use Rattle.theory_instances_formed.proofs.Shapes.{carries, value_at}
+use Rattle.theory_instances_formed.proofs.Variables.{Stand}
 
 -- what was met is among what was met
 first_among : (n : ℕ) (others : List ℕ) → is_among n (n ∷ others) ≡ true
@@ -101,3 +103,31 @@ carries_met captured ts (o ∷ xs) c a = (
       (λ t q. number_there captured ts o.variable (a.0) ∙ ap Some (mono_at_is ts o.variable t q)),
   carries_met captured ts xs c (a.1),
 )
+
+-- ---- and the captured variables are of their monotypes in the context of the call
+
+entry_stands : (ts : List MonoTree) (n : ℕ) → All IsClosed ts → HasEntry (values_shapes ts) n → HasShape (values_shapes ts) n (sh_mono (mono_at ts n))
+entry_stands ts n c e =
+    let r = value_at ts c (e.1) in
+    subst (λ t. HasShape (values_shapes ts) n (sh_mono t)) (sym (mono_at_is ts n r.mono r.there)) (subst (HasShape (values_shapes ts) n) r.is (e.1))
+
+abbrev StandAll : List MonoTree → List ℕ → Type 0
+StandAll ts ns = Stand (values_shapes ts) ns (map (mono_at ts) ns)
+
+met_stand : (ts : List MonoTree) (known : List ℕ) (xs : List Occurrence)
+    → All IsClosed ts
+    → StandAll ts known
+    → EachMet (HasEntry (values_shapes ts)) xs
+    → StandAll ts (met_after known (variables_of xs))
+met_stand ts known [] c a e = a
+met_stand ts known (o ∷ xs) c a e = met_stand ts (if is_among o.variable known then known else o.variable ∷ known) xs c (by (is_among o.variable known)) (e.1)
+  where
+    by : (b : Bool) → StandAll ts (if b then known else o.variable ∷ known)
+    by true = a
+    by false = (entry_stands ts o.variable c (e.0), a)
+
+pub captured_stand : (ts : List MonoTree) (xs : List Occurrence)
+    → All IsClosed ts
+    → EachMet (HasEntry (values_shapes ts)) xs
+    → StandAll ts (met_after [] (variables_of xs))
+captured_stand ts xs c e = met_stand ts [] xs c tt e

@@ -1,8 +1,9 @@
 pub mod Shapes
-pub mod Captured
 pub mod Sites
 pub mod Variables
+pub mod Captured
 pub mod Passed
 pub mod Bodies
 pub mod Taken
+pub mod Named
 pub mod Listed

@@ -3,37 +3,40 @@ use Rattle.std.proofs.Common.{◌≡◌, ℕ, zero, suc, List, [], ◌∷◌, �
 use Rattle.std.proofs.lemmas.List.Elements.{All-nil, All-cons, All-append, All-head, All-tail}
 use Rattle.std.proofs.lemmas.Option.{same_Some}
 use Rattle.htt_syntax.specs.Trees.{MonoTree, TyTree, TripleTree, TermTree, FixTree, CompTree, StepTree, y_hoare, triple, t_val, t_fix, t_do}
-use Rattle.theory_renaming.specs.Renaming.{rename_term, rename_fix}
+use Rattle.theory_renaming.specs.Renaming.{rename_fix}
 use Rattle.theory_values.specs.Values.{IsClosed, closed_loc, closed_unit}
 use Rattle.theory_canonical.specs.Skeletons.{skeleton}
-use Rattle.theory_substitution.specs.Monotypes.{Filling}
-use Rattle.theory_formed_shapes.specs.Shapes.{Shape, sh_mono, sh_comp, shape_of, fill_shape, renaming_of, in_term, Shapes}
+use Rattle.theory_substitution.specs.Monotypes.{Filling, next_filling, fill_mono}
+use Rattle.theory_formed_shapes.specs.Shapes.{Shape, sh_mono, sh_comp, shape_of, fill_shape, in_term, Shapes}
 use Rattle.theory_formed_shapes.specs.Formed.{MadeShape, FileShapes, IsFormedMono, IsFormedNeutral, w_var, w_val, w_made, w_fix, w_app, w_inst, IsFormedComp}
 use Rattle.theory_formed_shapes.specs.Formed.{z_ret, z_step, IsFormedStep, z_run, z_alloc, z_get, z_set, z_free, z_if, fill_monos, IsClosedFile}
 use Rattle.theory_formed_shapes.proofs.Monos.{formed_monos}
 use Rattle.theory_formed_shapes.proofs.More.{HasFile, term_more, fix_more, comp_more}
-use Rattle.theory_formed_canonical.specs.Laws.{bare}
 use Rattle.theory_formed_canonical.proofs.Bare.{bare_shape}
 use Rattle.theory_formed_typing.proofs.Closed.{map_get, mapped, closed_term}
-use Rattle.theory_instances.specs.Calls.{ProgramVal, Program, Argument, head_of, arguments_of, fixed_of, fix_ty, ty_of_val, head_ty, bound_mono, Site, sites_of}
+use Rattle.theory_instances.specs.Calls.{ProgramVal, Program, Argument, head_of, arguments_of, fix_ty, ty_of_val, head_ty, bound_mono, Site, sites_of}
 use Rattle.theory_instances.specs.Calls.{sites_of_step}
-use Rattle.theory_instances.specs.Occurrences.{met_in_term, met_in_argument}
-use Rattle.theory_instances.specs.Keys.{Key, captured_of, number_in, mono_at, key_of_site, keys_of_head, keys_of_site}
+use Rattle.theory_instances.specs.Keys.{Key, key_of_site, keys_of_head, keys_of_site}
 use Rattle.theory_instances.specs.Bodies.{params_of, result_of, Puts, past_passed, arguments_within, HasBody, body_of_val, body_of_fix}
 use Rattle.theory_instances.specs.Lists.{Meets, meets_none, meets_known, meets_new, Taken, TakesUp, TakesAll, takes_end, takes_next, IsMain, main_key}
-use Rattle.theory_formed_met.specs.Laws.{CarriesEntry}
-use Rattle.theory_formed_met.proofs.Occurring.{both, head_by_met}
-use Rattle.theory_instances_formed.specs.Formed.{values_shapes, made_shape, file_with, IsFormedProgram, FormedFixed, fixed_end, fixed_value, fixed_term, fixed_mono, IsFormedKey}
+use Rattle.theory_instances_formed.specs.Formed.{not_made, made_of_head, values_shapes, made_shape, file_with, IsFormedProgram, FormedFixed, fixed_end, fixed_value, fixed_term, fixed_mono, IsFormedKey}
 use Rattle.theory_instances_formed.specs.Formed.{formed_val, formed_fix}
 use Rattle.theory_instances_formed.specs.Laws.{InstancesAreFormed}
-use Rattle.theory_instances_formed.proofs.Shapes.{IsClosedShape, closed_filled, no_mono, no_heap, formed_closed, closed_shape}
-use Rattle.theory_instances_formed.proofs.Captured.{met_among, captured_closed, carries_met}
-use Rattle.theory_instances_formed.proofs.Sites.{FormedArguments, spine_of, parted, fixed_carried}
+use Rattle.theory_instances_formed.proofs.Shapes.{IsClosedShape, closed_filled, formed_closed, closed_shape}
+use Rattle.theory_instances_formed.proofs.Sites.{FormedArguments, spine_of}
 use Rattle.theory_instances_formed.proofs.Bodies.{fix_ty_shape, fix_ty_formed}
-use Rattle.theory_instances_formed.proofs.Taken.{passed_closed, reversed_closed, Told, told, val_body, fix_body, fix_of}
+use Rattle.theory_instances_formed.proofs.Named.{NamedCall, named_val, named_fix}
+use Rattle.theory_instances_formed.proofs.Taken.{passed_closed, reversed_closed, Told, told, val_body, fix_body}
 
 none_some : {A : Type 0} {x : A} → None ≡ Some x → ⊥
 none_some q = cc
+
+none_named : {key : Key} → [] ≡ key ∷ [] → ⊥
+none_named q = cc
+
+not_made_closed : IsClosedShape not_made.whole
+unfolding fill_shape fill_mono next_filling
+not_made_closed = λ f. refl
 
 -- ---- with more keys
 
@@ -90,7 +93,7 @@ each_append file [] ys a b = b
 each_append file (x ∷ xs) ys a b = (a.0, each_append file xs ys (a.1) b)
 
 -- the monotype of the variable that a step binds
-step_bound : {file : FileShapes} {g : Shapes} {step : StepTree} {u : MonoTree} → IsFormedStep file g step u → bound_mono step ≡ u
+pub step_bound : {file : FileShapes} {g : Shapes} {step : StepTree} {u : MonoTree} → IsFormedStep file g step u → bound_mono step ≡ u
 step_bound (z_run d m) = refl
 step_bound (z_alloc m d) = refl
 step_bound (z_get m d) = refl
@@ -98,7 +101,7 @@ step_bound (z_set m d e) = refl
 step_bound (z_free m d) = refl
 step_bound (z_if m d e f) = refl
 
-step_closed : {file : FileShapes} (g : List MonoTree) {step : StepTree} {u : MonoTree} → IsFormedStep file (values_shapes g) step u → IsClosed u
+pub step_closed : {file : FileShapes} (g : List MonoTree) {step : StepTree} {u : MonoTree} → IsFormedStep file (values_shapes g) step u → IsClosed u
 step_closed g (z_run d m) = formed_closed g m
 step_closed g (z_alloc m d) = closed_loc
 step_closed g (z_get m d) = formed_closed g m
@@ -143,47 +146,51 @@ module _ (recs : List (List MonoTree)) (p : Program) (program : IsFormedProgram 
   file_more keys more w = record {
     vals = λ n s q. q;
     made = λ n m q.
-        let o = mapped (made_shape p) keys n m q in subst (λ x. slice_get (map (made_shape p) more) n ≡ Some x) o.is (map_get (made_shape p) more n o.of (w n o.of o.found));
+        let o = mapped made_shape keys n m q in subst (λ x. slice_get (map made_shape more) n ≡ Some x) o.is (map_get made_shape more n o.of (w n o.of o.found));
     recs = λ n ts q. q;
   }
 
-  -- the keys so far are formed
-  abbrev Known : List Key → Type 0
-  Known keys = (n : ℕ) (k : Key) → slice_get keys n ≡ Some k → IsFormedKey (file keys) p k
-
-  -- the shape of the head of a formed key is closed
+  -- the shape of a value is closed
   val_shape : (n : ℕ) (v : ProgramVal) → slice_get p.vals n ≡ Some v → IsClosedShape (shape_of v.ty)
   val_shape n v q = closed_shape [] (formed_monos (program.types n v q))
 
-  key_shape : {some : FileShapes} {key : Key} → IsFormedKey some p key → IsClosedShape (shape_of (head_ty p key.head))
-  key_shape {key = key} (formed_val {n = n} {v = v} q found c d) =
-      let same : head_ty p key.head ≡ v.ty = ap (head_ty p) q ∙ ap ty_of_val found in
-      subst (λ a. IsClosedShape (shape_of a)) (sym same) (val_shape n v found)
-  key_shape {key = key} (formed_fix {at = at} {fix = fix} q d c f) =
-      subst (λ h. IsClosedShape (shape_of (head_ty p h))) (sym q) (closed_shape key.captured (formed_monos (fix_ty_formed d)))
+  -- the keys so far are formed
+  abbrev pub Known : List Key → Type 0
+  Known keys = (n : ℕ) (k : Key) → slice_get keys n ≡ Some k → IsFormedKey (file keys) p k
 
-  key_captured : {some : FileShapes} {key : Key} → IsFormedKey some p key → All IsClosed key.captured
-  key_captured (formed_val q found c d) = c
-  key_captured (formed_fix q d c f) = c
+  -- the made function of a formed key is closed
+  key_made : {some : FileShapes} {key : Key} → IsFormedKey some p key → IsClosedShape (made_shape key).whole
+  key_made {key = key} (formed_val q found c d) = subst (λ h. IsClosedShape (made_of_head key.captured h).whole) (sym q) not_made_closed
+  key_made {key = key} (formed_fix q d c f) =
+      subst (λ h. IsClosedShape (made_of_head key.captured h).whole) (sym q) (closed_shape key.captured (formed_monos (fix_ty_formed d)))
 
   monos_stay : (f : Filling) (ts : List MonoTree) → All IsClosed ts → fill_monos f ts ≡ ts
   monos_stay f [] c = refl
   monos_stay f (t ∷ ts) c = λ j. closed_filled f (All-head IsClosed t ts c) j ∷ monos_stay f ts (All-tail IsClosed t ts c) j
 
+  made_captured : (key : Key) (f : Filling) → All IsClosed key.captured → fill_monos f (made_shape key).captured ≡ (made_shape key).captured
+  made_captured key f c = go key.head
+    where
+      go : (head : TermTree) → fill_monos f (made_of_head key.captured head).captured ≡ (made_of_head key.captured head).captured
+      go (t_fix at fix) = monos_stay f (reverse key.captured) (reversed_closed key.captured c)
+      go head = refl
+
+  key_captured : {some : FileShapes} {key : Key} → IsFormedKey some p key → All IsClosed key.captured
+  key_captured (formed_val q found c d) = c
+  key_captured (formed_fix q d c f) = c
+
   params_closed : (ts : List MonoTree) → All (IsFormedMono []) ts → All IsClosed ts
   params_closed ts a = λ k d l. formed_closed [] (a k d l)
 
-  file_closed : (keys : List Key) → Known keys → IsClosedFile (file keys)
+  pub file_closed : (keys : List Key) → Known keys → IsClosedFile (file keys)
   file_closed keys known = record {
     vals = λ n s q f.
         let o = mapped (λ (v : ProgramVal). shape_of v.ty) p.vals n s q in subst (λ a. fill_shape f a ≡ a) o.is (val_shape n o.of o.found f);
     captured = λ n m q f.
-        let o = mapped (made_shape p) keys n m q in
-        subst (λ (x : MadeShape). fill_monos f x.captured ≡ x.captured) o.is
-        (monos_stay f (reverse o.of.captured) (reversed_closed o.of.captured (key_captured (known n o.of o.found))));
+        let o = mapped made_shape keys n m q in
+        subst (λ (x : MadeShape). fill_monos f x.captured ≡ x.captured) o.is (made_captured o.of f (key_captured (known n o.of o.found)));
     made = λ n m q f.
-        let o = mapped (made_shape p) keys n m q in
-        subst (λ (x : MadeShape). fill_shape f x.whole ≡ x.whole) o.is (key_shape (known n o.of o.found) f);
+        let o = mapped made_shape keys n m q in subst (λ (x : MadeShape). fill_shape f x.whole ≡ x.whole) o.is (key_made (known n o.of o.found) f);
     recs = λ n ts q f. monos_stay f ts (params_closed ts (program.params n ts q));
   }
 
@@ -195,74 +202,49 @@ module _ (recs : List (List MonoTree)) (p : Program) (program : IsFormedProgram 
   keys_append keys [] ys a b = b
   keys_append keys (x ∷ xs) ys a b = (a.0, keys_append keys xs ys (a.1) b)
 
-  -- the key of a call whose head is a value or a recursive function
-  key_formed : (keys : List Key) (site : Site) (whole : Shape) (term : TermTree) {r : MonoTree}
+  -- a call whose head is a value or a recursive function
+  named_head : (keys : List Key) (site : Site) (whole : Shape) (term : TermTree) (key : Key) {r : MonoTree}
       → IsClosedFile (file keys)
       → All IsClosed site.context
       → IsFormedNeutral (file keys) (values_shapes site.context) term whole
       → head_of site.call ≡ term
       → FormedArguments (file keys) (values_shapes site.context) whole (arguments_of site.call) (sh_comp r)
-      → EachKey keys (keys_of_head term (key_of_site p site))
-  unfolding rename_term
-  key_formed keys site whole term {r = r} closed c (w_val {number = n} d) q arguments =
+      → keys_of_head term (key_of_site p site) ≡ key ∷ []
+      → NamedCall (file keys) p site r
+  named_head keys site whole term key closed c (w_val {number = n} d) q arguments names =
       let o = mapped (λ (v : ProgramVal). shape_of v.ty) p.vals n whole d in
-      let v = o.of in
-      let args = arguments_of site.call in
-      let k = skeleton (head_ty p (head_of site.call)) in
-      let same : bare whole ≡ k =
-      ap bare (sym o.is) ∙ bare_shape v.ty ∙ ap (λ x. skeleton (ty_of_val x)) (sym o.found) ∙ ap (λ h. skeleton (head_ty p h)) (sym q) in
-      let f = fixed_of k args in
-      let captured = captured_of (head_of site.call) f in
-      let us = map (mono_at site.context) captured in
-      let parts = parted arguments in
-      let P = CarriesEntry (number_in captured) (values_shapes site.context) (values_shapes us) in
-      let met =
-      both P (met_in_term zero [] (head_of site.call)) (flat_map met_in_argument f)
-      (carries_met captured site.context (met_in_term zero [] (head_of site.call) ++ flat_map met_in_argument f) c (met_among (head_of site.call) f)) in
-      let fixed : FormedFixed (file keys) (values_shapes site.context) (shape_of v.ty) f parts.monos r =
-      subst (λ s. FormedFixed (file keys) (values_shapes site.context) s f parts.monos r) (sym o.is)
-      (subst (λ x. FormedFixed (file keys) (values_shapes site.context) whole (fixed_of x args) parts.monos r) same parts.fixed) in (
-        formed_val (ap (rename_term (number_in captured)) q) o.found (captured_closed site.context captured c)
-            (fixed_carried (number_in captured) site.context us closed (val_shape n v o.found) fixed (met.1)),
-        tt,
-      )
-  key_formed keys site whole term {r = r} closed c (w_fix {at = at} {fix = fix} d) q arguments =
-      let args = arguments_of site.call in
-      let k = skeleton (head_ty p (head_of site.call)) in
-      let same : bare whole ≡ k = ap bare (sym (fix_ty_shape d)) ∙ bare_shape (fix_ty fix) ∙ ap (λ h. skeleton (head_ty p h)) (sym q) in
-      let f = fixed_of k args in
-      let captured = captured_of (head_of site.call) f in
-      let us = map (mono_at site.context) captured in
-      let parts = parted arguments in
-      let P = CarriesEntry (number_in captured) (values_shapes site.context) (values_shapes us) in
-      let met =
-      both P (met_in_term zero [] (head_of site.call)) (flat_map met_in_argument f)
-      (carries_met captured site.context (met_in_term zero [] (head_of site.call) ++ flat_map met_in_argument f) c (met_among (head_of site.call) f)) in
-      let shape : IsClosedShape whole = subst IsClosedShape (fix_ty_shape d) (closed_shape site.context (formed_monos (fix_ty_formed d))) in
-      let head : IsFormedNeutral (file keys) (values_shapes us) (rename_term (number_in captured) (head_of site.call)) whole =
-      subst (IsFormedNeutral (file keys) (values_shapes us) (rename_term (number_in captured) (head_of site.call))) (shape (renaming_of (number_in captured)))
-      (head_by_met closed (λ n h. absurd (no_mono site.context n h)) (λ n h. absurd (no_heap site.context n h)) (met.0)
-      (subst (λ h. IsFormedNeutral (file keys) (values_shapes site.context) h whole) (sym q) (w_fix {at = at} d))) in
-      let own : IsFormedNeutral (file keys) (values_shapes us) (t_fix at (rename_fix (number_in captured) fix)) whole =
-      subst (λ h. IsFormedNeutral (file keys) (values_shapes us) h whole) (ap (rename_term (number_in captured)) q) head in
-      let fixed : FormedFixed (file keys) (values_shapes site.context) whole f parts.monos r =
-      subst (λ x. FormedFixed (file keys) (values_shapes site.context) whole (fixed_of x args) parts.monos r) same parts.fixed in (
-        formed_fix (ap (rename_term (number_in captured)) q) (fix_of own) (captured_closed site.context captured c)
-            (fixed_carried (number_in captured) site.context us closed shape fixed (met.1)),
-        tt,
-      )
-  key_formed keys site whole term closed c (w_made d e) q arguments = tt
-  key_formed keys site whole term closed c (w_var d) q arguments = tt
-  key_formed keys site whole term closed c (w_app d e) q arguments = tt
-  key_formed keys site whole term closed c (w_inst d e) q arguments = tt
+      named_val p site closed c o.of o.found (formed_monos (program.types n o.of o.found)) o.is (subst IsClosedShape o.is (val_shape n o.of o.found)) d q arguments
+  named_head keys site whole term key closed c (w_fix d) q arguments names = named_fix p site closed c d q arguments
+  named_head keys site whole term key closed c (w_made d e) q arguments names = absurd (none_named names)
+  named_head keys site whole term key closed c (w_var d) q arguments names = absurd (none_named names)
+  named_head keys site whole term key closed c (w_app d e) q arguments names = absurd (none_named names)
+  named_head keys site whole term key closed c (w_inst d e) q arguments names = absurd (none_named names)
+
+  pub named : (keys : List Key) (site : Site) (key : Key) {r : MonoTree}
+      → IsClosedFile (file keys)
+      → All IsClosed site.context
+      → IsFormedNeutral (file keys) (values_shapes site.context) site.call (sh_comp r)
+      → keys_of_site p site ≡ key ∷ []
+      → NamedCall (file keys) p site r
+  named keys site key closed c d names =
+      let spine = spine_of d in named_head keys site spine.whole (head_of site.call) key closed c spine.head refl spine.arguments names
+
+  key_formed : (keys : List Key) (site : Site) (term : TermTree)
+      → IsClosedFile (file keys)
+      → SiteFormed (file keys) site
+      → head_of site.call ≡ term
+      → EachKey keys (keys_of_head term (key_of_site p site))
+  key_formed keys site (t_val n) closed s q =
+      ((named keys site (key_of_site p site) closed s.closed s.formed (ap (λ h. keys_of_head h (key_of_site p site)) q)).key, tt)
+  key_formed keys site (t_fix at fix) closed s q =
+      ((named keys site (key_of_site p site) closed s.closed s.formed (ap (λ h. keys_of_head h (key_of_site p site)) q)).key, tt)
+  key_formed keys site term closed s q = tt
 
   keys_formed : (keys : List Key) (sites : List Site) → IsClosedFile (file keys) → EachSite (file keys) sites → EachKey keys (flat_map (keys_of_site p) sites)
   keys_formed keys [] closed a = tt
   keys_formed keys (site ∷ sites) closed a =
-      let s = a.0 in
-      let spine = spine_of s.formed in
-      keys_append keys (keys_of_site p site) (flat_map (keys_of_site p) sites)
-      (key_formed keys site spine.whole (head_of site.call) closed s.closed spine.head refl spine.arguments) (keys_formed keys sites closed (a.1))
+      keys_append keys (keys_of_site p site) (flat_map (keys_of_site p) sites) (key_formed keys site (head_of site.call) closed (a.0) refl)
+      (keys_formed keys sites closed (a.1))
 
   -- ---- bodies
 

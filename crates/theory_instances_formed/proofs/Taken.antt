@@ -22,7 +22,7 @@ use Rattle.theory_instances.specs.Keys.{Key}
 use Rattle.theory_instances.specs.Occurrences.{met_in_argument}
 use Rattle.theory_instances.specs.Bodies.{passed_monos, result_mono, params_of, result_of, Puts, opened_fix, opened_skeleton, past_passed, arguments_within, made_of}
 use Rattle.theory_formed_met.specs.Laws.{CarriesEntry}
-use Rattle.theory_instances_formed.specs.Formed.{values_shapes, made_shape, file_with, FormedFixed, fixed_end, fixed_value, fixed_term, fixed_mono}
+use Rattle.theory_instances_formed.specs.Formed.{values_shapes, made_of_head, made_shape, file_with, FormedFixed, fixed_end, fixed_value, fixed_term, fixed_mono}
 use Rattle.theory_instances_formed.proofs.Shapes.{IsClosedShape, closed_value, closed_result, closed_argument, closed_answer, closed_instance, formed_closed, carries}
 use Rattle.theory_instances_formed.proofs.Shapes.{fills_values}
 use Rattle.theory_instances_formed.proofs.Sites.{FormedArguments, FormedPassed, fixed_carried}
@@ -151,11 +151,11 @@ module _ (recs : List (List MonoTree)) (p : Program) (keys : List Key) (closed :
       subst (λ vs. IsFormedTerms file (values_shapes whole) (terms_from vs) (reverse key.captured)) (sym (variables_past n (length key.captured)))
       (stand_terms (values_shapes whole) (reverse (from n (length key.captured))) (reverse key.captured)
       (stand_reverse (values_shapes whole) (from n (length key.captured)) key.captured (back_stands (reverse ts) key.captured n own_count all))) in
-      let shape : shape_of (head_ty p key.head) ≡ shape_of (fix_ty own) =
-      ap (λ h. shape_of (head_ty p h)) head ∙ fix_ty_shape d ∙ sym (fix_ty_shape formed) in
+      let shape : shape_of (fix_ty fix) ≡ shape_of (fix_ty own) = fix_ty_shape d ∙ sym (fix_ty_shape formed) in
+      let found : slice_get file.made number ≡ Some (made_of_head key.captured (t_fix at fix)) =
+      map_get made_shape keys number key there ∙ ap (λ h. Some (made_of_head key.captured h)) head in
       let made : IsFormedNeutral file (values_shapes whole) (made_of number (skeleton (fix_ty own)) key) (shape_of (fix_ty own)) =
-      subst (IsFormedNeutral file (values_shapes whole) (made_of number (skeleton (fix_ty own)) key)) shape
-      (w_made (map_get (made_shape p) keys number key there) terms) in
+      subst (IsFormedNeutral file (values_shapes whole) (made_of number (skeleton (fix_ty own)) key)) shape (w_made found terms) in
       let itself : IsFormedTerm file (values_shapes whole) (eta (made_of number (skeleton (fix_ty own)) key) (fix_ty own)) s =
       subst (IsFormedTerm file (values_shapes whole) (eta (made_of number (skeleton (fix_ty own)) key) (fix_ty own))) (fix_ty_shape formed)
       (eta_formed (formed_monos (fix_ty_formed formed)) closed made) in

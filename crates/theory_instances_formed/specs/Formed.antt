@@ -1,13 +1,13 @@
 -- Formed programs and keys. Where instances are, all variables have values, so that each entry of their contexts
 -- is a term of a closed monotype.
-use Rattle.std.specs.Prelude.{◌≡◌, ℕ, List, [], ◌∷◌, map, reverse, All, Some, slice_get}
-use Rattle.htt_syntax.specs.Trees.{MonoTree, TermTree, FixTree, t_val, t_fix}
+use Rattle.std.specs.Prelude.{◌≡◌, ℕ, zero, List, [], ◌∷◌, map, reverse, All, Some, slice_get}
+use Rattle.htt_syntax.specs.Trees.{MonoTree, TermTree, FixTree, m_unit, m_var, t_val, t_fix}
 use Rattle.theory_values.specs.Values.{IsClosed}
 use Rattle.theory_typing.specs.Contexts.{EndsInHoare}
 use Rattle.theory_formed_shapes.specs.Shapes.{Shape, sh_mono, sh_fun, sh_all, sh_comp, shape_of, fill_shape}
 use Rattle.theory_formed_shapes.specs.Shapes.{first_filled, in_term, Shapes}
 use Rattle.theory_formed_shapes.specs.Formed.{MadeShape, FileShapes, IsFormedMono, IsFormedTerm, IsFormedFix, IsFormedTy}
-use Rattle.theory_instances.specs.Calls.{ProgramVal, Program, Argument, of_term, of_mono, head_ty}
+use Rattle.theory_instances.specs.Calls.{ProgramVal, Program, Argument, of_term, of_mono, fix_ty}
 use Rattle.theory_instances.specs.Keys.{Key}
 
 -- Variables of these monotypes.
@@ -15,14 +15,23 @@ abbrev pub values_shapes : List MonoTree → Shapes
 values_shapes [] = []
 values_shapes (t ∷ ts) = in_term (sh_mono t) ∷ values_shapes ts
 
--- The made function that a key may become: what it captures, the first met first, and its shape.
-abbrev pub made_shape : Program → Key → MadeShape
-made_shape p key = record { captured = reverse key.captured; whole = shape_of (head_ty p key.head) }
+-- The made function of a recursive function's key: what it captures, the first met first, and its shape. The key
+-- of a value becomes no made function: what stands in its place wants a value of each monotype, so that it can't be
+-- called where all variables have values.
+abbrev pub not_made : MadeShape
+not_made = record { captured = []; whole = sh_fun (sh_all (sh_mono (m_var zero))) (sh_comp m_unit) }
+
+abbrev pub made_of_head : List MonoTree → TermTree → MadeShape
+made_of_head captured (t_fix at fix) = record { captured = reverse captured; whole = shape_of (fix_ty fix) }
+made_of_head captured head = not_made
+
+abbrev pub made_shape : Key → MadeShape
+made_shape key = made_of_head key.captured key.head
 
 -- The shapes of a program's values, of made functions for these keys, and of recursive predicates.
 abbrev pub file_with : List (List MonoTree) → Program → List Key → FileShapes
 file_with recs p keys =
-    record { vals = map (λ (v : ProgramVal). shape_of v.ty) p.vals; made = map (made_shape p) keys; recs = recs }
+    record { vals = map (λ (v : ProgramVal). shape_of v.ty) p.vals; made = map made_shape keys; recs = recs }
 
 -- Each value is formed with all values as heads, and ends in a computation.
 pub record IsFormedProgram (recs : List (List MonoTree)) (p : Program) : Type 0 where

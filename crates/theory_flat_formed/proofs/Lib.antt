@@ -1,0 +1,4 @@
+pub mod Terms
+pub mod Same
+pub mod Calls
+pub mod Listed
