@@ -1,0 +1,4 @@
+pub mod Folds
+pub mod Seen
+pub mod Rows
+pub mod Stood
