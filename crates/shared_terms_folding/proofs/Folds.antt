@@ -1,5 +1,5 @@
 -- A term is folded by what is seen of its parts.
-use Rattle.std.proofs.Common.{◌≡◌, ℕ, Bool, true, false, Option, None, refl}
+use Rattle.std.proofs.Common.{◌≡◌, true, false, refl}
 use Rattle.htt_syntax.specs.declared.mono.Op.{Op}
 use Rattle.htt_syntax.specs.Trees.{MonoTree, TermTree, m_word, m_bool, m_loc, m_unit, m_pair, m_var, t_ann, t_app, t_at, t_bin, t_bool, t_def, t_do, t_eq}
 use Rattle.htt_syntax.specs.Trees.{t_fix, t_fst, t_inst, t_lam, t_lam_t, t_loc, t_made, t_not, t_pair, t_sel, t_snd, t_unit, t_val, t_var, t_word}
@@ -84,32 +84,32 @@ not_folds (t_ann p y) = refl
 not_folds (t_made number v) = refl
 not_folds (t_at at p) = refl
 
-pub sel_folds : (m : MonoTree) (t a b : TermTree) → contractum (t_sel m t a b) ≡ folded_sel (shape_of t) a b
+pub sel_folds : (mono : MonoTree) (t a b : TermTree) → contractum (t_sel mono t a b) ≡ folded_sel (shape_of t) a b
 unfolding contractum shape_of
-sel_folds m (t_var index) a b = refl
-sel_folds m (t_val number) a b = refl
-sel_folds m (t_def number) a b = refl
-sel_folds m (t_app p q) a b = refl
-sel_folds m (t_inst p m) a b = refl
-sel_folds m (t_lam p) a b = refl
-sel_folds m (t_lam_t p) a b = refl
-sel_folds m (t_do c) a b = refl
-sel_folds m (t_fix at f) a b = refl
-sel_folds m (t_word word) a b = refl
-sel_folds m (t_bool true) a b = refl
-sel_folds m (t_bool false) a b = refl
-sel_folds m (t_loc place) a b = refl
-sel_folds m t_unit a b = refl
-sel_folds m (t_pair p q) a b = refl
-sel_folds m (t_fst p) a b = refl
-sel_folds m (t_snd p) a b = refl
-sel_folds m (t_not p) a b = refl
-sel_folds m (t_bin o p q) a b = refl
-sel_folds m (t_eq m p q) a b = refl
-sel_folds m (t_sel m p q r) a b = refl
-sel_folds m (t_ann p y) a b = refl
-sel_folds m (t_made number v) a b = refl
-sel_folds m (t_at at p) a b = refl
+sel_folds mono (t_var index) a b = refl
+sel_folds mono (t_val number) a b = refl
+sel_folds mono (t_def number) a b = refl
+sel_folds mono (t_app p q) a b = refl
+sel_folds mono (t_inst p m) a b = refl
+sel_folds mono (t_lam p) a b = refl
+sel_folds mono (t_lam_t p) a b = refl
+sel_folds mono (t_do c) a b = refl
+sel_folds mono (t_fix at f) a b = refl
+sel_folds mono (t_word word) a b = refl
+sel_folds mono (t_bool true) a b = refl
+sel_folds mono (t_bool false) a b = refl
+sel_folds mono (t_loc place) a b = refl
+sel_folds mono t_unit a b = refl
+sel_folds mono (t_pair p q) a b = refl
+sel_folds mono (t_fst p) a b = refl
+sel_folds mono (t_snd p) a b = refl
+sel_folds mono (t_not p) a b = refl
+sel_folds mono (t_bin o p q) a b = refl
+sel_folds mono (t_eq m p q) a b = refl
+sel_folds mono (t_sel m p q r) a b = refl
+sel_folds mono (t_ann p y) a b = refl
+sel_folds mono (t_made number v) a b = refl
+sel_folds mono (t_at at p) a b = refl
 
 pub bin_folds : (op : Op) (s t : TermTree) → contractum (t_bin op s t) ≡ folded_bin op (shape_of s) (shape_of t)
 unfolding contractum shape_of

@@ -2,3 +2,5 @@ pub mod Folds
 pub mod Seen
 pub mod Rows
 pub mod Stood
+pub mod Told
+pub mod Others

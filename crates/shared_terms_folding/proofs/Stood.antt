@@ -1,5 +1,5 @@
 -- What was computed, or the row itself, stands where the fold of the row's tree is to stand.
-use Rattle.std.proofs.Common.{◌≡◌, ℕ, ◌≤◌, List, Option, Some, None, length, refl, sym, ap, ◌∙◌, arith, true}
+use Rattle.std.proofs.Common.{◌≡◌, ℕ, ◌≤◌, List, Some, None, length, refl, sym, ap, ◌∙◌, arith, true}
 use Rattle.htt_syntax.specs.Trees.{TermTree}
 use Rattle.theory_canonical.specs.Folding.{contractum, or_itself}
 use Rattle.shared_terms_rows.specs.declared.form.Form.TheVariants as form
@@ -13,7 +13,7 @@ use Rattle.shared_terms_rows.specs.Rows.{at, node, bound, fits, RowIs, Extends}
 use Rattle.shared_terms_table.proofs.Lists.{node_same}
 use Rattle.theory_rows_substitution.specs.Substitution.{fold_part}
 use Rattle.shared_terms_folding.specs.declared.shape.Computed.TheVariants as computed
-use Rattle.shared_terms_folding.specs.Folded.{Stands, IsTerm, Computes, nothing, a_place, a_literal, leaf}
+use Rattle.shared_terms_folding.specs.Folded.{Stands, Computes, nothing, a_place, a_literal, leaf}
 
 none_stays : (p : Part) → contractum (as_term p) ≡ None → fold_part p ≡ p
 none_stays (of_term t) e = ap (λ o. of_term (or_itself o t)) e
@@ -53,7 +53,7 @@ term_itself (of_step x) e = absurd (grind arith)
 term_itself (of_formula x) e = absurd (grind arith)
 
 -- the row of a literal
-pub leaf_row : TermForm → Row
+abbrev pub leaf_row : TermForm → Row
 leaf_row f = record { form = form.Term f; first = 0; second = 0; third = 0; fourth = 0 }
 
 slots_none : (f : TermForm) → term_slots f ≡ none → slots (form.Term f) ≡ none
@@ -72,28 +72,28 @@ unfolding fits
 leaf_fits parts f e = rw (slots_none f e) refl
 
 -- the literal stands at its row
-pub literal_stands : {old new : List Part} {p : Part} {f : TermForm} {place : ℕ}
-    → Computes old (as_term p) (Some (computed.Literal f))
+pub literal_stands : {old new : List Part} (p : Part) {f : TermForm} {place : ℕ}
+    → Computes old (as_term p) (computed.Literal f)
     → RowIs new place (leaf_row f)
     → Stands new place (fold_part p)
-literal_stands {new = new} {p = p} {f = f} (a_literal e s) h =
+literal_stands {new = new} p {f = f} (a_literal e s) h =
     record { within = h.within; tree = h.tree ∙ leaf_node new f s ∙ sym (some_folds p (leaf f) e) }
 
 pub literal_slots : {parts : List Part} {t : TermTree} {f : TermForm}
-    → Computes parts t (Some (computed.Literal f))
+    → Computes parts t (computed.Literal f)
     → term_slots f ≡ none
 literal_slots (a_literal e s) = s
 
 -- a part stands where it stood
-pub place_stands : {parts : List Part} {p : Part} {place : ℕ}
-    → Computes parts (as_term p) (Some (computed.Place place))
+pub place_stands : {parts : List Part} (p : Part) {place : ℕ}
+    → Computes parts (as_term p) (computed.Place place)
     → Stands parts place (fold_part p)
-place_stands {parts = parts} {p = p} {place = place} (a_place e t) =
+place_stands {parts = parts} p {place = place} (a_place e t) =
     record { within = t.within; tree = sym (some_folds p (as_term (at parts place)) e ∙ term_itself (at parts place) (t.term)) }
 
 -- a row that isn't folded stands itself
 pub row_stands : {old new : List Part} {row : Row} {place : ℕ}
-    → Computes old (as_term (node old row)) None
+    → Computes old (as_term (node old row)) computed.Itself
     → bound row ≤ length old
     → Extends old new
     → RowIs new place row
@@ -101,5 +101,5 @@ pub row_stands : {old new : List Part} {row : Row} {place : ℕ}
 row_stands {old = old} {new = new} {row = row} (nothing e) b x h =
     record {
       within = h.within;
-      tree = h.tree ∙ node_same old new (length old) (λ k l. x.same k l) row b ∙ sym (none_stays (node old row) e)
+      tree = h.tree ∙ node_same old new (length old) (λ k l. x.same k l) row b ∙ sym (none_stays (node old row) e);
     }

@@ -5,7 +5,7 @@
 
 ghost use Rattle.std.specs.Prelude.{◌≡◌, ◌≤◌, length, true, IfOk};
 ghost use Rattle.shared_terms_rows.specs.Rows.{bound, fits, node, Extends};
-ghost use Rattle.shared_terms_table.specs.View.{parts_of};
+ghost use Rattle.shared_terms_renaming.specs.Known.{held, Known};
 ghost use Rattle.theory_rows_substitution.specs.Substitution.{fold_part};
 ghost use Rattle.shared_terms_folding.specs.Folded.{Stands};
 
@@ -15,22 +15,24 @@ mod shape;
 
 use computing::compute;
 use shape::Computed;
+use shared_terms_renaming::Work;
 use shared_terms_rows::{Form, Row};
-use shared_terms_table::Table;
 use std::alloc::AllocError;
 
 /// The place of what the row is folded to, or of the row itself, which is put last where it isn't there. The row's
 /// parts stand in the table, and are of the kinds of its slots. It fails for want of memory alone.
-pub fn fold(table: &mut Table, row: Row) -> Result<usize, AllocError>
-    requires behind { bound row ≤ length (parts_of table.old) }
-    requires fitting { fits (parts_of table.old) row ≡ true }
-    ensures kept { Extends (parts_of table.old) (parts_of table.new) }
-    ensures folded { IfOk result (λ place. Stands (parts_of table.new) place (fold_part (node (parts_of table.old) row))) }
+pub fn fold(work: &mut Work, row: Row) -> Result<usize, AllocError>
+    requires known { Known work.old }
+    requires behind { bound row ≤ length (held work.old) }
+    requires fitting { fits (held work.old) row ≡ true }
+    ensures known { Known work.new }
+    ensures kept { Extends (held work.old) (held work.new) }
+    ensures folded { IfOk result (λ place. Stands (held work.new) place (fold_part (node (held work.old) row))) }
 {
-    match compute(table, row) {
-        None => table.push(row),
-        Some(Computed::Place(place)) => Ok(place),
-        Some(Computed::Literal(form)) => table.push(Row {
+    match compute(work, row) {
+        Computed::Itself => work.push(row),
+        Computed::Place(place) => Ok(place),
+        Computed::Literal(form) => work.push(Row {
             form: Form::Term(form),
             first: 0,
             second: 0,
@@ -39,6 +41,3 @@ pub fn fold(table: &mut Table, row: Row) -> Result<usize, AllocError>
         }),
     }
 }
-
-#[cfg(test)]
-mod tests;

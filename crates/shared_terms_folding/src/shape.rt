@@ -12,9 +12,10 @@ pub enum Shape {
     Other,
 }
 
-/// What a term is computed to: what stands at a place, or a literal.
+/// What a term is computed to: itself, what stands at a place, or a literal.
 #[derive(Clone, Copy)]
 pub enum Computed {
+    Itself,
     Place(usize),
     /// A form without slots.
     Literal(TermForm),
