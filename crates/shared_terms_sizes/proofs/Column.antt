@@ -96,8 +96,7 @@ next_sized parts sizes read new place count size row s here below total same w i
     let e : size_in_row sizes row ≡ saturated (nodes_part (at parts place)) = row_sized parts sizes s place row w b in
     let f : size ≡ saturated (nodes_part (at parts (length sizes))) =
     is ∙ ap (λ l. size_in_row l row) same ∙ e ∙ ap (λ n. saturated (nodes_part (at parts n))) (sym here)
-    in
-    (
+    in (
       subst (Sized parts) (sym made) (sized_more parts sizes size s k f),
       ap length made ∙ length_more sizes size ∙ ap (λ n. n + 1) here,
     )

@@ -1,6 +1,6 @@
 //! Sums of what stands at a place with itself, over and over: few rows, and many nodes.
 
-ghost use Rattle.std.specs.Prelude.{◌≡◌, ◌<◌, length, IfOk};
+ghost use Rattle.std.specs.Prelude.{◌≡◌, ◌<◌, ◌≤◌, length, IfOk};
 ghost use Rattle.shared_terms_rows.specs.declared.form.Form.TheVariants as forms;
 ghost use Rattle.shared_terms_rows.specs.declared.form.Kind.TheVariants as kinds;
 ghost use Rattle.shared_terms_rows.specs.declared.form.TermForm.TheVariants as terms;
@@ -44,6 +44,7 @@ fn sum_row(part: usize) -> Row
 fn doubled(table: &mut Table, part: usize, times: u32) -> Result<usize, AllocError>
     requires within { part < length (parts_of table.old) }
     requires term { kind_of (at (parts_of table.old) part) ≡ kinds.Term }
+    ensures longer { length (parts_of table.old) ≤ length (parts_of table.new) }
     ensures within { IfOk result (λ place. place < length (parts_of table.new)) }
     ensures term { IfOk result (λ place. kind_of (at (parts_of table.new) place) ≡ kinds.Term) }
 {
