@@ -1,0 +1,7 @@
+-- Counts of binders, as 64 bits hold them.
+use Rattle.std.proofs.Common.{◌≡◌, ℕ, ◌+◌, arith}
+use Rattle.std.specs.Prelude.{min, ◌-◌, ◌^◌}
+use Rattle.theory_saturation.specs.Saturation.{saturated}
+
+pub deeper_by : (depth by d z : ℕ) → z ≡ min (depth + by) (2 ^ 64 - 1) → depth ≡ saturated d → z ≡ saturated (d + by)
+deeper_by depth by d z is under = omega (arith, is, under)
