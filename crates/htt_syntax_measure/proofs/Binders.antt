@@ -5,3 +5,7 @@ use Rattle.theory_saturation.specs.Saturation.{saturated}
 
 pub deeper_by : (depth by d z : ℕ) → z ≡ min (depth + by) (2 ^ 64 - 1) → depth ≡ saturated d → z ≡ saturated (d + by)
 deeper_by depth by d z is under = omega (arith, is, under)
+
+-- one more, behind so many
+pub one_under : (d i z : ℕ) → z ≡ saturated (d + i + 1) → z ≡ saturated (d + (i + 1))
+one_under d i z is = omega (arith, is)
