@@ -1,5 +1,4 @@
-use Rattle.std.proofs.Common.{◌≡◌, ◌+◌, rules, arith, sym, ◌∙◌}
-use Rattle.theory_saturation.specs.Saturation.{saturated}
+use Rattle.std.proofs.Common.{arith, sym, ◌∙◌}
 use Rattle.htt_syntax_measure.proofs.Binders.{one_under}
 use Rattle.htt_syntax_measure.proofs.Loops.{few_nothing, few_beside, terms_start, terms_next, terms_end, params_start}
 use Rattle.htt_syntax_measure.proofs.Loops.{params_next, params_end, steps_start, steps_next, steps_end}
