@@ -1,0 +1,38 @@
+-- An operand of a chain behind its sign, an argument of a head, and a parameter.
+use Rattle.std.specs.Prelude.{◌≡◌, Result}
+use Rattle.htt_parser_trees.specs.declared.tree.SumOperand.{SumOperand}
+use Rattle.htt_parser_trees.specs.declared.tree.ProdOperand.{ProdOperand}
+use Rattle.htt_parser_trees.specs.declared.tree.RawPart.{RawPart}
+use Rattle.htt_parser_trees.specs.declared.tree.RawPart.TheVariants as parts
+use Rattle.htt_parser_trees.specs.declared.tree.RawParam.{RawParam}
+use Rattle.htt_parser_trees.specs.declared.tree.RawParam.TheVariants as params
+use Rattle.htt_parser_trees.specs.declared.place.Binder.{Binder}
+use Rattle.htt_parser_trees.specs.declared.place.Binder.TheVariants as binders
+use Rattle.htt_parser_trees.specs.Trees.{SumSign, ProdSign, RawTyTree, RawProdTree, RawApplTree, RawSumRestTree}
+use Rattle.htt_parser_trees.specs.Trees.{RawProdRestTree, s_more, x_more}
+use Rattle.htt_parser_trees.specs.MonoLevels.{raw_mono_tree}
+use Rattle.htt_parser_trees.specs.TreeViews.{raw_sum_operand_tree, raw_prod_operand_tree, raw_atom_tree, raw_ty_tree}
+use Rattle.htt_syntax_measure.specs.declared.size.Size.{Size}
+use Rattle.theory_text_names.specs.Stops.{Stop}
+use Rattle.theory_text_names.specs.Scopes.{Scope}
+use Rattle.htt_resolve_sizes.specs.Sizes.{size_of_mono, size_of_atom}
+
+abbrev pub IsSummand : SumOperand → RawProdTree → Type 0
+IsSummand operand p = (sign : SumSign) × ((rest : RawSumRestTree) → raw_sum_operand_tree operand rest ≡ s_more sign p rest)
+
+abbrev pub IsFactor : ProdOperand → RawApplTree → Type 0
+IsFactor operand a = (sign : ProdSign) × ((rest : RawProdRestTree) → raw_prod_operand_tree operand rest ≡ x_more sign a rest)
+
+-- what an argument of a head measures
+abbrev pub size_of_part : Scope → RawPart → Result Size Stop
+size_of_part s (parts.Atom atom) = size_of_atom s (raw_atom_tree atom)
+size_of_part s (parts.Mono mono) = size_of_mono s (raw_mono_tree mono)
+
+-- what a parameter binds, and its type
+abbrev pub name_of_param : RawParam → Binder
+name_of_param (params.Named name ty) = binders.Name name
+name_of_param (params.Blank ty) = binders.Blank
+
+abbrev pub type_of_param : RawParam → RawTyTree
+type_of_param (params.Named name ty) = raw_ty_tree ty
+type_of_param (params.Blank ty) = raw_ty_tree ty
