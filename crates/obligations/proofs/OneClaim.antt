@@ -1,13 +1,12 @@
 -- A claim comes to one thing.
 use Rattle.std.proofs.Common.{◌≡◌, ℕ, Bool, true, false, List, Option, Some, None, Result, Ok, Err, refl, sym, ap, ◌∙◌, subst, arith}
-use Rattle.std.specs.Prelude.{slice_get, slice_set, if◌then◌else◌}
+use Rattle.std.specs.Prelude.{slice_get, slice_set}
 use Rattle.obligations.specs.declared.row.Row.{Row}
 use Rattle.obligations.specs.declared.row.State.{State}
-use Rattle.obligations.specs.declared.row.State.TheVariants.{Left, Proved}
 use Rattle.obligations.specs.declared.claims.ClaimStop.{ClaimStop}
 use Rattle.obligations.specs.declared.claims.ClaimStop.TheVariants.{Stray, Twice}
 use Rattle.obligations.specs.Rows.{is_free, AreDistinct, ChangesTo, with_state}
-use Rattle.obligations.specs.Claims.{Names, NoneNamed, StandsAs, ClaimGives}
+use Rattle.obligations.specs.Claims.{Names, NoneNamed, StandsAs, ClaimGives, claimed_as}
 use Rattle.obligations.specs.Laws.{ClaimsComeToOne}
 use Rattle.obligations.proofs.Rows.{some_is}
 
@@ -34,7 +33,7 @@ one_change s row rows one other a b =
 pub claims_come_to_one : ClaimsComeToOne
 claims_come_to_one target number auto rows one other (Ok j) (Ok k) distinct a b =
     let same = one_row target number rows true true j k distinct a.0 b.0 in
-    (ap Ok same, one_change (if auto then Left else Proved) k rows one other (subst (λ i. ChangesTo (if auto then Left else Proved) i rows one) same a.1) b.1)
+    (ap Ok same, one_change (claimed_as auto) k rows one other (subst (λ i. ChangesTo (claimed_as auto) i rows one) same a.1) b.1)
 claims_come_to_one target number auto rows one other (Ok j) (Err Stray) distinct a b = absurd (not_both target number rows true j b.0 a.0)
 claims_come_to_one target number auto rows one other (Ok j) (Err Twice) distinct a b =
     let e = one_state target number rows true false j b.0.0 distinct a.0 b.0.1 in grind (arith, e)

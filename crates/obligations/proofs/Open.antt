@@ -1,5 +1,6 @@
 -- The rows that aren't proved, from a place on.
 use Rattle.std.proofs.Common.{◌≡◌, ℕ, suc, ◌+◌, ◌<◌, ◌≤◌, Bool, true, false, List, [], ◌∷◌, length, drop, drop-cons, get_or, refl, sym, ap, ◌∙◌, arith}
+use Rattle.std.proofs.Math.ListN.{drop_of_length-le}
 use Rattle.std.specs.Prelude.{if◌then◌else◌}
 use Rattle.obligations.specs.declared.row.Row.{Row}
 use Rattle.obligations.specs.Rows.{is_proved, open_places}
@@ -27,4 +28,4 @@ open_past rows k r within is state =
     ∙ ap (λ n. open_places n (drop n rows)) (sym one)
 
 pub open_none : (rows : List Row) (n : ℕ) → length rows ≤ n → open_places n (drop n rows) ≡ []
-open_none rows n over = let e : drop n rows ≡ [] = grind (arith, over) in ap (open_places n) e
+open_none rows n over = ap (open_places n) (drop_of_length-le rows over)

@@ -69,8 +69,8 @@ fails item number r e named = let a = named.of_item in let b = named.of_number i
 pub named_found : (item number : ℕ) (rows : List Row) (found : Option ℕ)
     → found ≡ position (is_of item number) rows
     → MatchOption found (NoneNamed (Some item) number rows) (λ row. IsNamed (Some item) number rows row)
-named_found item number rows None is k r there named =
-    fails item number r (none_passes (is_of item number) rows (sym is) k r there) named
+named_found item number rows None is =
+    λ k r there named. fails item number r (none_passes (is_of item number) rows (sym is) k r there) named
 named_found item number rows (Some row) is =
     let there = one_passes (is_of item number) rows row (sym is) in
     (there.0, there.1, fits item number there.0 there.2)

@@ -61,18 +61,34 @@ pub added_distinct : (rows : List Row) (item : ℕ) (ss : List Sequent)
 added_distinct rows item ss distinct none j k q r at_j at_k same_item same_number =
     ⊎_elim
     (λ old_j.
-        ⊎_elim (λ old_k. distinct j k q r old_j old_k same_item same_number)
-        (λ new_k. let is = numbered_row item 0 ss new_k.0 r new_k.2 in absurd (none j q old_j (same_item ∙ is.0)))
-        (split rows (numbered item 0 ss) k r at_k))
+    ⊎_elim (λ old_k. distinct j k q r old_j old_k same_item same_number)
+    (λ new_k. let is = numbered_row item 0 ss new_k.0 r new_k.2 in absurd (none j q old_j (same_item ∙ is.0)))
+    (split rows (numbered item 0 ss) k r at_k))
     (λ new_j.
-        let is = numbered_row item 0 ss new_j.0 q new_j.2 in
-        ⊎_elim (λ old_k. absurd (none k r old_k (sym same_item ∙ is.0)))
-        (λ new_k.
-            let also = numbered_row item 0 ss new_k.0 r new_k.2 in
-            let a = is.1 in
-            let b = also.1 in
-            let c = new_j.1 in
-            let d = new_k.1 in
-            omega (arith, a, b, c, d, same_number))
-        (split rows (numbered item 0 ss) k r at_k))
+    let is = numbered_row item 0 ss new_j.0 q new_j.2 in
+    ⊎_elim (λ old_k. absurd (none k r old_k (sym same_item ∙ is.0)))
+    (λ new_k.
+    let also = numbered_row item 0 ss new_k.0 r new_k.2 in
+    let a = is.1 in
+    let b = also.1 in
+    let c = new_j.1 in
+    let d = new_k.1 in
+    omega (arith, a, b, c, d, same_number))
+    (split rows (numbered item 0 ss) k r at_k))
     (split rows (numbered item 0 ss) j q at_j)
+
+-- ---- items without rows
+
+pub none_of_none : (rows : List Row) (item : ℕ) → rows ≡ [] → NoneOf item rows
+none_of_none [] item none k r there is = grind (arith, there)
+none_of_none (x ∷ xs) item none k r there is = absurd (grind (arith, none))
+
+pub none_of_others : (old rows : List Row) (item other : ℕ) (ss : List Sequent)
+    → rows ≡ old ++ numbered other 0 ss
+    → NoneOf item old
+    → (item ≡ other → ⊥)
+    → NoneOf item rows
+none_of_others old rows item other ss added none apart k r there is =
+    ⊎_elim (λ old_k. none k r old_k is)
+    (λ new_k. let of_other = numbered_row other 0 ss new_k.0 r new_k.2 in apart (sym is ∙ of_other.0))
+    (split old (numbered other 0 ss) k r (sym (ap (λ rs. slice_get rs k) added) ∙ there))

@@ -1,6 +1,7 @@
 -- What the claim of a proof comes to.
-use Rattle.std.specs.Prelude.{ℕ, ◌≡◌, Bool, true, false, List, Option, Some, Result, Ok, Err, slice_get, ◌==◌, ◌&&◌, if◌then◌else◌}
+use Rattle.std.specs.Prelude.{ℕ, ◌≡◌, Bool, true, false, List, Option, Some, Result, Ok, Err, slice_get, ◌==◌, ◌&&◌}
 use Rattle.obligations.specs.declared.row.Row.{Row}
+use Rattle.obligations.specs.declared.row.State.{State}
 use Rattle.obligations.specs.declared.row.State.TheVariants.{Left, Proved}
 use Rattle.obligations.specs.declared.claims.ClaimStop.{ClaimStop}
 use Rattle.obligations.specs.declared.claims.ClaimStop.TheVariants.{Stray, Twice}
@@ -27,11 +28,16 @@ IsNamed target number rows row = (r : Row) × (slice_get rows row ≡ Some r) ×
 abbrev pub is_of : ℕ → ℕ → Row → Bool
 is_of item number r = (r.item == item) && (r.number == number)
 
+-- the state of a row that was claimed: one that is auto is left to the provers
+abbrev pub claimed_as : Bool → State
+claimed_as true = Left
+claimed_as false = Proved
+
 -- A claim on the rows `old` leaves the rows `new`.
 abbrev pub ClaimGives : Option ℕ → ℕ → Bool → List Row → List Row → Result ℕ ClaimStop → Type 0
 -- the row that is named was free, and is now left to the provers, or proved
 ClaimGives target number auto old new (Ok row) =
-    StandsAs true target number old row × ChangesTo (if auto then Left else Proved) row old new
+    StandsAs true target number old row × ChangesTo (claimed_as auto) row old new
 -- no row is named
 ClaimGives target number auto old new (Err Stray) = NoneNamed target number old × (new ≡ old)
 -- the row that is named isn't free

@@ -10,3 +10,6 @@ mod table;
 pub use claims::{ClaimStop, claims_come_to_one};
 pub use row::{Row, State};
 pub use table::Table;
+
+#[cfg(test)]
+mod tests;

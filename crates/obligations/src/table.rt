@@ -3,7 +3,7 @@
 ghost use Rattle.std.specs.Prelude.{◌≡◌, ◌<◌, ◌++◌, [], false, length, slice_get, option_map, OnOk, OnErr, IfOk, MatchOption};
 ghost use Rattle.std.specs.List.{position};
 ghost use Rattle.obligations.specs.Rows.{numbered, AreDistinct, NoneOf, open_places, is_free, is_proved, ChangesTo};
-ghost use Rattle.obligations.specs.Claims.{NoneNamed, ClaimGives, IsNamed, is_of};
+ghost use Rattle.obligations.specs.Claims.{NoneNamed, ClaimGives, IsNamed, is_of, claimed_as};
 ghost use Rattle.obligations.specs.declared.row.State.TheVariants.{Proved};
 
 use crate::claims::ClaimStop;
@@ -85,7 +85,12 @@ impl Table {
 
     /// A proof of the file for this number of this item, or of no item, which is left to the provers where it is
     /// `auto`: the row that it claims, or why it claims none; then nothing has changed. It takes no memory.
-    pub fn claim(&mut self, target: Option<u32>, number: u64, auto: bool) -> Result<usize, ClaimStop>
+    pub fn claim(
+        &mut self,
+        target: Option<u32>,
+        number: u64,
+        auto: bool,
+    ) -> Result<usize, ClaimStop>
         ensures claimed { ClaimGives target number auto (rows_of self.old) (rows_of self.new) result }
     {
         let Some(row) = self.place_of(target, number) else {
@@ -94,7 +99,7 @@ impl Table {
         if !self.is_free(row) {
             return Err(ClaimStop::Twice);
         }
-        self.change(row, if auto { State::Left } else { State::Proved });
+        self.change(row, claimed_as(auto));
         Ok(row)
     }
 
@@ -137,6 +142,13 @@ impl Table {
         }
         Ok(left)
     }
+}
+
+/// The state of a row that was claimed.
+fn claimed_as(auto: bool) -> State
+    ensures state { result ≡ claimed_as auto }
+{
+    if auto { State::Left } else { State::Proved }
 }
 
 /// The first of the rows that is of this item and number.
