@@ -25,7 +25,7 @@ fn heap_of(sequent: &Sequent) -> Option<u32> {
     }
 }
 
-#[tactic(auto, using(crate::proofs::Rows::none_of_none, crate::proofs::Rows::none_of_others))]
+#[tactic(auto, using(crate::proofs::Rows::none_of_none))]
 fn two_items(alloc: Global) -> Result<Table, AllocError> {
     let mut table = Table::new(alloc);
     table.add(3, owed(alloc, &[7, 8])?)?;
