@@ -76,8 +76,8 @@ impl Table {
     #[tactic(auto, using(crate::proofs::Rows::added_distinct))]
     pub fn add(&mut self, item: u32, owed: Vec<Sequent>) -> Result<(), AllocError>
         requires new_item { NoneOf item (rows_of self.old) }
-        ensures added { OnOk result ((rows_of self.new) ≡ (rows_of self.old) ++ numbered item 0 owed.items) }
-        ensures unchanged { OnErr result ((rows_of self.new) ≡ (rows_of self.old)) }
+        ensures added { OnOk result (rows_of self.new ≡ rows_of self.old ++ numbered item 0 owed.items) }
+        ensures unchanged { OnErr result (rows_of self.new ≡ rows_of self.old) }
     {
         let mut rows = numbered(self.alloc, item, owed)?;
         self.rows.append(&mut rows)
