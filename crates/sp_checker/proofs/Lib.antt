@@ -1,2 +1,3 @@
-pub mod Past
-pub mod Ends
+pub mod Made
+pub mod PastMaps
+pub mod EndMaps

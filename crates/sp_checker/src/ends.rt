@@ -1,6 +1,6 @@
 //! Branches, and the ends of branches and bodies.
 
-ghost use Rattle.std.specs.Prelude.{◌≡◌, IfOk, map, suc, ◌∷◌};
+ghost use Rattle.std.specs.Prelude.{◌≡◌, IfOk, map, suc, ◌+◌, ◌∷◌};
 ghost use Rattle.std.specs.List.{range_with_len};
 ghost use Rattle.htt_syntax.specs.Trees.{FormulaTree};
 ghost use Rattle.htt_syntax.specs.Views.{mono_tree, term_tree, formula_tree};
@@ -34,12 +34,20 @@ pub fn branch(
     and(alloc, copy_formula(alloc, state), is)
 }
 
+/// A sum; an error where it would pass 32 bits.
+fn sum(count: u32, by: u32) -> Result<u32, AllocError>
+    ensures sum { IfOk result (λ n. n ≡ count + by) }
+{
+    count.checked_add(by).ok_or(AllocError)
+}
+
 /// What stands in the place of each index of a state behind so many steps, where the result takes the place of their
 /// variables: `mem`, `init`, and the variables.
+#[tactic(auto, using(crate::proofs::EndMaps::one_more))]
 fn within(alloc: Global, count: u32) -> Result<Vec<u32>, AllocError>
     ensures list { IfOk result (λ to. to.items ≡ count ∷ suc count ∷ range_with_len 0 count) }
 {
-    let next = count.checked_add(1).ok_or(AllocError)?;
+    let next = sum(count, 1)?;
     let mut to = Vec::new(alloc);
     to.push(count)?;
     to.push(next)?;
@@ -60,13 +68,10 @@ fn ending(
     ensures state { Makes result (ending count (formula_tree state.now) (mono_tree mono.now) (term_tree value.now)) }
 {
     let to = within(alloc, count)?;
-    let result = count.checked_add(2).ok_or(AllocError)?;
-    let past = count.checked_add(3).ok_or(AllocError)?;
-    let is = equal(
-        mono_past(alloc, mono, past),
-        Ok(Term::Var(result)),
-        shift_term(alloc, value, count, 3),
-    );
+    let result = sum(count, 2)?;
+    let past = sum(count, 3)?;
+    let value = shift_term(alloc, value, count, 3);
+    let is = equal(mono_past(alloc, mono, past), Ok(Term::Var(result)), value);
     and(alloc, rename_past(alloc, state, &to, past), is)
 }
 

@@ -1,6 +1,7 @@
 //! What each step owes in a state R.
 
-ghost use Rattle.std.specs.Prelude.{◌≡◌, IfOk, Some, option_map};
+ghost use Rattle.std.specs.Prelude.{◌≡◌, IfOk, Option, Some, option_map};
+ghost use Rattle.htt_syntax.specs.Trees.{FormulaTree};
 ghost use Rattle.htt_syntax.specs.Views.{mono_tree, term_tree, formula_tree};
 ghost use Rattle.htt_syntax.specs.Levels.{triple_tree};
 ghost use Rattle.theory_states.specs.States.{owed, owes_block, move_get, move_run, move_claim};
@@ -45,7 +46,7 @@ fn owed_block(
     place: &Term,
     state: &Formula,
 ) -> Result<Formula, AllocError>
-    ensures owed { Makes result (owes_block (formula_tree state.now) (mono_tree mono.now) (term_tree place.now)) }
+    ensures owed { MakesOwed result (Some (owes_block (formula_tree state.now) (mono_tree mono.now) (term_tree place.now))) }
 {
     let there = block(mono_past(alloc, mono, 4), 1, term_past(alloc, place, 4));
     let split = and(alloc, there, Ok(Formula::Join(2, 1, 0)));
@@ -83,7 +84,15 @@ fn owed_claim(alloc: Global, claim: &Formula, state: &Formula) -> Result<Formula
     )
 }
 
+/// What was made is owed.
+fn some(made: Result<Formula, AllocError>) -> Result<Option<Formula>, AllocError>
+    ensures some { (o : Option FormulaTree) → MakesOwed made o → IfOk result (λ x. option_map formula_tree x ≡ o) }
+{
+    Ok(Some(made?))
+}
+
 /// What a step owes in a state, if anything.
+#[tactic(auto, unfolding(theory_states::specs::States::owed))]
 pub(crate) fn owed(
     alloc: Global,
     step: &Move,
@@ -93,10 +102,10 @@ pub(crate) fn owed(
 {
     match step {
         Move::Alloc(..) => Ok(None),
-        Move::Get(mono, place) => owed_get(alloc, mono, place, state).map(|owed| Some(owed)),
-        Move::Set(mono, place, _) => owed_block(alloc, mono, place, state).map(|owed| Some(owed)),
-        Move::Free(mono, place) => owed_block(alloc, mono, place, state).map(|owed| Some(owed)),
-        Move::Run(triple) => owed_run(alloc, triple, state).map(|owed| Some(owed)),
-        Move::Claim(claim) => owed_claim(alloc, claim, state).map(|owed| Some(owed)),
+        Move::Get(mono, place) => some(owed_get(alloc, mono, place, state)),
+        Move::Set(mono, place, _) => some(owed_block(alloc, mono, place, state)),
+        Move::Free(mono, place) => some(owed_block(alloc, mono, place, state)),
+        Move::Run(triple) => some(owed_run(alloc, triple, state)),
+        Move::Claim(claim) => some(owed_claim(alloc, claim, state)),
     }
 }

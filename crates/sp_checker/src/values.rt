@@ -12,7 +12,7 @@ use htt_syntax_shift::{shift_mono, shift_term};
 use std::alloc::{AllocError, Global};
 
 /// The monotype past `by` more variables.
-#[tactic(auto, using(crate::proofs::Past::mono_past))]
+#[tactic(auto, using(crate::proofs::PastMaps::mono_past))]
 pub(crate) fn mono_past(alloc: Global, mono: &Mono, by: u32) -> Result<Mono, AllocError>
     ensures past { MakesMono result (rename_mono (past by) (mono_tree mono.now)) }
 {
@@ -20,7 +20,7 @@ pub(crate) fn mono_past(alloc: Global, mono: &Mono, by: u32) -> Result<Mono, All
 }
 
 /// The term past `by` more variables.
-#[tactic(auto, using(crate::proofs::Past::term_past))]
+#[tactic(auto, using(crate::proofs::PastMaps::term_past))]
 pub(crate) fn term_past(alloc: Global, term: &Term, by: u32) -> Result<Term, AllocError>
     ensures past { MakesTerm result (rename_term (past by) (term_tree term.now)) }
 {
