@@ -1,9 +1,12 @@
 -- The maps of an end.
-use Rattle.std.proofs.Common.{◌≡◌, ℕ, zero, suc, ◌+◌, ◌-◌, ◌<◌, ◌≤◌, List, [], ◌∷◌, ◌++◌, length, get_or, refl, sym, ap, ◌∙◌, arith, ⊎_elim}
+use Rattle.std.proofs.Common.{◌≡◌, ℕ, zero, suc, ◌+◌, ◌-◌, ◌<◌, ◌≤◌, List, [], ◌∷◌, ◌++◌, length, map, get_or, refl, sym, ap, ◌∙◌, arith, ⊎_elim}
 use Rattle.std.specs.List.{range_with_len}
-use Rattle.htt_syntax.specs.Trees.{MonoTree, TermTree, FormulaTree}
+use Rattle.htt_syntax.specs.Trees.{MonoTree, TermTree, FormulaTree, f_ex_t}
+use Rattle.std.proofs.lemmas.List.{length-map}
+use Rattle.htt_syntax.specs.declared.mono.Mono.{Mono}
+use Rattle.htt_syntax.specs.Views.{mono_tree}
 use Rattle.theory_renaming.specs.Renaming.{Map, lift, lifts, shifting, rename_mono, rename_term, rename_formula}
-use Rattle.theory_states.specs.States.{past, within}
+use Rattle.theory_states.specs.States.{past, within, some_values, ending, finish}
 use Rattle.theory_states.proofs.Shifts.{past_shifts}
 use Rattle.assertions.specs.Listed.{listed}
 use Rattle.assertions.proofs.Lists.{past_adds}
@@ -75,3 +78,32 @@ pub mono_far : (j far : ℕ) (t : MonoTree) → far ≡ j + 3 → rename_mono (p
 mono_far j far t over =
     let same : far ≡ suc (suc (suc j)) = omega (arith, over) in
     ap (λ k. rename_mono (past k) t) same
+
+pub no_values : (count : ℕ) (bound : List Mono) (f : FormulaTree) → bound ≡ [] → f ≡ some_values count (map mono_tree bound) f
+unfolding some_values
+no_values count bound f none = sym (ap (λ (ts : List Mono). some_values count (map mono_tree ts) f) none)
+
+pub more_values : (count next : ℕ) (bound others : List Mono) (first : Mono) (f : FormulaTree)
+    → bound ≡ first ∷ others
+    → next ≡ count + 1
+    → f_ex_t (rename_mono (shifting count 3) (mono_tree first)) (some_values next (map mono_tree others) f)
+    ≡ some_values count (map mono_tree bound) f
+unfolding some_values
+more_values count next bound others first f is one =
+    let up : next ≡ suc count = omega (arith, one) in
+    (λ j. f_ex_t (mono_shift count 3 (mono_tree first) j) (some_values (up j) (map mono_tree others) f))
+    ∙ sym (ap (λ (ts : List Mono). some_values count (map mono_tree ts) f) is)
+
+pub whole_end : (count : ℕ) (bound : List Mono) (R : FormulaTree) (t : MonoTree) (M : TermTree)
+    → length bound ≡ count
+    → some_values 0 (map mono_tree bound) (ending count R t M) ≡ finish R (map mono_tree bound) t M
+unfolding finish
+whole_end count bound R t M as_many =
+    let same : count ≡ length (map mono_tree bound) = sym as_many ∙ sym (length-map bound mono_tree) in
+    ap (λ n. some_values 0 (map mono_tree bound) (ending n R t M)) same
+
+-- ---- lists of monotypes
+
+pub no_items : (bound : List Mono) → length bound ≡ 0 → bound ≡ []
+no_items [] none = refl
+no_items (t ∷ ts) none = absurd (omega (arith, none))

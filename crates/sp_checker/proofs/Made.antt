@@ -26,6 +26,14 @@ module _ {E : Type 0} where
   as_tree (Err e) f g same made = made
   as_tree (Ok m) f g same made = made ∙ same
 
+  pub as_mono : (r : Result Mono E) (t u : MonoTree) → t ≡ u → MakesMono r t → MakesMono r u
+  as_mono (Err e) t u same made = made
+  as_mono (Ok m) t u same made = made ∙ same
+
+  pub as_term : (r : Result Term E) (m n : TermTree) → m ≡ n → MakesTerm r m → MakesTerm r n
+  as_term (Err e) m n same made = made
+  as_term (Ok t) m n same made = made ∙ same
+
   pub some_owed : (r : Result Formula E) (f : FormulaTree) → Makes r f → MakesOwed r (Some f)
   some_owed (Err e) f made = made
   some_owed (Ok m) f made = ap Some made
