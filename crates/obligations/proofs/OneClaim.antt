@@ -1,12 +1,11 @@
 -- A claim comes to one thing.
-use Rattle.std.proofs.Common.{◌≡◌, ℕ, Bool, true, false, List, Option, Some, None, Result, Ok, Err, refl, sym, ap, ◌∙◌, subst, arith}
+use Rattle.std.proofs.Common.{◌≡◌, ℕ, Bool, true, false, List, Option, Ok, Err, refl, sym, ap, ◌∙◌, subst, arith}
 use Rattle.std.specs.Prelude.{slice_get, slice_set}
 use Rattle.obligations.specs.declared.row.Row.{Row}
 use Rattle.obligations.specs.declared.row.State.{State}
-use Rattle.obligations.specs.declared.claims.ClaimStop.{ClaimStop}
 use Rattle.obligations.specs.declared.claims.ClaimStop.TheVariants.{Stray, Twice}
 use Rattle.obligations.specs.Rows.{is_free, AreDistinct, ChangesTo, with_state}
-use Rattle.obligations.specs.Claims.{Names, NoneNamed, StandsAs, ClaimGives, claimed_as}
+use Rattle.obligations.specs.Claims.{NoneNamed, StandsAs, claimed_as}
 use Rattle.obligations.specs.Laws.{ClaimsComeToOne}
 use Rattle.obligations.proofs.Rows.{some_is}
 

@@ -1,5 +1,5 @@
 -- The rows of a table of obligations.
-use Rattle.std.specs.Prelude.{ℕ, suc, ◌≡◌, Bool, true, false, List, [], ◌∷◌, Option, Some, slice_get, slice_set, if◌then◌else◌}
+use Rattle.std.specs.Prelude.{ℕ, suc, ◌≡◌, Bool, true, false, List, [], ◌∷◌, Some, slice_get, slice_set, if◌then◌else◌}
 use Rattle.htt_syntax.specs.declared.sequent.Sequent.{Sequent}
 use Rattle.obligations.specs.declared.row.Row.{Row}
 use Rattle.obligations.specs.declared.row.State.{State}

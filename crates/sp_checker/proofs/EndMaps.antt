@@ -1,13 +1,12 @@
 -- The maps of an end.
-use Rattle.std.proofs.Common.{◌≡◌, ℕ, zero, suc, ◌+◌, ◌-◌, ◌<◌, ◌≤◌, List, [], ◌∷◌, ◌++◌, length, map, get_or, refl, sym, ap, ◌∙◌, arith, ⊎_elim}
+use Rattle.std.proofs.Common.{◌≡◌, ℕ, zero, suc, ◌+◌, List, [], ◌∷◌, ◌++◌, length, map, refl, sym, ap, ◌∙◌, arith}
 use Rattle.std.specs.List.{range_with_len}
 use Rattle.htt_syntax.specs.Trees.{MonoTree, TermTree, FormulaTree, f_ex_t}
 use Rattle.std.proofs.lemmas.List.{length-map}
 use Rattle.htt_syntax.specs.declared.mono.Mono.{Mono}
 use Rattle.htt_syntax.specs.Views.{mono_tree}
-use Rattle.theory_renaming.specs.Renaming.{Map, lift, lifts, shifting, rename_mono, rename_term, rename_formula}
+use Rattle.theory_renaming.specs.Renaming.{lift, lifts, shifting, rename_mono, rename_term, rename_formula}
 use Rattle.theory_states.specs.States.{past, within, some_values, ending, finish}
-use Rattle.theory_states.proofs.Shifts.{past_shifts}
 use Rattle.assertions.specs.Listed.{listed}
 use Rattle.assertions.proofs.Lists.{past_adds}
 

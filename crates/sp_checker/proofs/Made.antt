@@ -1,6 +1,6 @@
 -- A node has the tree of its parts, where each part has one.
-use Rattle.std.proofs.Common.{◌≡◌, ℕ, Option, Some, Result, Ok, Err, refl, sym, ap, ◌∙◌, subst}
-use Rattle.std.specs.Prelude.{IfOk, option_map}
+use Rattle.std.proofs.Common.{◌≡◌, ℕ, Some, Result, Ok, Err, refl, sym, ap, ◌∙◌, subst}
+use Rattle.std.specs.Prelude.{IfOk}
 use Rattle.htt_syntax.specs.declared.mono.Mono.{Mono}
 use Rattle.htt_syntax.specs.declared.tree.Term.{Term}
 use Rattle.htt_syntax.specs.declared.tree.Formula.{Formula}

@@ -1,5 +1,5 @@
 -- Going past variables is a shift from 0 on.
-use Rattle.std.proofs.Common.{◌≡◌, ℕ, zero, sym}
+use Rattle.std.proofs.Common.{◌≡◌, ℕ, sym}
 use Rattle.htt_syntax.specs.Trees.{MonoTree, TermTree}
 use Rattle.theory_renaming.specs.Renaming.{shifting, rename_mono, rename_term}
 use Rattle.theory_states.specs.States.{past}

@@ -1,4 +1,4 @@
-use Rattle.theory_states.specs.States.{owed, owes_block}
+use Rattle.theory_states.specs.States.{owes_block}
 use Rattle.htt_syntax.specs.Levels.{formula_join}
 use Rattle.sp_checker.proofs.Made.{some_owed}
 use Rattle.sp_checker.proofs.owed.owed_block.Goals as goal
