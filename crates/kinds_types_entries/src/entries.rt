@@ -1,6 +1,7 @@
 //! What stands in a context.
 
-ghost use Rattle.std.specs.Prelude.{◌≡◌, suc, option_map, slice_get, IfOk, IfErr};
+ghost use Rattle.std.specs.Prelude.{◌≡◌, suc, ◌+◌, ◌<◌, ◌≤◌, length, option_map, slice_get, IfOk, IfErr};
+ghost use Rattle.std.specs.Bool.{OnTrue, OnFalse};
 ghost use Rattle.htt_syntax.specs.Trees.{TyTree};
 ghost use Rattle.htt_syntax.specs.Views.{ty_tree};
 ghost use Rattle.htt_syntax_words.specs.declared.words.Rule.TheVariants as rules;
@@ -10,6 +11,7 @@ ghost use Rattle.theory_views.specs.Contexts.{entry_tree, context_of};
 ghost use Rattle.theory_checking.specs.Stops.{refused, Finds};
 ghost use Rattle.theory_checking.specs.Limits.{HasRoom};
 ghost use Rattle.theory_checking.specs.Checking.{HeapComesTo};
+ghost use Rattle.kinds_types_entries.specs.Standing.{is_heap_tree, is_mono_tree, term_tree_of};
 ghost use Rattle.kinds_types_entries.specs.Answers.{Answers};
 ghost use Rattle.kinds_types_entries.specs.declared.stop.TypeStop.TheVariants.{NoMemory};
 
@@ -22,7 +24,7 @@ use std::alloc::Global;
 const MOST_ENTRIES: usize = 4096;
 
 /// The entry of this index, where that of the innermost is 0. It takes no memory.
-#[tactic(auto, using(crate::proofs::Entries::entry_there, crate::proofs::Entries::entry_none))]
+#[tactic(auto, using(crate::proofs::Standing::entry_there, crate::proofs::Standing::entry_none))]
 pub fn entry_at(entries: &[Entry], index: u32) -> Option<&Entry>
     ensures entry { option_map (λ e. entry_tree e.now) result ≡ slice_get (context_of entries.now) index }
 {
@@ -30,17 +32,53 @@ pub fn entry_at(entries: &[Entry], index: u32) -> Option<&Entry>
     Some(&entries[place])
 }
 
+/// Whether the variable of this index is a heap. It takes no memory.
+fn heap_at(entries: &[Entry], index: u32) -> bool
+    ensures stands { result ≡ is_heap_tree (slice_get (context_of entries.now) index) }
+{
+    match entry_at(entries, index) {
+        Some(Entry::Heap) => true,
+        Some(Entry::Mono) => false,
+        Some(Entry::Term(_)) => false,
+        None => false,
+    }
+}
+
+/// Whether the variable of this index is a monotype. It takes no memory.
+pub(crate) fn mono_at(entries: &[Entry], index: u32) -> bool
+    ensures stands { result ≡ is_mono_tree (slice_get (context_of entries.now) index) }
+{
+    match entry_at(entries, index) {
+        Some(Entry::Mono) => true,
+        Some(Entry::Heap) => false,
+        Some(Entry::Term(_)) => false,
+        None => false,
+    }
+}
+
+/// The type of the variable of this index as its entry has it, where it is a term. It takes no memory.
+fn term_at(entries: &[Entry], index: u32) -> Option<&Ty>
+    ensures stands { option_map (λ ty. ty_tree ty.now) result ≡ term_tree_of (slice_get (context_of entries.now) index) }
+{
+    match entry_at(entries, index) {
+        Some(Entry::Term(ty)) => Some(ty),
+        Some(Entry::Heap) => None,
+        Some(Entry::Mono) => None,
+        None => None,
+    }
+}
+
 /// Whether the heap of this index is one of the context, at this byte: else the rule is `sort`. It takes no memory.
-#[tactic(auto, using(crate::proofs::Entries::heap_stands, crate::proofs::Entries::heap_only))]
 pub fn is_heap(entries: &[Entry], at: u64, index: u32) -> Result<(), TypeStop>
     ensures comes { Answers (λ u. u) (HeapComesTo (context_of entries.now) at index) result }
 {
-    match entry_at(entries, index) {
-        Some(Entry::Heap) => Ok(()),
-        _ => Err(TypeStop::Ill {
+    if heap_at(entries, index) {
+        Ok(())
+    } else {
+        Err(TypeStop::Ill {
             at,
             rule: Rule::Sort,
-        }),
+        })
     }
 }
 
@@ -60,20 +98,28 @@ fn from_inside(alloc: Global, ty: &Ty, more: u32) -> Result<Ty, TypeStop>
 pub fn entry_type(alloc: Global, entries: &[Entry], at: u64, index: u32) -> Result<Ty, TypeStop>
     ensures comes { Answers ty_tree (Finds (λ (ty : TyTree). HasEntryType (context_of entries.now) index ty) (refused rules.Sort at)) result }
 {
-    match entry_at(entries, index) {
-        Some(Entry::Term(ty)) => from_inside(alloc, ty, index),
-        _ => Err(TypeStop::Ill {
+    match term_at(entries, index) {
+        Some(ty) => from_inside(alloc, ty, index),
+        None => Err(TypeStop::Ill {
             at,
             rule: Rule::Sort,
         }),
     }
 }
 
+/// Whether there is room for so many entries more.
+fn has_room(entries: &[Entry], more: u32) -> bool
+    ensures room { OnTrue result (length entries.now + more ≤ 4096) }
+    ensures no_room { OnFalse result (4096 < length entries.now + more) }
+{
+    entries.len() <= MOST_ENTRIES && more as usize <= MOST_ENTRIES - entries.len()
+}
+
 /// Whether there is room for so many entries more: else the limit `context` is passed. It takes no memory.
 pub fn room(entries: &[Entry], more: u32) -> Result<(), TypeStop>
     ensures comes { Answers (λ u. u) (HasRoom (context_of entries.now) more) result }
 {
-    if entries.len().saturating_add(more as usize) <= MOST_ENTRIES {
+    if has_room(entries, more) {
         Ok(())
     } else {
         Err(TypeStop::Limit(Which::Context))

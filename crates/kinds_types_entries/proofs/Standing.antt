@@ -1,6 +1,7 @@
 -- Contexts, entry by entry.
 use Rattle.std.proofs.Common.{◌≡◌, ℕ, zero, suc, ◌+◌, ◌-◌, ◌<◌, ◌≤◌, List, [], ◌∷◌, length, map, get_or, Option, Some, None, refl, sym, ap, ◌∙◌, subst, arith}
-use Rattle.std.specs.Prelude.{reverse, slice_get}
+use Rattle.std.specs.Prelude.{Bool, true, false, Result, Ok, Err, IfOk, IfErr, reverse, slice_get}
+use Rattle.std.proofs.Math.ListN.{get_or-map}
 use Rattle.std.proofs.lemmas.List.{get_or-reverse, length-map}
 use Rattle.std.proofs.lemmas.Option.{slice_get_past, slice_get-get_or}
 use Rattle.htt_syntax.specs.declared.sequent.Entry.{Entry}
@@ -9,15 +10,18 @@ use Rattle.theory_renaming.specs.Renaming.{Map, lifts, shifting, rename_ty}
 use Rattle.theory_renaming.proofs.Composition.{ty_joins}
 use Rattle.theory_typing.specs.Contexts.{EntryTree, en_mono, en_heap, en_term, Context, IsMonoEntry, mono_here, mono_there}
 use Rattle.theory_typing.specs.Contexts.{IsHeapEntry, heap_here, heap_there, HasEntryType, type_here, type_there}
+use Rattle.htt_syntax.specs.declared.tree.Ty.{Ty}
+use Rattle.htt_syntax.specs.Views.{ty_tree}
+use Rattle.htt_syntax_words.specs.declared.words.Rule.TheVariants.{Sort}
+use Rattle.theory_checking.specs.Stops.{refused, Finds, finds}
+use Rattle.kinds_types_entries.specs.declared.stop.TypeStop.{TypeStop}
+use Rattle.kinds_types_entries.specs.declared.stop.TypeStop.TheVariants.{Ill, Limit, NoMemory}
+use Rattle.kinds_types_entries.specs.Answers.{Answers}
+use Rattle.kinds_types_entries.specs.Standing.{is_heap_tree, is_mono_tree, term_tree_of}
 use Rattle.theory_views.specs.Contexts.{entry_tree, context_of}
 use Rattle.theory_views.proofs.Turned.{turned}
 
 -- ---- an index of the context, as a place of the entries
-
-mapped_at : (entries : List Entry) (k : ℕ) (d : Entry) → get_or (map entry_tree entries) k (entry_tree d) ≡ entry_tree (get_or entries k d)
-mapped_at [] k d = refl
-mapped_at (e ∷ es) zero d = refl
-mapped_at (e ∷ es) (suc k) d = mapped_at es k d
 
 pub entry_there : (entries : List Entry) (place index : ℕ) (d : Entry)
     → place + suc index ≡ length entries
@@ -29,7 +33,7 @@ entry_there entries place index d at =
     let inside : index < length trees = omega (arith, at, many) in
     let same : length trees - 1 - index ≡ place = omega (arith, at, many) in
     slice_get-get_or (context_of entries) index (entry_tree d) within
-    ∙ ap Some (get_or-reverse trees index (entry_tree d) inside ∙ ap (λ k. get_or trees k (entry_tree d)) same ∙ mapped_at entries place d)
+    ∙ ap Some (get_or-reverse trees index (entry_tree d) inside ∙ ap (λ k. get_or trees k (entry_tree d)) same ∙ get_or-map entry_tree entries place d)
 
 pub entry_none : (entries : List Entry) (index : ℕ) → length entries ≤ index → slice_get (context_of entries) index ≡ None
 entry_none entries index over =
@@ -78,3 +82,56 @@ type_stands (e ∷ g) (suc n) ty there =
 pub type_only : {g : Context} {n : ℕ} {ty : TyTree} → HasEntryType g n ty → (own : TyTree) × (slice_get g n ≡ Some (en_term own))
 type_only (type_here {g} {ty}) = (ty, refl)
 type_only (type_there h) = type_only h
+
+-- ---- the answers
+
+heap_of : (e : Option EntryTree) → is_heap_tree e ≡ true → e ≡ Some en_heap
+heap_of None is = absurd (grind (arith, is))
+heap_of (Some en_heap) is = refl
+heap_of (Some en_mono) is = absurd (grind (arith, is))
+heap_of (Some (en_term ty)) is = absurd (grind (arith, is))
+
+mono_of : (e : Option EntryTree) → is_mono_tree e ≡ true → e ≡ Some en_mono
+mono_of None is = absurd (grind (arith, is))
+mono_of (Some en_mono) is = refl
+mono_of (Some en_heap) is = absurd (grind (arith, is))
+mono_of (Some (en_term ty)) is = absurd (grind (arith, is))
+
+term_of : (e : Option EntryTree) (ty : TyTree) → Some ty ≡ term_tree_of e → e ≡ Some (en_term ty)
+term_of None ty is = absurd (grind (arith, is))
+term_of (Some en_mono) ty is = absurd (grind (arith, is))
+term_of (Some en_heap) ty is = absurd (grind (arith, is))
+term_of (Some (en_term own)) ty is = let same : own ≡ ty = grind (arith, is) in ap (λ t. Some (en_term t)) same
+
+pub heap_true : (g : Context) (n : ℕ) → true ≡ is_heap_tree (slice_get g n) → IsHeapEntry g n
+heap_true g n is = heap_stands g n (heap_of (slice_get g n) (sym is))
+
+pub heap_false : (g : Context) (n : ℕ) → false ≡ is_heap_tree (slice_get g n) → IsHeapEntry g n → ⊥
+heap_false g n is h = let no : false ≡ true = is ∙ ap is_heap_tree (heap_only h) in grind (arith, no)
+
+pub mono_true : (g : Context) (n : ℕ) → true ≡ is_mono_tree (slice_get g n) → IsMonoEntry g n
+mono_true g n is = mono_stands g n (mono_of (slice_get g n) (sym is))
+
+pub mono_false : (g : Context) (n : ℕ) → false ≡ is_mono_tree (slice_get g n) → IsMonoEntry g n → ⊥
+mono_false g n is h = let no : false ≡ true = is ∙ ap is_mono_tree (mono_only h) in grind (arith, no)
+
+pub term_true : (g : Context) (n : ℕ) (ty : TyTree) → Some ty ≡ term_tree_of (slice_get g n) → HasEntryType g n (rename_ty (shifting 0 (suc n)) ty)
+term_true g n ty is = type_stands g n ty (term_of (slice_get g n) ty is)
+
+pub term_false : (g : Context) (n : ℕ) → None ≡ term_tree_of (slice_get g n) → (ty : TyTree) → HasEntryType g n ty → ⊥
+term_false g n is ty h =
+    let own = type_only h in
+    let no : None ≡ Some own.0 = is ∙ ap term_tree_of own.1 in
+    grind (arith, no)
+
+-- the entry's type, as it is seen from the whole context
+pub term_comes : (g : Context) (n at : ℕ) (ty : TyTree) (made : Result Ty TypeStop)
+    → Some ty ≡ term_tree_of (slice_get g n)
+    → IfOk made (λ seen. ty_tree seen ≡ rename_ty (shifting 0 (suc n)) ty)
+    → IfErr made (λ stop. stop ≡ NoMemory)
+    → Answers ty_tree (Finds (λ (t : TyTree). HasEntryType g n t) (refused Sort at)) made
+term_comes g n at ty (Ok seen) is same memory =
+    finds (subst (λ (t : TyTree). HasEntryType g n t) (sym same) (term_true g n ty is))
+term_comes g n at ty (Err NoMemory) is same memory = tt
+term_comes g n at ty (Err (Limit which)) is same memory = absurd (let e = memory in cc)
+term_comes g n at ty (Err (Ill byte rule)) is same memory = absurd (let e = memory in cc)
