@@ -60,13 +60,13 @@ pub ruleset forms_levels = (forms_word, forms_bool, forms_loc, forms_unit, forms
 -- ---- monotypes whose values are compared
 
 pub no_unit : IsComparable m_unit → ⊥
-no_unit ()
+no_unit compared = elim compared [ ]
 
 pub no_pair : {a b : MonoTree} → IsComparable (m_pair a b) → ⊥
-no_pair ()
+no_pair compared = elim compared [ ]
 
 pub no_var : {i : ℕ} → IsComparable (m_var i) → ⊥
-no_var ()
+no_var compared = elim compared [ ]
 
 pub ruleset compared_levels = (compares_word, compares_bool, compares_loc, no_unit, no_pair, no_var)
 
