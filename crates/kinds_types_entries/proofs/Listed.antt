@@ -1,9 +1,9 @@
 -- What is found in a list of declared things.
-use Rattle.std.proofs.Common.{◌≡◌, ℕ, List, map, Option, Some, None, Result, Ok, Err, refl, sym, ap, ◌∙◌, arith}
+use Rattle.std.proofs.Common.{◌≡◌, ℕ, List, map, Some, None, Result, Ok, Err, sym, ap, ◌∙◌, arith}
 use Rattle.std.specs.Prelude.{slice_get, option_map, IfOk, IfErr}
 use Rattle.std.proofs.lemmas.Option.{slice_get-map}
 use Rattle.htt_syntax_words.specs.declared.words.Rule.TheVariants.{Sort}
-use Rattle.theory_checking.specs.Stops.{refused, Finds, finds, finds_none}
+use Rattle.theory_checking.specs.Stops.{refused, Finds, finds}
 use Rattle.kinds_types_entries.specs.declared.stop.TypeStop.{TypeStop}
 use Rattle.kinds_types_entries.specs.declared.stop.TypeStop.TheVariants.{Ill, Limit, NoMemory}
 use Rattle.kinds_types_entries.specs.Answers.{Answers}

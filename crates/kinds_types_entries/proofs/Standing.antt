@@ -1,12 +1,12 @@
 -- Contexts, entry by entry.
 use Rattle.std.proofs.Common.{◌≡◌, ℕ, zero, suc, ◌+◌, ◌-◌, ◌<◌, ◌≤◌, List, [], ◌∷◌, length, map, get_or, Option, Some, None, refl, sym, ap, ◌∙◌, subst, arith}
-use Rattle.std.specs.Prelude.{Bool, true, false, Result, Ok, Err, IfOk, IfErr, reverse, slice_get}
+use Rattle.std.specs.Prelude.{true, false, Result, Ok, Err, IfOk, IfErr, slice_get}
 use Rattle.std.proofs.Math.ListN.{get_or-map}
 use Rattle.std.proofs.lemmas.List.{get_or-reverse, length-map}
 use Rattle.std.proofs.lemmas.Option.{slice_get_past, slice_get-get_or}
 use Rattle.htt_syntax.specs.declared.sequent.Entry.{Entry}
 use Rattle.htt_syntax.specs.Trees.{TyTree}
-use Rattle.theory_renaming.specs.Renaming.{Map, lifts, shifting, rename_ty}
+use Rattle.theory_renaming.specs.Renaming.{lifts, shifting, rename_ty}
 use Rattle.theory_renaming.proofs.Composition.{ty_joins}
 use Rattle.theory_typing.specs.Contexts.{EntryTree, en_mono, en_heap, en_term, Context, IsMonoEntry, mono_here, mono_there}
 use Rattle.theory_typing.specs.Contexts.{IsHeapEntry, heap_here, heap_there, HasEntryType, type_here, type_there}

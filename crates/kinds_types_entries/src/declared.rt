@@ -1,6 +1,6 @@
 //! What a file has declared: the types of its values, its definitions with their types, its recursive predicates.
 
-ghost use Rattle.std.specs.Prelude.{◌≡◌, map, slice_get, IfOk, IfErr, Some};
+ghost use Rattle.std.specs.Prelude.{◌≡◌, map, slice_get, option_copied, IfOk, IfErr, Some};
 ghost use Rattle.htt_syntax.specs.Trees.{TyTree, TermTree};
 ghost use Rattle.htt_syntax.specs.Views.{ty_tree};
 ghost use Rattle.htt_syntax_words.specs.declared.words.Rule.TheVariants as rules;
@@ -14,6 +14,13 @@ use crate::stop::TypeStop;
 use htt_syntax::{RecPred, Rule, Term, Ty};
 use htt_syntax_walk::{copy_term, copy_ty};
 use std::alloc::Global;
+
+/// The item of this number, if there is one. It takes no memory.
+fn item_at<T>(items: &[T], number: u32) -> Option<&T>
+    ensures item { option_copied result ≡ slice_get items.now number }
+{
+    items.get(number as usize)
+}
 
 fn copied_type(alloc: Global, ty: &Ty) -> Result<Ty, TypeStop>
     ensures same { IfOk result (λ copy. ty_tree copy ≡ ty_tree ty.now) }
@@ -35,7 +42,7 @@ fn copied_definition(alloc: Global, definition: &(Ty, Term)) -> Result<(Ty, Term
 pub fn value_type(alloc: Global, vals: &[Ty], at: u64, number: u32) -> Result<Ty, TypeStop>
     ensures comes { Answers ty_tree (Finds (λ (ty : TyTree). slice_get (map ty_tree vals.now) number ≡ Some ty) (refused rules.Sort at)) result }
 {
-    match vals.get(number as usize) {
+    match item_at(vals, number) {
         Some(ty) => copied_type(alloc, ty),
         None => Err(TypeStop::Ill {
             at,
@@ -53,7 +60,7 @@ pub fn definition(
 ) -> Result<(Ty, Term), TypeStop>
     ensures comes { Answers def_tree (Finds (λ (d : TyTree × TermTree). slice_get (map def_tree defs.now) number ≡ Some d) (refused rules.Sort at)) result }
 {
-    match defs.get(number as usize) {
+    match item_at(defs, number) {
         Some(definition) => copied_definition(alloc, definition),
         None => Err(TypeStop::Ill {
             at,
@@ -66,7 +73,7 @@ pub fn definition(
 pub fn predicate(recs: &[RecPred], at: u64, number: u32) -> Result<&RecPred, TypeStop>
     ensures comes { Answers (λ r. rec_tree r.now) (Finds (λ (r : RecTree). slice_get (map rec_tree recs.now) number ≡ Some r) (refused rules.Sort at)) result }
 {
-    match recs.get(number as usize) {
+    match item_at(recs, number) {
         Some(predicate) => Ok(predicate),
         None => Err(TypeStop::Ill {
             at,

@@ -1,8 +1,8 @@
 //! A context with a monotype `a`, a location `l`, a value `x` of `a`, and a heap: the heap is 0, x is 1, l is 2, a is 3.
 
 use super::*;
-use htt_syntax::{Entry, Mono, Rule, Ty, Which};
-use htt_syntax_seq::boxed;
+use htt_syntax::{Entry, Formula, Mono, RecPred, Rule, Term, Ty, Which};
+use htt_syntax_seq::{Seq, boxed};
 use std::alloc::{AllocError, Global};
 use std::test::Fail;
 
@@ -91,5 +91,34 @@ fn words_truth_values_and_locations_are_compared(rt: HostRuntime) -> Result<(), 
     ] {
         assert_eq!(rt; comparable(9, &mono), answer);
     }
+    Ok(())
+}
+
+#[test]
+fn numbers_name_what_was_declared(rt: HostRuntime) -> Result<(), Fail> {
+    let alloc = rt.alloc();
+    let vals = [Ty::Mono(Mono::Word), Ty::Mono(Mono::Bool)];
+    let second = value_type(alloc, &vals, 9, 1)?;
+    assert!(rt; matches!(second, Ty::Mono(Mono::Bool)));
+    let third = value_type(alloc, &vals, 9, 2);
+    assert!(rt;
+        matches!(
+            third,
+            Err(TypeStop::Ill {
+                at: 9,
+                rule: Rule::Sort
+            })
+        )
+    );
+    let defs = [(Ty::Mono(Mono::Word), Term::Word(5))];
+    let (ty, term) = definition(alloc, &defs, 9, 0)?;
+    assert!(rt; matches!((ty, term), (Ty::Mono(Mono::Word), Term::Word(5))));
+    let recs = [RecPred {
+        params: Seq::of(Vec::new(alloc)),
+        zero: Formula::Tt,
+        next: Formula::Ff,
+    }];
+    assert!(rt; matches!(predicate(&recs, 9, 0)?.next, Formula::Ff));
+    assert!(rt; predicate(&recs, 9, 1).is_err());
     Ok(())
 }

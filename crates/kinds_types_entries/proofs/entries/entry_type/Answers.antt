@@ -1,5 +1,3 @@
-use Rattle.std.proofs.Common.{sym, ap, ◌∙◌}
-use Rattle.std.specs.Prelude.{option_map}
 use Rattle.htt_syntax.specs.Views.{ty_tree}
 use Rattle.theory_views.specs.Contexts.{context_of}
 use Rattle.theory_checking.specs.Stops.{finds_none}
