@@ -79,13 +79,6 @@ pub fn word(word: u64) -> Result<Term, AllocError>
 }
 
 #[tactic(auto, using(htt_syntax::specs::Levels::term_levels))]
-pub fn truth(truth: bool) -> Result<Term, AllocError>
-    ensures truth { MakesTerm result (t_bool truth) }
-{
-    Ok(Term::Bool(truth))
-}
-
-#[tactic(auto, using(htt_syntax::specs::Levels::term_levels))]
 pub fn place(place: u64) -> Result<Term, AllocError>
     ensures place { MakesTerm result (t_loc place) }
 {
