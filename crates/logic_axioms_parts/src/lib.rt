@@ -3,11 +3,17 @@
 //! its making, so that a formula is one expression.
 #![tactic(auto)]
 
+mod arguments;
 mod folding;
 mod formulas;
 mod terms;
 mod words;
 
+pub use arguments::{
+    five_heaps, five_heaps_and_one_term, four_heaps, no_more, one_heap, one_heap_and_one_term,
+    one_heap_and_three_terms, one_heap_and_two_terms, one_term, three_heaps,
+    three_heaps_and_one_term, three_terms, two_heaps, two_heaps_and_two_terms, two_terms,
+};
 pub use folding::{first, is_equal, operation, second};
 pub use formulas::{
     and, block, cell, emp, equal, exists_heap, exists_word, falsity, implies, join, join_under, or,
