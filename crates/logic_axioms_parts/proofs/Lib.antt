@@ -1,3 +1,0 @@
-pub mod Lifting
-pub mod Folds
-pub mod Givens
