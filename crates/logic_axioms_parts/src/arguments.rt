@@ -55,69 +55,12 @@ pub fn no_more(args: &[Arg]) -> Result<(), AxiomStop>
     }
 }
 
-#[tactic(auto, using(crate::proofs::Givens::another_kind))]
-pub fn one_heap(args: &[Arg]) -> Result<u32, AxiomStop>
-    ensures read { MatchResult result (λ read. map arg_tree args.now ≡ a_heap read ∷ [])
-        (λ stop. (stop ≡ BadInstance) × (are_given (heap ∷ []) (map arg_tree args.now) ≡ false)) }
-{
-    let (h, args) = take_heap(args)?;
-    no_more(args)?;
-    Ok(h)
-}
-
-#[tactic(auto, using(crate::proofs::Givens::another_kind))]
-pub fn two_heaps(args: &[Arg]) -> Result<(u32, u32), AxiomStop>
-    ensures read { MatchResult result (λ read. map arg_tree args.now ≡ a_heap read.0 ∷ a_heap read.1 ∷ [])
-        (λ stop. (stop ≡ BadInstance) × (are_given (heap ∷ heap ∷ []) (map arg_tree args.now) ≡ false)) }
-{
-    let (h, args) = take_heap(args)?;
-    let (a, args) = take_heap(args)?;
-    no_more(args)?;
-    Ok((h, a))
-}
-
-#[tactic(auto, using(crate::proofs::Givens::another_kind))]
-pub fn three_heaps(args: &[Arg]) -> Result<(u32, u32, u32), AxiomStop>
-    ensures read { MatchResult result (λ read. map arg_tree args.now ≡ a_heap read.0 ∷ a_heap read.1 ∷ a_heap read.2 ∷ [])
-        (λ stop. (stop ≡ BadInstance) × (are_given (heap ∷ heap ∷ heap ∷ []) (map arg_tree args.now) ≡ false)) }
-{
-    let (h, args) = take_heap(args)?;
-    let (a, args) = take_heap(args)?;
-    let (b, args) = take_heap(args)?;
-    no_more(args)?;
-    Ok((h, a, b))
-}
-
-#[tactic(auto, using(crate::proofs::Givens::another_kind))]
-pub fn four_heaps(args: &[Arg]) -> Result<(u32, u32, u32, u32), AxiomStop>
-    ensures read { MatchResult result (λ read. map arg_tree args.now ≡ a_heap read.0 ∷ a_heap read.1 ∷ a_heap read.2 ∷ a_heap read.3 ∷ [])
-        (λ stop. (stop ≡ BadInstance) × (are_given (heap ∷ heap ∷ heap ∷ heap ∷ []) (map arg_tree args.now) ≡ false)) }
-{
-    let (h, args) = take_heap(args)?;
-    let (a, args) = take_heap(args)?;
-    let (b, args) = take_heap(args)?;
-    let (c, args) = take_heap(args)?;
-    no_more(args)?;
-    Ok((h, a, b, c))
-}
-
-#[tactic(auto, using(crate::proofs::Givens::another_kind))]
-pub fn five_heaps(args: &[Arg]) -> Result<(u32, u32, u32, u32, u32), AxiomStop>
-    ensures read { MatchResult result (λ read. map arg_tree args.now ≡ a_heap read.0 ∷ a_heap read.1 ∷ a_heap read.2 ∷ a_heap read.3 ∷ a_heap read.4 ∷ [])
-        (λ stop. (stop ≡ BadInstance) × (are_given (heap ∷ heap ∷ heap ∷ heap ∷ heap ∷ []) (map arg_tree args.now) ≡ false)) }
-{
-    let (h, args) = take_heap(args)?;
-    let (a, args) = take_heap(args)?;
-    let (b, args) = take_heap(args)?;
-    let (c, args) = take_heap(args)?;
-    let (d, args) = take_heap(args)?;
-    no_more(args)?;
-    Ok((h, a, b, c, d))
-}
-
+/// One term.
 #[tactic(auto, using(crate::proofs::Givens::another_kind))]
 pub fn one_term(args: &[Arg]) -> Result<&Term, AxiomStop>
-    ensures read { MatchResult result (λ read. map arg_tree args.now ≡ a_term (term_tree read.now) ∷ [])
+    ensures read { MatchResult result
+        (λ read. map arg_tree args.now
+        ≡ a_term (term_tree read.now) ∷ [])
         (λ stop. (stop ≡ BadInstance) × (are_given (term ∷ []) (map arg_tree args.now) ≡ false)) }
 {
     let (m, args) = take_term(args)?;
@@ -125,102 +68,197 @@ pub fn one_term(args: &[Arg]) -> Result<&Term, AxiomStop>
     Ok(m)
 }
 
+/// Two terms.
 #[tactic(auto, using(crate::proofs::Givens::another_kind))]
 pub fn two_terms(args: &[Arg]) -> Result<(&Term, &Term), AxiomStop>
-    ensures read { MatchResult result (λ read. map arg_tree args.now ≡ a_term (term_tree read.0.now) ∷ a_term (term_tree read.1.now) ∷ [])
+    ensures read { MatchResult result
+        (λ read. map arg_tree args.now
+        ≡ a_term (term_tree read.0.now) ∷ a_term (term_tree read.1.now) ∷ [])
         (λ stop. (stop ≡ BadInstance) × (are_given (term ∷ term ∷ []) (map arg_tree args.now) ≡ false)) }
 {
     let (m, args) = take_term(args)?;
-    let (n, args) = take_term(args)?;
-    no_more(args)?;
+    let n = one_term(args)?;
     Ok((m, n))
 }
 
+/// Three terms.
 #[tactic(auto, using(crate::proofs::Givens::another_kind))]
 pub fn three_terms(args: &[Arg]) -> Result<(&Term, &Term, &Term), AxiomStop>
-    ensures read { MatchResult result (λ read. map arg_tree args.now ≡ a_term (term_tree read.0.now) ∷ a_term (term_tree read.1.now) ∷ a_term (term_tree read.2.now) ∷ [])
+    ensures read { MatchResult result
+        (λ read. map arg_tree args.now
+        ≡ a_term (term_tree read.0.now) ∷ a_term (term_tree read.1.now) ∷ a_term (term_tree read.2.now) ∷ [])
         (λ stop. (stop ≡ BadInstance) × (are_given (term ∷ term ∷ term ∷ []) (map arg_tree args.now) ≡ false)) }
 {
     let (m, args) = take_term(args)?;
-    let (n, args) = take_term(args)?;
-    let (p, args) = take_term(args)?;
-    no_more(args)?;
+    let (n, p) = two_terms(args)?;
     Ok((m, n, p))
 }
 
+/// One heap.
+#[tactic(auto, using(crate::proofs::Givens::another_kind))]
+pub fn one_heap(args: &[Arg]) -> Result<u32, AxiomStop>
+    ensures read { MatchResult result
+        (λ read. map arg_tree args.now
+        ≡ a_heap read ∷ [])
+        (λ stop. (stop ≡ BadInstance) × (are_given (heap ∷ []) (map arg_tree args.now) ≡ false)) }
+{
+    let (h, args) = take_heap(args)?;
+    no_more(args)?;
+    Ok(h)
+}
+
+/// Two heaps.
+#[tactic(auto, using(crate::proofs::Givens::another_kind))]
+pub fn two_heaps(args: &[Arg]) -> Result<(u32, u32), AxiomStop>
+    ensures read { MatchResult result
+        (λ read. map arg_tree args.now
+        ≡ a_heap read.0 ∷ a_heap read.1 ∷ [])
+        (λ stop. (stop ≡ BadInstance) × (are_given (heap ∷ heap ∷ []) (map arg_tree args.now) ≡ false)) }
+{
+    let (h, args) = take_heap(args)?;
+    let a = one_heap(args)?;
+    Ok((h, a))
+}
+
+/// Three heaps.
+#[tactic(auto, using(crate::proofs::Givens::another_kind))]
+pub fn three_heaps(args: &[Arg]) -> Result<(u32, u32, u32), AxiomStop>
+    ensures read { MatchResult result
+        (λ read. map arg_tree args.now
+        ≡ a_heap read.0 ∷ a_heap read.1 ∷ a_heap read.2 ∷ [])
+        (λ stop. (stop ≡ BadInstance) × (are_given (heap ∷ heap ∷ heap ∷ []) (map arg_tree args.now) ≡ false)) }
+{
+    let (h, args) = take_heap(args)?;
+    let (a, b) = two_heaps(args)?;
+    Ok((h, a, b))
+}
+
+/// Four heaps.
+#[tactic(auto, using(crate::proofs::Givens::another_kind))]
+pub fn four_heaps(args: &[Arg]) -> Result<(u32, u32, u32, u32), AxiomStop>
+    ensures read { MatchResult result
+        (λ read. map arg_tree args.now
+        ≡ a_heap read.0 ∷ a_heap read.1 ∷ a_heap read.2 ∷ a_heap read.3 ∷ [])
+        (λ stop. (stop ≡ BadInstance) × (are_given (heap ∷ heap ∷ heap ∷ heap ∷ []) (map arg_tree args.now) ≡ false)) }
+{
+    let (h, args) = take_heap(args)?;
+    let (a, b, c) = three_heaps(args)?;
+    Ok((h, a, b, c))
+}
+
+/// Five heaps.
+#[tactic(auto, using(crate::proofs::Givens::another_kind))]
+pub fn five_heaps(args: &[Arg]) -> Result<(u32, u32, u32, u32, u32), AxiomStop>
+    ensures read { MatchResult result
+        (λ read. map arg_tree args.now
+        ≡ a_heap read.0 ∷ a_heap read.1 ∷ a_heap read.2 ∷ a_heap read.3 ∷ a_heap read.4 ∷ [])
+        (λ stop. (stop ≡ BadInstance) × (are_given (heap ∷ heap ∷ heap ∷ heap ∷ heap ∷ []) (map arg_tree args.now) ≡ false)) }
+{
+    let (h, args) = take_heap(args)?;
+    let (a, b, c, d) = four_heaps(args)?;
+    Ok((h, a, b, c, d))
+}
+
+/// One heap and one term.
 #[tactic(auto, using(crate::proofs::Givens::another_kind))]
 pub fn one_heap_and_one_term(args: &[Arg]) -> Result<(u32, &Term), AxiomStop>
-    ensures read { MatchResult result (λ read. map arg_tree args.now ≡ a_heap read.0 ∷ a_term (term_tree read.1.now) ∷ [])
+    ensures read { MatchResult result
+        (λ read. map arg_tree args.now
+        ≡ a_heap read.0 ∷ a_term (term_tree read.1.now) ∷ [])
         (λ stop. (stop ≡ BadInstance) × (are_given (heap ∷ term ∷ []) (map arg_tree args.now) ≡ false)) }
 {
     let (h, args) = take_heap(args)?;
-    let (m, args) = take_term(args)?;
-    no_more(args)?;
+    let m = one_term(args)?;
     Ok((h, m))
 }
 
+/// One heap and two terms.
 #[tactic(auto, using(crate::proofs::Givens::another_kind))]
 pub fn one_heap_and_two_terms(args: &[Arg]) -> Result<(u32, &Term, &Term), AxiomStop>
-    ensures read { MatchResult result (λ read. map arg_tree args.now ≡ a_heap read.0 ∷ a_term (term_tree read.1.now) ∷ a_term (term_tree read.2.now) ∷ [])
+    ensures read { MatchResult result
+        (λ read. map arg_tree args.now
+        ≡ a_heap read.0 ∷ a_term (term_tree read.1.now) ∷ a_term (term_tree read.2.now) ∷ [])
         (λ stop. (stop ≡ BadInstance) × (are_given (heap ∷ term ∷ term ∷ []) (map arg_tree args.now) ≡ false)) }
 {
     let (h, args) = take_heap(args)?;
-    let (m, args) = take_term(args)?;
-    let (n, args) = take_term(args)?;
-    no_more(args)?;
+    let (m, n) = two_terms(args)?;
     Ok((h, m, n))
 }
 
+/// One heap and three terms.
 #[tactic(auto, using(crate::proofs::Givens::another_kind))]
 pub fn one_heap_and_three_terms(args: &[Arg]) -> Result<(u32, &Term, &Term, &Term), AxiomStop>
-    ensures read { MatchResult result (λ read. map arg_tree args.now ≡ a_heap read.0 ∷ a_term (term_tree read.1.now) ∷ a_term (term_tree read.2.now) ∷ a_term (term_tree read.3.now) ∷ [])
+    ensures read { MatchResult result
+        (λ read. map arg_tree args.now
+        ≡ a_heap read.0 ∷ a_term (term_tree read.1.now) ∷ a_term (term_tree read.2.now) ∷ a_term (term_tree read.3.now) ∷ [])
         (λ stop. (stop ≡ BadInstance) × (are_given (heap ∷ term ∷ term ∷ term ∷ []) (map arg_tree args.now) ≡ false)) }
 {
     let (h, args) = take_heap(args)?;
-    let (m, args) = take_term(args)?;
-    let (n, args) = take_term(args)?;
-    let (p, args) = take_term(args)?;
-    no_more(args)?;
+    let (m, n, p) = three_terms(args)?;
     Ok((h, m, n, p))
 }
 
+/// Two heaps and one term.
+#[tactic(auto, using(crate::proofs::Givens::another_kind))]
+fn two_heaps_and_one_term(args: &[Arg]) -> Result<(u32, u32, &Term), AxiomStop>
+    ensures read { MatchResult result
+        (λ read. map arg_tree args.now
+        ≡ a_heap read.0 ∷ a_heap read.1 ∷ a_term (term_tree read.2.now) ∷ [])
+        (λ stop. (stop ≡ BadInstance) × (are_given (heap ∷ heap ∷ term ∷ []) (map arg_tree args.now) ≡ false)) }
+{
+    let (h, args) = take_heap(args)?;
+    let (a, m) = one_heap_and_one_term(args)?;
+    Ok((h, a, m))
+}
+
+/// Two heaps and two terms.
 #[tactic(auto, using(crate::proofs::Givens::another_kind))]
 pub fn two_heaps_and_two_terms(args: &[Arg]) -> Result<(u32, u32, &Term, &Term), AxiomStop>
-    ensures read { MatchResult result (λ read. map arg_tree args.now ≡ a_heap read.0 ∷ a_heap read.1 ∷ a_term (term_tree read.2.now) ∷ a_term (term_tree read.3.now) ∷ [])
+    ensures read { MatchResult result
+        (λ read. map arg_tree args.now
+        ≡ a_heap read.0 ∷ a_heap read.1 ∷ a_term (term_tree read.2.now) ∷ a_term (term_tree read.3.now) ∷ [])
         (λ stop. (stop ≡ BadInstance) × (are_given (heap ∷ heap ∷ term ∷ term ∷ []) (map arg_tree args.now) ≡ false)) }
 {
     let (h, args) = take_heap(args)?;
-    let (a, args) = take_heap(args)?;
-    let (m, args) = take_term(args)?;
-    let (n, args) = take_term(args)?;
-    no_more(args)?;
+    let (a, m, n) = one_heap_and_two_terms(args)?;
     Ok((h, a, m, n))
 }
 
+/// Three heaps and one term.
 #[tactic(auto, using(crate::proofs::Givens::another_kind))]
 pub fn three_heaps_and_one_term(args: &[Arg]) -> Result<(u32, u32, u32, &Term), AxiomStop>
-    ensures read { MatchResult result (λ read. map arg_tree args.now ≡ a_heap read.0 ∷ a_heap read.1 ∷ a_heap read.2 ∷ a_term (term_tree read.3.now) ∷ [])
+    ensures read { MatchResult result
+        (λ read. map arg_tree args.now
+        ≡ a_heap read.0 ∷ a_heap read.1 ∷ a_heap read.2 ∷ a_term (term_tree read.3.now) ∷ [])
         (λ stop. (stop ≡ BadInstance) × (are_given (heap ∷ heap ∷ heap ∷ term ∷ []) (map arg_tree args.now) ≡ false)) }
 {
     let (h, args) = take_heap(args)?;
-    let (a, args) = take_heap(args)?;
-    let (b, args) = take_heap(args)?;
-    let (m, args) = take_term(args)?;
-    no_more(args)?;
+    let (a, b, m) = two_heaps_and_one_term(args)?;
     Ok((h, a, b, m))
 }
 
+/// Four heaps and one term.
+#[tactic(auto, using(crate::proofs::Givens::another_kind))]
+fn four_heaps_and_one_term(args: &[Arg]) -> Result<(u32, u32, u32, u32, &Term), AxiomStop>
+    ensures read { MatchResult result
+        (λ read. map arg_tree args.now
+        ≡ a_heap read.0 ∷ a_heap read.1 ∷ a_heap read.2 ∷ a_heap read.3 ∷ a_term (term_tree read.4.now) ∷ [])
+        (λ stop. (stop ≡ BadInstance) × (are_given (heap ∷ heap ∷ heap ∷ heap ∷ term ∷ []) (map arg_tree args.now) ≡ false)) }
+{
+    let (h, args) = take_heap(args)?;
+    let (a, b, c, m) = three_heaps_and_one_term(args)?;
+    Ok((h, a, b, c, m))
+}
+
+/// Five heaps and one term.
 #[tactic(auto, using(crate::proofs::Givens::another_kind))]
 pub fn five_heaps_and_one_term(args: &[Arg]) -> Result<(u32, u32, u32, u32, u32, &Term), AxiomStop>
-    ensures read { MatchResult result (λ read. map arg_tree args.now ≡ a_heap read.0 ∷ a_heap read.1 ∷ a_heap read.2 ∷ a_heap read.3 ∷ a_heap read.4 ∷ a_term (term_tree read.5.now) ∷ [])
+    ensures read { MatchResult result
+        (λ read. map arg_tree args.now
+        ≡ a_heap read.0 ∷ a_heap read.1 ∷ a_heap read.2 ∷ a_heap read.3 ∷ a_heap read.4 ∷ a_term (term_tree read.5.now) ∷ [])
         (λ stop. (stop ≡ BadInstance) × (are_given (heap ∷ heap ∷ heap ∷ heap ∷ heap ∷ term ∷ []) (map arg_tree args.now) ≡ false)) }
 {
     let (h, args) = take_heap(args)?;
-    let (a, args) = take_heap(args)?;
-    let (b, args) = take_heap(args)?;
-    let (c, args) = take_heap(args)?;
-    let (d, args) = take_heap(args)?;
-    let (m, args) = take_term(args)?;
-    no_more(args)?;
+    let (a, b, c, d, m) = four_heaps_and_one_term(args)?;
     Ok((h, a, b, c, d, m))
 }

@@ -3,12 +3,15 @@
 //! its making, so that a formula is one expression.
 #![tactic(auto)]
 
+mod answers;
 mod arguments;
 mod folding;
 mod formulas;
 mod terms;
+pub mod trial;
 mod words;
 
+pub use answers::answer;
 pub use arguments::{
     five_heaps, five_heaps_and_one_term, four_heaps, no_more, one_heap, one_heap_and_one_term,
     one_heap_and_three_terms, one_heap_and_two_terms, one_term, three_heaps,
