@@ -1,6 +1,6 @@
--- Which arguments are given: heaps and terms.
+-- Which arguments and how many monotypes are given.
 use Rattle.std.specs.Prelude.{List, [], ◌∷◌, Bool, true, false}
-use Rattle.htt_syntax.specs.Trees.{ArgTree, a_heap, a_term}
+use Rattle.htt_syntax.specs.Trees.{MonoTree, ArgTree, a_heap, a_term}
 use Rattle.theory_logic_axioms.specs.Table.{ArgSort, heap_sort, term_sort}
 
 pub data Kind : Type 0 where
@@ -21,3 +21,15 @@ begins_with _ _ = false
 abbrev pub kind_of : ArgSort → Kind
 kind_of heap_sort = heap
 kind_of (term_sort t) = term
+
+abbrev pub are_none : List MonoTree → Bool
+are_none [] = true
+are_none _ = false
+
+abbrev pub are_one : List MonoTree → Bool
+are_one (t ∷ []) = true
+are_one _ = false
+
+abbrev pub are_two : List MonoTree → Bool
+are_two (t ∷ s ∷ []) = true
+are_two _ = false

@@ -7,8 +7,8 @@ mod answers;
 mod arguments;
 mod folding;
 mod formulas;
+mod monotypes;
 mod terms;
-pub mod trial;
 mod words;
 
 pub use answers::answer;
@@ -22,6 +22,7 @@ pub use formulas::{
     and, block, cell, emp, equal, exists_heap, exists_word, falsity, implies, join, join_under, or,
     same,
 };
+pub use monotypes::{no_mono, one_mono, two_monos};
 pub use terms::{
     lifted_heap, lifted_mono, lifted_term, mono, pair, pair_mono, place, term, unit, variable, word,
 };
