@@ -36,8 +36,8 @@ pub own_formula : (t : FormulaTree) (z : Size)
     → z ≡ formula_measure t
 own_formula t z h = h kept 0 refl refl ∙ ap formula_measure (formula_kept t 0)
 
-pub own_comp : (t : CompTree) (y z : Size)
+pub own_comp : (t : CompTree) (z y : Size)
     → ((p : Puts) (d : ℕ) → p ≡ kept → 0 ≡ saturated d → z ≡ comp_measure (walk_comp p d t))
     → y ≡ deeper z
     → y ≡ deeper (comp_measure t)
-own_comp t y z h is = is ∙ ap deeper (h kept 0 refl refl ∙ ap comp_measure (comp_kept t 0))
+own_comp t z y h is = is ∙ ap deeper (h kept 0 refl refl ∙ ap comp_measure (comp_kept t 0))

@@ -30,7 +30,8 @@ beside_none : (n d : ℕ) → told n d ≡ beside nothing (told n d)
 unfolding told beside nothing
 beside_none n d =
     let nodes : saturated n ≡ saturated (0 + saturated n) = omega arith in
-    λ j. record { nodes = nodes j; depth = saturated d }
+    let depth : saturated d ≡ max 0 (saturated d) = omega arith in
+    λ j. record { nodes = nodes j; depth = depth j }
 
 none_beside : (a : Size) → a.nodes < 2 ^ 64 → beside a nothing ≡ a
 unfolding beside nothing
@@ -88,7 +89,9 @@ terms_end p d i xs total all few =
 pub params_start : (p : Puts) (d : ℕ) (xs : List Ty) (rest : FixTree) (z : Size) → z ≡ nothing
     → fix_measure (walk_fix p d (params_tree xs rest)) ≡ beside z (fix_measure (walk_fix p (d + 0) (params_tree xs rest)))
 unfolding fix_measure
-params_start p d xs rest z none = rw none (beside_none _ _)
+params_start p d xs rest z none =
+    let deep : d ≡ d + 0 = omega arith in
+    rw none (beside_none _ _ ∙ ap (λ n. beside nothing (fix_measure (walk_fix p n (params_tree xs rest)))) deep)
 
 pub params_next : (p : Puts) (d i : ℕ) (xs : List Ty) (x : Ty) (rest : FixTree) (total first more : Size)
     → i < length xs
@@ -125,7 +128,9 @@ pub steps_start : (p : Puts) (d : ℕ) (xs : List Step) (result : TermTree) (z :
     → comp_measure (walk_comp p d (steps_tree xs result))
     ≡ beside z (comp_measure (walk_comp p (d + 0) (steps_tree xs result)))
 unfolding comp_measure
-steps_start p d xs result z none = rw none (beside_none _ _)
+steps_start p d xs result z none =
+    let deep : d ≡ d + 0 = omega arith in
+    rw none (beside_none _ _ ∙ ap (λ n. beside nothing (comp_measure (walk_comp p n (steps_tree xs result)))) deep)
 
 pub steps_next : (p : Puts) (d i : ℕ) (xs : List Step) (x : Step) (result : TermTree) (total first more : Size)
     → i < length xs

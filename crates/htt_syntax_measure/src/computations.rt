@@ -8,9 +8,9 @@ ghost use Rattle.htt_syntax_walk.specs.Walk.{Puts, walk_fix, walk_comp, walk_ste
 ghost use Rattle.theory_saturation.specs.Saturation.{saturated};
 ghost use Rattle.htt_syntax_measure.specs.Measures.{fix_measure, comp_measure, step_measure, AreParams, AreSteps};
 
+use crate::depths::under;
 use crate::formulas::formula_under;
 use crate::mono::{measure_mono, measure_mono_option};
-use crate::depths::under;
 use crate::size::Size;
 use crate::sizes::Sizes;
 use crate::terms::measure_term;
@@ -118,11 +118,7 @@ pub(crate) fn fix_box<S: Sizes>(fix: &Boxed<Fix>, sizes: &S, depth: u64) -> Size
 }
 
 #[cycle(measure)]
-pub(crate) fn comp_box<S: Sizes>(
-    comp: &Boxed<Comp>,
-    sizes: &S,
-    depth: u64,
-) -> Size
+pub(crate) fn comp_box<S: Sizes>(comp: &Boxed<Comp>, sizes: &S, depth: u64) -> Size
     ensures sized { (p : Puts) (d : ℕ) → S.measures sizes.now p → depth ≡ saturated d → result ≡ comp_measure (walk_comp p d (comp_tree comp.now)) }
 {
     measure_comp(comp.get(), sizes, depth)

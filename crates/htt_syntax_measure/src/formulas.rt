@@ -6,8 +6,8 @@ ghost use Rattle.htt_syntax_walk.specs.Walk.{Puts, walk_formula};
 ghost use Rattle.theory_saturation.specs.Saturation.{saturated};
 ghost use Rattle.htt_syntax_measure.specs.Measures.{formula_measure};
 
-use crate::mono::measure_mono;
 use crate::depths::under;
+use crate::mono::measure_mono;
 use crate::size::Size;
 use crate::sizes::Sizes;
 use crate::terms::{measure_term, measure_terms};
@@ -18,11 +18,7 @@ use sqlite_items::Boxed;
 /// so that a missing or wrong one is seen.
 #[cycle(measure)]
 #[tactic(auto, using(htt_syntax::specs::Levels::formula_levels, htt_syntax_walk::specs::WalkLevels::formula_walks, crate::proofs::MeasureLevels::formula_measures))]
-pub fn measure_formula<S: Sizes>(
-    formula: &Formula,
-    sizes: &S,
-    depth: u64,
-) -> Size
+pub fn measure_formula<S: Sizes>(formula: &Formula, sizes: &S, depth: u64) -> Size
     ensures sized { (p : Puts) (d : ℕ) → S.measures sizes.now p → depth ≡ saturated d → result ≡ formula_measure (walk_formula p d (formula_tree formula.now)) }
 {
     match formula {
@@ -76,23 +72,14 @@ pub fn measure_formula<S: Sizes>(
 }
 
 #[cycle(measure)]
-fn formula_box<S: Sizes>(
-    formula: &Boxed<Formula>,
-    sizes: &S,
-    depth: u64,
-) -> Size
+fn formula_box<S: Sizes>(formula: &Boxed<Formula>, sizes: &S, depth: u64) -> Size
     ensures sized { (p : Puts) (d : ℕ) → S.measures sizes.now p → depth ≡ saturated d → result ≡ formula_measure (walk_formula p d (formula_tree formula.now)) }
 {
     measure_formula(formula.get(), sizes, depth)
 }
 
 #[cycle(measure)]
-fn formula_box_under<S: Sizes>(
-    body: &Boxed<Formula>,
-    sizes: &S,
-    depth: u64,
-    by: u64,
-) -> Size
+fn formula_box_under<S: Sizes>(body: &Boxed<Formula>, sizes: &S, depth: u64, by: u64) -> Size
     ensures sized { (p : Puts) (d : ℕ) → S.measures sizes.now p → depth ≡ saturated d → result ≡ formula_measure (walk_formula p (d + by) (formula_tree body.now)) }
 {
     formula_box(body, sizes, under(depth, by))
@@ -100,12 +87,7 @@ fn formula_box_under<S: Sizes>(
 
 /// The size of a formula that stands under `by` more binders.
 #[cycle(measure)]
-pub(crate) fn formula_under<S: Sizes>(
-    body: &Formula,
-    sizes: &S,
-    depth: u64,
-    by: u64,
-) -> Size
+pub(crate) fn formula_under<S: Sizes>(body: &Formula, sizes: &S, depth: u64, by: u64) -> Size
     ensures sized { (p : Puts) (d : ℕ) → S.measures sizes.now p → depth ≡ saturated d → result ≡ formula_measure (walk_formula p (d + by) (formula_tree body.now)) }
 {
     measure_formula(body, sizes, under(depth, by))

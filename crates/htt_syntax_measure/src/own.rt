@@ -33,7 +33,6 @@ impl Sizes for Own {
 }
 
 /// The size of the monotype.
-#[tactic(auto, using(crate::proofs::Itself::own_mono))]
 pub fn size_of_mono(mono: &Mono) -> Size
     ensures sized { result ≡ mono_measure (mono_tree mono.now) }
 {
@@ -41,7 +40,6 @@ pub fn size_of_mono(mono: &Mono) -> Size
 }
 
 /// The size of the type.
-#[tactic(auto, using(crate::proofs::Itself::own_ty))]
 pub fn size_of_ty(ty: &Ty) -> Size
     ensures sized { result ≡ ty_measure (ty_tree ty.now) }
 {
@@ -49,7 +47,6 @@ pub fn size_of_ty(ty: &Ty) -> Size
 }
 
 /// The size of the term.
-#[tactic(auto, using(crate::proofs::Itself::own_term))]
 pub fn size_of_term(term: &Term) -> Size
     ensures sized { result ≡ term_measure (term_tree term.now) }
 {
@@ -57,7 +54,6 @@ pub fn size_of_term(term: &Term) -> Size
 }
 
 /// The size of the formula.
-#[tactic(auto, using(crate::proofs::Itself::own_formula))]
 pub fn size_of_formula(formula: &Formula) -> Size
     ensures sized { result ≡ formula_measure (formula_tree formula.now) }
 {
@@ -65,7 +61,6 @@ pub fn size_of_formula(formula: &Formula) -> Size
 }
 
 /// The size of the computation, whose own node is one.
-#[tactic(auto, using(crate::proofs::Itself::own_comp))]
 pub fn size_of_comp(comp: &Comp) -> Size
     ensures sized { result ≡ deeper (comp_measure (comp_tree comp.now)) }
 {

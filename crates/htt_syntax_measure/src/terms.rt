@@ -8,8 +8,8 @@ ghost use Rattle.theory_saturation.specs.Saturation.{saturated};
 ghost use Rattle.htt_syntax_measure.specs.Measures.{term_measure, terms_measure};
 
 use crate::computations::{comp_box, fix_box};
-use crate::mono::measure_mono;
 use crate::depths::under;
+use crate::mono::measure_mono;
 use crate::size::Size;
 use crate::sizes::Sizes;
 use crate::types::ty_box;
@@ -65,7 +65,10 @@ pub fn measure_term<S: Sizes>(term: &Term, sizes: &S, depth: u64) -> Size
             term_box(on_true, sizes, depth),
             term_box(on_false, sizes, depth),
         ),
-        Term::Ann(term, ty) => Size::node_of_two(term_box(term, sizes, depth), ty_box(ty, sizes, depth)),
+        Term::Ann(term, ty) => Size::node_of_two(
+            term_box(term, sizes, depth),
+            ty_box(ty, sizes, depth),
+        ),
         Term::Made(_, values) => measure_terms(values.as_slice(), sizes, depth).under_node(),
         Term::At(_, term) => term_box(term, sizes, depth),
     }
@@ -73,11 +76,7 @@ pub fn measure_term<S: Sizes>(term: &Term, sizes: &S, depth: u64) -> Size
 
 /// The size of terms that stand side by side under the same binders.
 #[cycle(measure)]
-pub(crate) fn measure_terms<S: Sizes>(
-    terms: &[Term],
-    sizes: &S,
-    depth: u64,
-) -> Size
+pub(crate) fn measure_terms<S: Sizes>(terms: &[Term], sizes: &S, depth: u64) -> Size
     ensures sized { (p : Puts) (d : ℕ) → S.measures sizes.now p → depth ≡ saturated d → result ≡ terms_measure (walk_terms p d (term_trees terms.now)) }
 {
     let mut total = Size::nothing();
@@ -95,12 +94,7 @@ fn term_box<S: Sizes>(term: &Boxed<Term>, sizes: &S, depth: u64) -> Size
 }
 
 #[cycle(measure)]
-fn term_box_under<S: Sizes>(
-    term: &Boxed<Term>,
-    sizes: &S,
-    depth: u64,
-    by: u64,
-) -> Size
+fn term_box_under<S: Sizes>(term: &Boxed<Term>, sizes: &S, depth: u64, by: u64) -> Size
     ensures sized { (p : Puts) (d : ℕ) → S.measures sizes.now p → depth ≡ saturated d → result ≡ term_measure (walk_term p (d + by) (term_tree term.now)) }
 {
     term_box(term, sizes, under(depth, by))

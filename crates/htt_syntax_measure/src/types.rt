@@ -7,15 +7,15 @@ ghost use Rattle.htt_syntax_walk.specs.Walk.{Puts, walk_ty, walk_triple};
 ghost use Rattle.theory_saturation.specs.Saturation.{saturated};
 ghost use Rattle.htt_syntax_measure.specs.Measures.{ty_measure, triple_measure};
 
+use crate::depths::under;
 use crate::formulas::formula_under;
 use crate::mono::measure_mono;
-use crate::depths::under;
 use crate::size::Size;
 use crate::sizes::Sizes;
 use htt_syntax::{Triple, Ty};
 use sqlite_items::Boxed;
 
-/// The size of the type with what is put for its variables; `depth` binders stand around it. 
+/// The size of the type with what is put for its variables; `depth` binders stand around it.
 #[cycle(measure)]
 #[tactic(auto, using(htt_syntax::specs::Levels::ty_levels, htt_syntax_walk::specs::WalkLevels::ty_walks, crate::proofs::MeasureLevels::ty_measures))]
 pub fn measure_ty<S: Sizes>(ty: &Ty, sizes: &S, depth: u64) -> Size
@@ -36,11 +36,7 @@ pub fn measure_ty<S: Sizes>(ty: &Ty, sizes: &S, depth: u64) -> Size
 /// The size of the triple, likewise.
 #[cycle(measure)]
 #[tactic(auto, using(htt_syntax_walk::specs::WalkLevels::triple_walks, crate::proofs::MeasureLevels::triple_of_measure), unfolding(htt_syntax::specs::Levels::triple_tree))]
-pub(crate) fn measure_triple<S: Sizes>(
-    triple: &Triple,
-    sizes: &S,
-    depth: u64,
-) -> Size
+pub(crate) fn measure_triple<S: Sizes>(triple: &Triple, sizes: &S, depth: u64) -> Size
     ensures sized { (p : Puts) (d : ℕ) → S.measures sizes.now p → depth ≡ saturated d → result ≡ triple_measure (walk_triple p d (triple_tree triple.now)) }
 {
     Size::node_of_three(
@@ -59,12 +55,7 @@ pub(crate) fn ty_box<S: Sizes>(ty: &Boxed<Ty>, sizes: &S, depth: u64) -> Size
 }
 
 #[cycle(measure)]
-fn ty_box_under<S: Sizes>(
-    ty: &Boxed<Ty>,
-    sizes: &S,
-    depth: u64,
-    by: u64,
-) -> Size
+fn ty_box_under<S: Sizes>(ty: &Boxed<Ty>, sizes: &S, depth: u64, by: u64) -> Size
     ensures sized { (p : Puts) (d : ℕ) → S.measures sizes.now p → depth ≡ saturated d → result ≡ ty_measure (walk_ty p (d + by) (ty_tree ty.now)) }
 {
     ty_box(ty, sizes, under(depth, by))
