@@ -1,59 +1,64 @@
 //! Sizes counted by hand.
 
-use crate::{Size, size_of_formula, size_of_mono};
-use htt_syntax::{Comp, Formula, Mono, Op, Step, Term};
-use htt_syntax_seq::Seq;
-use sqlite_items::Boxed;
+use crate::{Size, size_of_formula, size_of_mono, size_of_term};
+use htt_syntax::{Formula, Mono, Op, Step, Term};
+use htt_syntax_build::{comp, formula_block, mono_pair, step_get, term_at, term_bin};
+use htt_syntax_seq::{Seq, boxed};
 use std::alloc::{AllocError, Global};
 use std::test::Fail;
 
-fn boxed(alloc: Global, term: Term) -> Result<Boxed<Term>, AllocError> {
-    Boxed::new(alloc, term)
+fn pair(alloc: Global) -> Result<Mono, AllocError> {
+    mono_pair(boxed(alloc, Ok(Mono::Word)), boxed(alloc, Ok(Mono::Bool)))
 }
 
-/// `do _ <- get[word] place 1; ret 2 + 3`: the `do`, the computation, the step with its monotype and its place, and the
-/// sum with its operands.
-fn computation(alloc: Global) -> Result<Term, AllocError> {
-    let mut steps = Vec::new(alloc);
-    steps.push(Step::Get(Mono::Word, Term::Loc(1)))?;
-    let sum = Term::Bin(
+/// A block of pairs at a place that has its byte.
+fn block(alloc: Global) -> Result<Formula, AllocError> {
+    formula_block(
+        pair(alloc),
+        Ok(0),
+        term_at(7, boxed(alloc, Ok(Term::Loc(1)))),
+    )
+}
+
+fn sum(alloc: Global) -> Result<Term, AllocError> {
+    term_bin(
         Op::Add,
-        boxed(alloc, Term::Word(2))?,
-        boxed(alloc, Term::Word(3))?,
-    );
-    Ok(Term::Do(Boxed::new(
-        alloc,
-        Comp {
-            steps: Seq::of(steps),
-            result: sum,
-        },
-    )?))
+        boxed(alloc, Ok(Term::Word(2))),
+        boxed(alloc, Ok(Term::Word(3))),
+    )
+}
+
+fn reading(alloc: Global) -> Result<Seq<Step>, AllocError> {
+    let mut steps = Vec::new(alloc);
+    steps.push(step_get(Ok(Mono::Word), Ok(Term::Loc(1)))?)?;
+    Ok(Seq::of(steps))
+}
+
+/// `do _ <- get[word] place 1; ret 2 + 3`.
+fn computation(alloc: Global) -> Result<Term, AllocError> {
+    boxed(alloc, comp(reading(alloc), sum(alloc))).map(|comp| Term::Do(comp))
 }
 
 #[test]
-fn a_position_counts_nothing(rt: HostRuntime) -> Result<(), Fail> {
-    let pair = Mono::Pair(
-        Boxed::new(rt.alloc(), Mono::Word)?,
-        Boxed::new(rt.alloc(), Mono::Bool)?,
-    );
+fn a_pair_is_a_node_over_two(rt: HostRuntime) -> Result<(), Fail> {
+    let pair = pair(rt.alloc())?;
     assert_eq!(rt; size_of_mono(&pair), Size { nodes: 3, depth: 2 });
-    let place = Term::At(7, boxed(rt.alloc(), Term::Loc(1))?);
-    let block = Formula::Block(pair, 0, place);
-    assert_eq!(rt; size_of_formula(&block), Size { nodes: 5, depth: 3 });
     Ok(())
 }
 
 #[test]
+fn a_position_counts_nothing(rt: HostRuntime) -> Result<(), Fail> {
+    let block = block(rt.alloc())?;
+    assert_eq!(rt; size_of_formula(&block), Size { nodes: 5, depth: 3 });
+    Ok(())
+}
+
+// the `do`, the computation, the step with its monotype and its place, and the sum with its operands; the step and the
+// sum stand side by side
+#[test]
 fn steps_stand_beside_the_result(rt: HostRuntime) -> Result<(), Fail> {
     let term = computation(rt.alloc())?;
-    let equation = Formula::Eq(Mono::Word, term, Term::Unit);
-    assert_eq!(rt;
-        size_of_formula(&equation),
-        Size {
-            nodes: 11,
-            depth: 5
-        }
-    );
+    assert_eq!(rt; size_of_term(&term), Size { nodes: 8, depth: 4 });
     Ok(())
 }
 
@@ -63,13 +68,11 @@ fn a_size_stops_at_the_greatest_number_of_64_bits(rt: HostRuntime) -> Result<(),
         nodes: 1 << 63,
         depth: u64::MAX,
     };
-    assert_eq!(rt;
-        large.beside(large).under_node(),
-        Size {
-            nodes: u64::MAX,
-            depth: u64::MAX
-        }
-    );
+    let most = Size {
+        nodes: u64::MAX,
+        depth: u64::MAX,
+    };
+    assert_eq!(rt; large.beside(large).under_node(), most);
     Ok(())
 }
 
