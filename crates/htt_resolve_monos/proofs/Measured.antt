@@ -13,10 +13,10 @@ use Rattle.htt_parser_trees.specs.declared.mono.RawBracket.TheVariants as vbrack
 use Rattle.htt_parser_trees.specs.declared.place.Span.{Span}
 use Rattle.htt_parser_trees.specs.Trees as raw
 use Rattle.htt_parser_trees.specs.Trees.{with_right}
-use Rattle.htt_parser_trees.specs.MonoViews.{raw_right_tree, raw_bracket_tree}
+use Rattle.htt_parser_trees.specs.MonoViews.{raw_right_tree, raw_bracket_tree, raw_brackets_row}
 use Rattle.htt_parser_trees.specs.MonoLevels.{raw_mono_tree, raw_brackets_tree, raw_right_nothing, raw_right_times, raw_bracket_alone, raw_bracket_times}
 use Rattle.htt_syntax_measure.specs.declared.size.Size.{Size}
-use Rattle.htt_syntax_measure.specs.Measures.{leaf, nothing, beside, node, node_of_two, mono_measure}
+use Rattle.htt_syntax_measure.specs.Measures.{leaf, nothing, node_of_two, mono_measure}
 use Rattle.htt_syntax_measure.proofs.MeasureLevels.{mono_word_measure, mono_bool_measure, mono_loc_measure, mono_unit_measure, mono_var_measure}
 use Rattle.htt_syntax_measure.proofs.MeasureLevels.{mono_pair_measure}
 use Rattle.theory_text_names.specs.Stops.{Stop, ◌>>=◌}
@@ -75,20 +75,20 @@ pub ruleset uses = (stop_sized, var_sized, tree_sized)
 
 -- ---- pairs
 
-size_in : Result Size Stop → Size
+abbrev size_in : Result Size Stop → Size
 size_in (Ok z) = z
 size_in (Err stop) = nothing
 
 both_sized : (L R : Result MonoTree Stop) (a b : Size)
     → sized mono_measure L ≡ Ok a
     → sized mono_measure R ≡ Ok b
-    → sized mono_measure (L >>= (λ l. R >>= (λ r. Ok (m_pair l r)))) ≡ Ok (node (beside a b))
-unfolding ◌>>=◌ node_of_two
+    → sized mono_measure (L >>= (λ l. R >>= (λ r. Ok (m_pair l r)))) ≡ Ok (node_of_two a b)
+unfolding ◌>>=◌
 both_sized (Err stop) R a b h k = grind (arith, h)
 both_sized (Ok l) (Err stop) a b h k = grind (arith, k)
 both_sized (Ok l) (Ok r) a b h k =
     ap Ok (mono_pair_measure l r)
-    ∙ (λ j. Ok (node (beside (size_in (h j)) (size_in (k j)))))
+    ∙ (λ j. Ok (node_of_two (size_in (h j)) (size_in (k j))))
 
 second_stops : (L R : Result MonoTree Stop) (a : Size) (stop : Option Stop)
     → sized mono_measure L ≡ Ok a
@@ -112,7 +112,7 @@ module _ (s : Scope) where
   pub pair_sized : (f : raw.RawFactorTree) (m : raw.RawMonoTree) (a b z : Size)
       → sized mono_measure (factor_comes s f) ≡ Ok a
       → sized mono_measure (mono_comes s m) ≡ Ok b
-      → z ≡ node (beside a b)
+      → z ≡ node_of_two a b
       → sized mono_measure (mono_comes s (raw.m_pair f m)) ≡ Ok z
   unfolding factor_comes
   pair_sized f m a b z h k is = both_sized (factor_comes s f) (mono_comes s m) a b h k ∙ ap Ok (sym is)
@@ -169,7 +169,7 @@ module _ (s : Scope) where
   unfolding factor_comes raw_right_tree
   bracket_stops (bracket.Alone at) m stop h = h
   bracket_stops (bracket.Times' at pa (more_of-RawMono a b pc c end_of-RawMono)) m stop h =
-      right_stops (raw.m_brackets at m) (Some _) stop h
+      right_stops (raw.m_brackets at m) (Some (raw_brackets_row c (with_right (raw.m_name a) (raw_right_tree b)))) stop h
 
   brackets_stop : (bs : List RawBracket) (m : raw.RawMonoTree) (stop : Option Stop)
       → IsStop stop (sized mono_measure (mono_comes s m))

@@ -1,14 +1,15 @@
 //! Monotypes.
 
-ghost use Rattle.std.specs.Prelude.{◌≡◌, Ok};
+ghost use Rattle.std.specs.Prelude.{◌≡◌, IfOk, option_map};
 ghost use Rattle.htt_syntax.specs.Views.{mono_tree};
-ghost use Rattle.htt_parser_trees.specs.Trees.{RawMonoTree, RawFactorTree, m_name, m_pair, with_right};
-ghost use Rattle.htt_parser_trees.specs.MonoViews.{raw_right_tree, raw_bracket_tree};
+ghost use Rattle.htt_parser_trees.specs.Trees.{m_name};
+ghost use Rattle.htt_parser_trees.specs.MonoViews.{raw_right_tree};
 ghost use Rattle.htt_parser_trees.specs.MonoLevels.{raw_mono_tree};
 ghost use Rattle.theory_text_names.specs.Uses.{mono_named};
 ghost use Rattle.theory_text.specs.Monotypes.{factor_comes, mono_comes};
 ghost use Rattle.htt_resolve_scopes.specs.Views.{scope_tree};
 ghost use Rattle.htt_resolve_monos.specs.Sized.{Builds};
+ghost use Rattle.htt_resolve_monos.specs.Pairs.{paired, BuildsRight, BuildsBehind};
 
 use htt_parser_trees::{MonoName, RawBracket, RawMono, RawRight, Span};
 use htt_resolve_scopes::{MonoUse, Scope};
@@ -16,7 +17,6 @@ use htt_syntax::Mono;
 use htt_syntax_build::mono_pair;
 use htt_syntax_seq::boxed;
 use htt_syntax_walk::copy_mono;
-use sqlite_items::Boxed;
 use std::alloc::{AllocError, Global};
 
 /// The monotype. It fails for want of memory, and where the monotype is stopped.
@@ -26,9 +26,11 @@ pub fn build_mono(alloc: Global, scope: &Scope<'_>, mono: &RawMono) -> Result<Mo
     ensures built { Builds mono_tree result (mono_comes (scope_tree scope.now) (raw_mono_tree mono.now)) }
 {
     let name = build_name(alloc, scope, mono.name)?;
-    let mut built = build_right(alloc, scope, name, &mono.right)?;
+    let right = build_right(alloc, scope, &mono.right)?;
+    let mut built = paired(alloc, name, right)?;
     for bracket in mono.brackets.as_slice() {
-        built = build_bracket(alloc, scope, built, bracket)?;
+        let right = build_behind(alloc, scope, bracket)?;
+        built = paired(alloc, built, right)?;
     }
     Ok(built)
 }
@@ -59,57 +61,47 @@ fn build_named(alloc: Global, scope: &Scope<'_>, span: Span) -> Result<Mono, All
     }
 }
 
-/// A factor with what stands at its right.
+/// A monotype with what stands at its right, if something does. It fails for want of memory alone.
+#[tactic(auto, using(htt_syntax::specs::Levels::mono_levels))]
+fn paired(alloc: Global, left: Mono, right: Option<Mono>) -> Result<Mono, AllocError>
+    ensures built { IfOk result (λ mono. mono_tree mono ≡ paired (mono_tree left) (option_map mono_tree right)) }
+{
+    match right {
+        None => Ok(left),
+        Some(right) => mono_pair(boxed(alloc, Ok(left)), boxed(alloc, Ok(right))),
+    }
+}
+
+/// What stands at the right of a factor.
 #[cycle(build)]
 #[tactic(auto, using(crate::proofs::Built::rights))]
 fn build_right(
     alloc: Global,
     scope: &Scope<'_>,
-    left: Mono,
     right: &RawRight,
-) -> Result<Mono, AllocError>
-    ensures built { (f : RawFactorTree)
-        → factor_comes (scope_tree scope.now) f ≡ Ok (mono_tree left)
-        → Builds mono_tree result (mono_comes (scope_tree scope.now) (with_right f (raw_right_tree right.now))) }
+) -> Result<Option<Mono>, AllocError>
+    ensures built { IfOk result (λ built. BuildsRight (scope_tree scope.now) (raw_right_tree right.now) (option_map mono_tree built)) }
 {
     match right {
-        RawRight::Nothing => Ok(left),
-        RawRight::Times(mono) => build_pair(alloc, scope, left, mono),
+        RawRight::Nothing => Ok(None),
+        RawRight::Times(mono) => build_mono(alloc, scope, mono.get()).map(|mono| Some(mono)),
     }
 }
 
-/// A monotype in brackets with what stands at their right.
+/// What stands behind a bracket.
 #[cycle(build)]
 #[tactic(auto, using(crate::proofs::Built::bracketed))]
-fn build_bracket(
+fn build_behind(
     alloc: Global,
     scope: &Scope<'_>,
-    inner: Mono,
     bracket: &RawBracket,
-) -> Result<Mono, AllocError>
-    ensures built { (m : RawMonoTree)
-        → mono_comes (scope_tree scope.now) m ≡ Ok (mono_tree inner)
-        → Builds mono_tree result (mono_comes (scope_tree scope.now) (raw_bracket_tree bracket.now m)) }
+) -> Result<Option<Mono>, AllocError>
+    ensures built { IfOk result (λ built. BuildsBehind (scope_tree scope.now) bracket.now (option_map mono_tree built)) }
 {
     match bracket {
-        RawBracket::Alone { at: _ } => Ok(inner),
-        RawBracket::Times { at: _, mono } => build_pair(alloc, scope, inner, mono),
+        RawBracket::Alone { at: _ } => Ok(None),
+        RawBracket::Times { at: _, mono } => build_mono(alloc, scope, mono.get()).map(|mono| Some(
+            mono,
+        )),
     }
-}
-
-/// A pair with this left side.
-#[cycle(build)]
-#[tactic(auto, using(htt_syntax::specs::Levels::mono_levels, crate::proofs::Built::pairs))]
-fn build_pair(
-    alloc: Global,
-    scope: &Scope<'_>,
-    left: Mono,
-    right: &Boxed<RawMono>,
-) -> Result<Mono, AllocError>
-    ensures built { (f : RawFactorTree)
-        → factor_comes (scope_tree scope.now) f ≡ Ok (mono_tree left)
-        → Builds mono_tree result (mono_comes (scope_tree scope.now) (m_pair f (raw_mono_tree right.now))) }
-{
-    let right = build_mono(alloc, scope, right.get());
-    mono_pair(boxed(alloc, Ok(left)), boxed(alloc, right))
 }

@@ -14,7 +14,6 @@ use htt_parser_trees::{MonoName, RawBracket, RawMono, RawRight, Span};
 use htt_resolve_names::NameStop;
 use htt_resolve_scopes::{MonoUse, Scope};
 use htt_syntax_measure::{Size, size_of_mono};
-use sqlite_items::Boxed;
 
 /// The size of the monotype, or the stop that it meets first. It takes no memory.
 #[cycle(measure)]
@@ -65,7 +64,7 @@ fn measure_right(scope: &Scope<'_>, left: Size, right: &RawRight) -> Result<Size
 {
     match right {
         RawRight::Nothing => Ok(left),
-        RawRight::Times(mono) => measure_pair(scope, left, mono),
+        RawRight::Times(mono) => measure_pair(scope, left, mono.get()),
     }
 }
 
@@ -79,18 +78,18 @@ fn measure_bracket(scope: &Scope<'_>, inner: Size, bracket: &RawBracket) -> Resu
 {
     match bracket {
         RawBracket::Alone { at: _ } => Ok(inner),
-        RawBracket::Times { at: _, mono } => measure_pair(scope, inner, mono),
+        RawBracket::Times { at: _, mono } => measure_pair(scope, inner, mono.get()),
     }
 }
 
 /// The size of a pair whose left side measures so much.
 #[cycle(measure)]
 #[tactic(auto, using(crate::proofs::Measured::pairs))]
-fn measure_pair(scope: &Scope<'_>, left: Size, right: &Boxed<RawMono>) -> Result<Size, NameStop>
+fn measure_pair(scope: &Scope<'_>, left: Size, right: &RawMono) -> Result<Size, NameStop>
     ensures measured { (f : RawFactorTree)
         → sized mono_measure (factor_comes (scope_tree scope.now) f) ≡ Ok left
         → AnswersSize mono_measure result (mono_comes (scope_tree scope.now) (m_pair f (raw_mono_tree right.now))) }
 {
-    let right = measure_mono(scope, right.get())?;
-    Ok(left.beside(right).under_node())
+    let right = measure_mono(scope, right)?;
+    Ok(Size::node_of_two(left, right))
 }
