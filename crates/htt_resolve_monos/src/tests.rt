@@ -6,19 +6,21 @@ use htt_resolve_names::NameStop;
 use htt_resolve_scopes::{Scope, Sort};
 use htt_syntax::Mono;
 use htt_syntax_measure::Size;
-use htt_syntax_seq::Seq;
-use sqlite_items::Boxed;
+use htt_syntax_seq::{Seq, boxed};
 use std::alloc::{AllocError, Global};
 use std::test::Fail;
 
-/// The name of one letter that stands at this byte.
-fn letter(at: u64) -> MonoName
-    requires room { at < 1000 }
-{
-    MonoName::Name(Span {
-        from: at,
-        to: at + 1,
-    })
+/// The name of the letter `a`, `b` or `c` in the text `abc`.
+fn a() -> Span {
+    Span { from: 0, to: 1 }
+}
+
+fn b() -> MonoName {
+    MonoName::Name(Span { from: 1, to: 2 })
+}
+
+fn c() -> MonoName {
+    MonoName::Name(Span { from: 2, to: 3 })
 }
 
 /// The monotype that is this word alone.
@@ -30,65 +32,85 @@ fn alone(alloc: Global, name: MonoName) -> RawMono {
     }
 }
 
-/// `(word * a) * b` behind its first bracket at 0, with the names at these bytes.
-fn nested(alloc: Global, inner: MonoName, outer: MonoName) -> Result<RawMono, AllocError> {
+/// `* name`, at the right of a factor.
+fn times(alloc: Global, name: MonoName) -> Result<RawRight, AllocError> {
+    boxed(alloc, Ok(alone(alloc, name))).map(|mono| RawRight::Times(mono))
+}
+
+/// `) * name`, behind a bracket at 0.
+fn behind(alloc: Global, name: MonoName) -> Result<RawBracket, AllocError> {
+    boxed(alloc, Ok(alone(alloc, name))).map(|mono| RawBracket::Times { at: 0, mono })
+}
+
+fn brackets(alloc: Global, name: MonoName) -> Result<Seq<RawBracket>, AllocError> {
     let mut brackets = Vec::new(alloc);
-    let outer = Boxed::new(alloc, alone(alloc, outer))?;
-    brackets.push(RawBracket::Times { at: 0, mono: outer })?;
+    brackets.push(behind(alloc, name)?)?;
+    Ok(Seq::of(brackets))
+}
+
+/// `(word * inner) * outer` behind its first bracket.
+fn nested(alloc: Global, inner: MonoName, outer: MonoName) -> Result<RawMono, AllocError> {
+    let brackets = brackets(alloc, outer)?;
     Ok(RawMono {
         name: MonoName::Word { at: 1 },
-        right: RawRight::Times(Boxed::new(alloc, alone(alloc, inner))?),
-        brackets: Seq::of(brackets),
+        right: times(alloc, inner)?,
+        brackets,
     })
 }
 
-/// Whether it is `(word * a) * bool` with the innermost variable.
-fn is_word_and_variable_and_bool(mono: &Mono) -> bool {
+/// The place in the text `abc` under a binder of `a`.
+fn under_a(alloc: Global, sort: Sort) -> Result<Scope<'static>, NameStop> {
+    Scope::at_top(alloc, "abc".as_bytes(), &[]).under_name(alloc, a(), sort)
+}
+
+/// Whether it is a pair beside `bool`.
+fn is_pair_and_bool(mono: &Mono) -> bool {
     match mono {
-        Mono::Pair(left, right) => match left.get() {
-            Mono::Pair(first, second) => {
-                matches!(right.get(), Mono::Bool)
-                    && matches!(first.get(), Mono::Word)
-                    && matches!(second.get(), Mono::Var(0))
-            }
-            _ => false,
-        },
+        Mono::Pair(left, right) => {
+            matches!(left.get(), Mono::Pair(_, _)) && matches!(right.get(), Mono::Bool)
+        }
         _ => false,
     }
 }
 
 #[test]
 fn a_monotype_has_its_nodes_and_levels(rt: HostRuntime) -> Result<(), Fail> {
-    let top = Scope::at_top(rt.alloc(), "ab".as_bytes(), &[]);
-    let scope = top.under_name(rt.alloc(), Span { from: 0, to: 1 }, Sort::Mono)?;
-    let mono = nested(rt.alloc(), letter(0), MonoName::Bool { at: 9 })?;
+    let scope = under_a(rt.alloc(), Sort::Mono)?;
+    let mono = nested(rt.alloc(), MonoName::Name(a()), MonoName::Bool { at: 9 })?;
     assert_eq!(rt;
         measure_mono(&scope, &mono),
         Ok(Size { nodes: 5, depth: 3 })
     );
+    Ok(())
+}
+
+#[test]
+fn brackets_are_at_the_left_of_what_stands_behind(rt: HostRuntime) -> Result<(), Fail> {
+    let scope = under_a(rt.alloc(), Sort::Mono)?;
+    let mono = nested(rt.alloc(), MonoName::Name(a()), MonoName::Bool { at: 9 })?;
     let built = build_mono(rt.alloc(), &scope, &mono)?;
-    assert!(rt; is_word_and_variable_and_bool(&built));
+    assert!(rt; is_pair_and_bool(&built));
     Ok(())
 }
 
 #[test]
 fn the_first_name_that_stops_counts(rt: HostRuntime) -> Result<(), Fail> {
-    let top = Scope::at_top(rt.alloc(), "abc".as_bytes(), &[]);
-    let scope = top.under_name(rt.alloc(), Span { from: 0, to: 1 }, Sort::Term)?;
-    let mono = nested(rt.alloc(), letter(1), letter(2))?;
+    let scope = under_a(rt.alloc(), Sort::Term)?;
+    let mono = nested(rt.alloc(), b(), c())?;
     assert_eq!(rt;
         measure_mono(&scope, &mono),
         Err(NameStop::Unbound { at: 1 })
     );
-    let mono = nested(rt.alloc(), letter(0), letter(2))?;
+    Ok(())
+}
+
+#[test]
+fn a_name_of_another_sort_stops(rt: HostRuntime) -> Result<(), Fail> {
+    let scope = under_a(rt.alloc(), Sort::Term)?;
+    let mono = nested(rt.alloc(), MonoName::Name(a()), c())?;
     assert_eq!(rt;
         measure_mono(&scope, &mono),
         Err(NameStop::WrongSort { at: 0 })
-    );
-    let mono = nested(rt.alloc(), MonoName::Word { at: 1 }, letter(2))?;
-    assert_eq!(rt;
-        measure_mono(&scope, &mono),
-        Err(NameStop::Unbound { at: 2 })
     );
     Ok(())
 }

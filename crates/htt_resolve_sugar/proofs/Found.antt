@@ -1,9 +1,10 @@
 -- Where in a list that has the innermost one last a variable finds what is put for it.
-use Rattle.std.proofs.Common.{◌≡◌, ℕ, zero, suc, ◌+◌, ◌-◌, ◌<◌, ◌≤◌, inl, inr, List, [], ◌∷◌, ◌++◌, length, map, get_or, refl, sym, ap, ◌∙◌, arith, subst}
+use Rattle.std.proofs.Common.{◌≡◌, ℕ, zero, suc, ◌+◌, ◌-◌, ◌^◌, ◌<◌, ◌≤◌, inl, inr, List, [], ◌∷◌, ◌++◌, length, map, get_or, refl, sym, ap, ◌∙◌, arith, subst}
 use Rattle.std.proofs.Common.{Option, Some, None, slice_get}
 use Rattle.std.specs.Prelude.{reverse, option_map, option_and_then, Result, IfOk}
-use Rattle.std.proofs.lemmas.Option.{slice_get_read, slice_get-get_or, slice_get_past, get_or_from_slice_get, slice_get-map}
+use Rattle.std.proofs.lemmas.Option.{slice_get-get_or, slice_get_past, get_or_from_slice_get, slice_get-map}
 use Rattle.std.proofs.lemmas.List.{get_or-reverse, length-reverse, length-map, map-append, reverse-append}
+use Rattle.theory_saturation.specs.Saturation.{saturated}
 use Rattle.theory_renaming.specs.Renaming.{lifts, shifting}
 use Rattle.theory_text_sugar.specs.Putting as putting
 use Rattle.htt_syntax.specs.declared.mono.Mono.{Mono}
@@ -47,7 +48,7 @@ module _ (xs : List putting.Put) (index depth : ℕ) where
   own : index < depth → put_for xs depth index ≡ None
   own h = ap (option_and_then (slice_get xs)) (inside_at depth index h)
 
-pub put_there : (all : List Put) (index depth place : ℕ) (x : Put)
+put_there : (all : List Put) (index depth place : ℕ) (x : Put)
     → IsPlace (length all) index depth (Some place)
     → slice_get all place ≡ Some x
     → put_for (puts_tree all) depth index ≡ Some (put_tree x)
@@ -55,21 +56,33 @@ unfolding puts_tree
 put_there all index depth place x (below, is) at =
     let out : index ≡ depth + (index - depth) = omega (arith, below) in
     let count : suc (place + (index - depth)) ≡ length (map put_tree all) =
-    (let n : suc (place + (index - depth)) ≡ length all = omega (arith, below, is) in n ∙ sym (length-map put_tree all)) in
+    (let n : suc (place + (index - depth)) ≡ length all = omega (arith, below, is) in n ∙ sym (length-map all put_tree)) in
     found (reverse (map put_tree all)) index depth (index - depth) (put_tree x) out
     (turned (map put_tree all) place (index - depth) (put_tree x) (slice_get-map put_tree all place ∙ ap (option_map put_tree) at) count)
 
-pub put_missing : (all : List Put) (index depth : ℕ)
+put_none : (all : List Put) (index depth : ℕ)
     → IsPlace (length all) index depth None
     → put_for (puts_tree all) depth index ≡ None
 unfolding puts_tree
-put_missing all index depth (inl h) = own (reverse (map put_tree all)) index depth h
-put_missing all index depth (inr h) =
+put_none all index depth (inl h) = own (reverse (map put_tree all)) index depth h
+put_none all index depth (inr h) =
     let out : index ≡ depth + (index - depth) = omega (arith, h) in
-    let past : length (map put_tree all) ≤ index - depth = subst (λ n. n ≤ index - depth) (sym (length-map put_tree all)) (omega (arith, h)) in
+    let past : length (map put_tree all) ≤ index - depth = subst (λ n. n ≤ index - depth) (sym (length-map all put_tree)) (omega (arith, h)) in
     found_none (reverse (map put_tree all)) index depth (index - depth) out (past_turned (map put_tree all) (index - depth) past)
 
-pub ruleset puts = (put_there, put_missing, slice_get_read)
+pub put_read : (all : List Put) (index depth place : ℕ) (other : Put)
+    → IsPlace (length all) index depth (Some place)
+    → Some (put_tree (get_or all place other)) ≡ put_for (puts_tree all) depth index
+put_read all index depth place other (below, is) =
+    let inside : place < length all = omega (arith, below, is) in
+    sym (put_there all index depth place (get_or all place other) (below, is) (slice_get-get_or all place other inside))
+
+pub put_missing : (all : List Put) (index depth : ℕ)
+    → IsPlace (length all) index depth None
+    → None ≡ put_for (puts_tree all) depth index
+put_missing all index depth h = sym (put_none all index depth h)
+
+pub ruleset puts = (put_read, put_missing)
 
 pub put_more : (all more : List Put) (x : Put) → more ≡ all ++ x ∷ [] → puts_tree more ≡ put_tree x ∷ puts_tree all
 unfolding puts_tree
@@ -110,27 +123,45 @@ size_at : (all : List PutSize) (put : List putting.Put) (m : ℕ) (z : Option Pu
 unfolding Measures
 size_at all put m z h at = sym (slice_get-map put_size put m) ∙ ap (λ xs. slice_get xs m) h ∙ at
 
-pub size_there : (all : List PutSize) (index depth place : ℕ) (z : PutSize)
+size_there : (all : List PutSize) (index depth place : ℕ) (z : PutSize)
+    → index < 2 ^ 32
     → IsPlace (length all) index depth (Some place)
     → slice_get all place ≡ Some z
-    → (put : List putting.Put)
+    → (put : List putting.Put) (d : ℕ)
     → Measures all put
-    → IsMeasured (Some z) (put_for put depth index)
-size_there all index depth place z (below, is) at put h =
-    let out : index ≡ depth + (index - depth) = omega (arith, below) in
-    let count : suc (place + (index - depth)) ≡ length all = omega (arith, below, is) in
-    ap (λ o. option_map put_size (option_and_then (slice_get put) o)) (outside_at depth index (index - depth) out)
-    ∙ size_at all put (index - depth) (Some z) h (turned all place (index - depth) z at count)
+    → depth ≡ saturated d
+    → IsMeasured (Some z) (put_for put d index)
+size_there all index depth place z small (below, is) at put d h deep =
+    let out : index ≡ d + (index - d) = omega (arith, small, below, deep) in
+    let count : suc (place + (index - d)) ≡ length all = omega (arith, small, below, is, deep) in
+    ap (λ o. option_map put_size (option_and_then (slice_get put) o)) (outside_at d index (index - d) out)
+    ∙ size_at all put (index - d) (Some z) h (turned all place (index - d) z at count)
+
+pub size_read : (all : List PutSize) (index depth place : ℕ) (other : PutSize)
+    → index < 2 ^ 32
+    → IsPlace (length all) index depth (Some place)
+    → (put : List putting.Put) (d : ℕ)
+    → Measures all put
+    → depth ≡ saturated d
+    → IsMeasured (Some (get_or all place other)) (put_for put d index)
+size_read all index depth place other small (below, is) put d h deep =
+    let inside : place < length all = omega (arith, below, is) in
+    size_there all index depth place (get_or all place other) small (below, is) (slice_get-get_or all place other inside) put d h deep
 
 pub size_missing : (all : List PutSize) (index depth : ℕ)
+    → index < 2 ^ 32
     → IsPlace (length all) index depth None
-    → (put : List putting.Put)
+    → (put : List putting.Put) (d : ℕ)
     → Measures all put
-    → IsMeasured None (put_for put depth index)
-size_missing all index depth (inl below) put h = ap (option_map put_size) (own put index depth below)
-size_missing all index depth (inr past) put h =
-    let out : index ≡ depth + (index - depth) = omega (arith, past) in
-    ap (λ o. option_map put_size (option_and_then (slice_get put) o)) (outside_at depth index (index - depth) out)
-    ∙ size_at all put (index - depth) None h (past_turned all (index - depth) (omega (arith, past)))
+    → depth ≡ saturated d
+    → IsMeasured None (put_for put d index)
+size_missing all index depth small (inl within) put d h deep =
+    let inner : index < d = omega (arith, small, within, deep) in
+    ap (option_map put_size) (own put index d inner)
+size_missing all index depth small (inr past) put d h deep =
+    let out : index ≡ d + (index - d) = omega (arith, small, past, deep) in
+    let beyond : length all ≤ index - d = omega (arith, small, past, deep) in
+    ap (λ o. option_map put_size (option_and_then (slice_get put) o)) (outside_at d index (index - d) out)
+    ∙ size_at all put (index - d) None h (past_turned all (index - d) beyond)
 
-pub ruleset sizes = (size_there, size_missing, slice_get_read)
+pub ruleset sizes = (size_read, size_missing)

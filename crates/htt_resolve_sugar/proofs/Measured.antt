@@ -7,7 +7,7 @@ use Rattle.theory_renaming.specs.Renaming.{shifting, rename_mono, rename_term}
 use Rattle.theory_counts.proofs.NodesKept.{nodes_mono_kept, nodes_term_kept}
 use Rattle.theory_counts.proofs.DepthKept.{depth_mono_kept, depth_term_kept}
 use Rattle.htt_syntax_measure.specs.declared.size.Size.{Size}
-use Rattle.htt_syntax_measure.specs.Measures.{told, leaf, beside, node, node_of_two, mono_measure, term_measure}
+use Rattle.htt_syntax_measure.specs.Measures.{told, leaf, node, node_of_two, mono_measure, term_measure}
 use Rattle.htt_syntax_measure.proofs.MeasureLevels.{term_var_measure, mono_var_measure, term_ann_measure, ty_mono_measure}
 use Rattle.theory_text_sugar.specs.Putting.{Put, put_mono, put_term, put_heap, mono_for, term_for, put_into_mono}
 use Rattle.htt_resolve_sugar.specs.declared.measure.PutSize.{PutSize}
@@ -76,14 +76,14 @@ pub put_more : (all more : List PutSize) (put : List Put) (M : TermTree) (t : Mo
     → Measures all put
     → first ≡ term_measure M
     → mono ≡ mono_measure (put_into_mono put t)
-    → z ≡ node (beside first (node mono))
+    → z ≡ node_of_two first (node mono)
     → Measures more (put_term (t_ann M (y_mono (put_into_mono put t))) ∷ put)
-unfolding Measures node_of_two
+unfolding Measures
 put_more all more put M t z first mono is h f m zis =
     let size : term_measure (t_ann M (y_mono (put_into_mono put t))) ≡ z =
     (term_ann_measure M (y_mono (put_into_mono put t))
     ∙ ap (λ A. node_of_two (term_measure M) A) (ty_mono_measure (put_into_mono put t))
-    ∙ (λ j. node (beside (f (~ j)) (node (m (~ j)))))
+    ∙ (λ j. node_of_two (sym f j) (node (sym m j)))
     ∙ sym zis) in
     (λ j. sizes.Term (size j) ∷ h j)
     ∙ sym (reverse-append all (sizes.Term z ∷ []))

@@ -1,5 +1,5 @@
 -- What is put into a body, as definitions speak of it, and its sizes.
-use Rattle.std.specs.Prelude.{◌≡◌, ℕ, suc, ◌+◌, ◌<◌, ◌≤◌, List, ◌∷◌, map, reverse, Option, Some, None, option_map}
+use Rattle.std.specs.Prelude.{◌≡◌, ℕ, suc, ◌+◌, ◌<◌, ◌≤◌, ◌⊎◌, List, ◌∷◌, map, reverse, Option, Some, None, option_map}
 use Rattle.htt_syntax.specs.Trees.{MonoTree, TermTree, t_ann, y_mono}
 use Rattle.htt_syntax.specs.Views.{mono_tree, term_tree}
 use Rattle.theory_text_sugar.specs.Putting as putting

@@ -35,7 +35,7 @@ impl Putting<'_> {
     fn put_for(&self, index: u32, depth: u32) -> Option<&Put>
         ensures found { option_map (λ p. put_tree p.now) result ≡ put_for (puts_tree self.now.puts.now) depth index }
     {
-        match place(self.puts.len(), index, depth) {
+        match place(self.puts.len(), index, depth as u64) {
             Some(place) => Some(&self.puts[place]),
             None => None,
         }
@@ -45,7 +45,7 @@ impl Putting<'_> {
 /// A term variable under `depth` binders, for which this is put; a variable of theirs stays.
 #[tactic(auto, using(htt_syntax::specs::Levels::term_levels))]
 fn term_for(alloc: Global, found: Option<&Put>, index: u32, depth: u32) -> Result<Term, AllocError>
-    ensures put { IfOk result (λ t. term_tree t ≡ term_for depth index (option_map (λ p. put_tree p.now) found)) }
+    ensures put { IfOk result (λ t. term_tree t ≡ term_for depth index (option_map (λ p. put_tree p.now) found.entry)) }
 {
     match found {
         Some(Put::Term(term)) => shift_term(alloc, term, 0, depth),
@@ -58,7 +58,7 @@ fn term_for(alloc: Global, found: Option<&Put>, index: u32, depth: u32) -> Resul
 /// A monotype variable likewise.
 #[tactic(auto, using(htt_syntax::specs::Levels::mono_levels))]
 fn mono_for(alloc: Global, found: Option<&Put>, index: u32, depth: u32) -> Result<Mono, AllocError>
-    ensures put { IfOk result (λ t. mono_tree t ≡ mono_for depth index (option_map (λ p. put_tree p.now) found)) }
+    ensures put { IfOk result (λ t. mono_tree t ≡ mono_for depth index (option_map (λ p. put_tree p.now) found.entry)) }
 {
     match found {
         Some(Put::Mono(mono)) => shift_mono(alloc, mono, 0, depth),
@@ -71,7 +71,7 @@ fn mono_for(alloc: Global, found: Option<&Put>, index: u32, depth: u32) -> Resul
 /// A heap likewise.
 #[tactic(auto, using(crate::proofs::Found::heap_past))]
 fn heap_for(found: Option<&Put>, index: u32, depth: u32) -> Result<u32, AllocError>
-    ensures put { IfOk result (λ h. h ≡ heap_for depth index (option_map (λ p. put_tree p.now) found)) }
+    ensures put { IfOk result (λ h. h ≡ heap_for depth index (option_map (λ p. put_tree p.now) found.entry)) }
 {
     match found {
         Some(Put::Heap(heap)) => match heap.checked_add(depth) {

@@ -2,15 +2,37 @@
 
 use crate::{Put, PutSize, body_size, body_with, put_argument, put_argument_size};
 use htt_syntax::{Formula, Mono, Term};
+use htt_syntax_build::{formula_eq, formula_ex_h, formula_ex_t, formula_same};
 use htt_syntax_measure::Size;
-use sqlite_items::Boxed;
+use htt_syntax_seq::boxed;
 use std::alloc::{AllocError, Global};
 use std::test::Fail;
 
 /// `ex y : word . x =[word] y`, under one parameter x and the heap: x has index 1, and index 2 under y.
 fn body(alloc: Global) -> Result<Formula, AllocError> {
-    let equation = Formula::Eq(Mono::Word, Term::Var(2), Term::Var(0));
-    Ok(Formula::ExT(Mono::Word, Boxed::new(alloc, equation)?))
+    let equation = formula_eq(Ok(Mono::Word), Ok(Term::Var(2)), Ok(Term::Var(0)));
+    formula_ex_t(Ok(Mono::Word), boxed(alloc, equation))
+}
+
+/// `ex h : heap . Same(h, g)` with the heap g of index 0 outside of h.
+fn same(alloc: Global) -> Result<Formula, AllocError> {
+    formula_ex_h(boxed(alloc, formula_same(Ok(0), Ok(1))))
+}
+
+/// A term variable of index 0 put for the one parameter, and the heap of index 3.
+fn puts(alloc: Global) -> Result<Vec<Put>, AllocError> {
+    let mut puts = Vec::new(alloc);
+    put_argument(alloc, &mut puts, &Mono::Word, Term::Var(0))?;
+    puts.push(Put::Heap(3))?;
+    Ok(puts)
+}
+
+/// The sizes where an argument of this size is put for the one parameter.
+fn sizes(alloc: Global, argument: Size) -> Result<Vec<PutSize>, AllocError> {
+    let mut sizes = Vec::new(alloc);
+    put_argument_size(&mut sizes, &Mono::Word, argument)?;
+    sizes.push(PutSize::Heap)?;
+    Ok(sizes)
 }
 
 /// Whether it is `ex y : word . (z : word) =[word] y` with a z of index 0 outside of y.
@@ -26,55 +48,51 @@ fn is_without_capture(formula: &Formula) -> bool {
     }
 }
 
+/// Whether it is `ex h : heap . Same(h, g)` with the heap g of index 4 outside of h.
+fn is_past_the_binder(formula: &Formula) -> bool {
+    match formula {
+        Formula::ExH(body) => matches!(body.get(), Formula::Same(0, 5)),
+        _ => false,
+    }
+}
+
 #[test]
 fn a_binder_of_the_body_captures_nothing(rt: HostRuntime) -> Result<(), Fail> {
-    let mut puts = Vec::new(rt.alloc());
-    put_argument(rt.alloc(), &mut puts, &Mono::Word, Term::Var(0))?;
-    puts.push(Put::Heap(3))?;
-    let formula = body_with(rt.alloc(), &body(rt.alloc())?, puts.as_slice())?;
+    let body = body(rt.alloc())?;
+    let puts = puts(rt.alloc())?;
+    let formula = body_with(rt.alloc(), &body, puts.as_slice())?;
     assert!(rt; is_without_capture(&formula));
     Ok(())
 }
 
 #[test]
 fn a_heap_goes_past_the_binders(rt: HostRuntime) -> Result<(), Fail> {
-    let mut puts = Vec::new(rt.alloc());
-    puts.push(Put::Heap(0))?;
-    let body = Formula::ExH(Boxed::new(rt.alloc(), Formula::Same(0, 1))?);
-    let holds = match body_with(rt.alloc(), &body, puts.as_slice())? {
-        Formula::ExH(body) => matches!(body.get(), Formula::Same(0, 1)),
-        _ => false,
-    };
-    assert!(rt; holds);
+    let same = same(rt.alloc())?;
+    let puts = [Put::Heap(4)];
+    let formula = body_with(rt.alloc(), &same, &puts)?;
+    assert!(rt; is_past_the_binder(&formula));
     Ok(())
 }
 
 #[test]
 fn the_size_is_that_of_the_body_made(rt: HostRuntime) -> Result<(), Fail> {
-    let mut sizes = Vec::new(rt.alloc());
-    let argument = Size { nodes: 5, depth: 3 };
-    put_argument_size(&mut sizes, &Mono::Word, argument)?;
-    sizes.push(PutSize::Heap)?;
-    let size = body_size(&body(rt.alloc())?, sizes.as_slice())?;
-    assert_eq!(rt;
-        size,
-        Size {
-            nodes: 13,
-            depth: 6
-        }
-    );
+    let body = body(rt.alloc())?;
+    let sizes = sizes(rt.alloc(), Size { nodes: 5, depth: 3 })?;
+    let due = Size {
+        nodes: 13,
+        depth: 6,
+    };
+    assert_eq!(rt; body_size(&body, sizes.as_slice()), due);
     Ok(())
 }
 
 #[test]
 fn an_argument_without_a_place_counts_nothing(rt: HostRuntime) -> Result<(), Fail> {
-    let mut sizes = Vec::new(rt.alloc());
     let large = Size {
         nodes: 1_000_001,
         depth: 1_001,
     };
-    put_argument_size(&mut sizes, &Mono::Word, large)?;
-    sizes.push(PutSize::Heap)?;
-    assert_eq!(rt; body_size(&Formula::Tt, sizes.as_slice())?, Size::leaf());
+    let sizes = sizes(rt.alloc(), large)?;
+    assert_eq!(rt; body_size(&Formula::Tt, sizes.as_slice()), Size::leaf());
     Ok(())
 }
