@@ -47,6 +47,10 @@ new_of parts task = as_term (at parts task.new)
 abbrev pub skeleton_of : List Part → PutTask → Skeleton
 skeleton_of parts task = as_skeleton (at parts task.skeleton)
 
+-- the same task for what stands at another place
+abbrev pub moved : PutTask → ℕ → PutTask
+moved task place = record { new = task.new; skeleton = task.skeleton; index = task.index; place = place }
+
 -- there is a result, and the place has it
 pub record Has (parts : List Part) (task : PutTask) : Type 0 where
   pub result : Part

@@ -6,7 +6,7 @@ ghost use Rattle.shared_terms_rows.specs.declared.form.Form.TheVariants as form;
 ghost use Rattle.shared_terms_rows.specs.declared.form.TermForm.TheVariants as term;
 ghost use Rattle.shared_terms_putting.specs.Put.{laid, KnownPut, Asks, HasHead, Heads};
 
-use crate::way::{Way, way_of};
+use crate::way::{HeadWay, head_way_of};
 use crate::work::{Head, PutTask, PutWork};
 use shared_terms_filling::FillTask;
 use shared_terms_renaming::Renaming;
@@ -25,8 +25,8 @@ impl PutWork {
         ensures head { IfOk result (λ h. Heads (laid self.new) task h) }
     {
         let row = self.row(task.place);
-        match way_of(row.form) {
-            Way::Var(index) => {
+        match head_way_of(row.form) {
+            HeadWay::Var(index) => {
                 if index == task.index {
                     Ok(Head::Gives(task.new, task.skeleton))
                 } else {
@@ -34,13 +34,13 @@ impl PutWork {
                     Ok(Head::Stays(place))
                 }
             }
-            Way::App => self.application(task, row),
-            Way::Inst => self.instance(task, row),
-            Way::Fixed => {
+            HeadWay::App => self.application(task, row),
+            HeadWay::Inst => self.instance(task, row),
+            HeadWay::Fixed => {
                 let place = self.put_slots(task, row)?;
                 Ok(Head::Stays(place))
             }
-            Way::Slots | Way::Step | Way::Run | Way::Mono | Way::Never => unreachable!(),
+            HeadWay::Other => unreachable!(),
         }
     }
 
@@ -56,8 +56,14 @@ impl PutWork {
         ensures kept { Extends (laid self.old) (laid self.new) }
         ensures head { IfOk result (λ h. Heads (laid self.new) task h) }
     {
-        let head = self.head(task.at(row.first))?;
-        let value = self.put(task.at(row.second))?;
+        let head = self.head(PutTask {
+            place: row.first,
+            ..task
+        })?;
+        let value = self.put(PutTask {
+            place: row.second,
+            ..task
+        })?;
         match head {
             Head::Stays(function) => {
                 let place = self.fold(pair_row(Form::Term(TermForm::App), function, value))?;
@@ -88,7 +94,10 @@ impl PutWork {
         ensures kept { Extends (laid self.old) (laid self.new) }
         ensures head { IfOk result (λ h. Heads (laid self.new) task h) }
     {
-        let head = self.head(task.at(row.first))?;
+        let head = self.head(PutTask {
+            place: row.first,
+            ..task
+        })?;
         let mono = self.rename(Renaming::Closing(task.index), row.second)?;
         match head {
             Head::Stays(function) => {

@@ -1,15 +1,14 @@
 //! A term put in a step and in what stands behind it, and computations bound to others.
 
-ghost use Rattle.std.specs.Prelude.{◌≡◌, ◌<◌, ◌≤◌, length, IfOk};
+ghost use Rattle.std.specs.Prelude.{◌≡◌, ◌<◌, ◌≤◌, length, true, IfOk};
 ghost use Rattle.shared_terms_rows.specs.Rows.{Extends, RowIs};
 ghost use Rattle.shared_terms_rows.specs.declared.form.Form.TheVariants as form;
 ghost use Rattle.shared_terms_rows.specs.declared.form.CompForm.TheVariants as comp;
-ghost use Rattle.shared_terms_putting.specs.declared.way.Way.TheVariants as ways;
-ghost use Rattle.shared_terms_putting.specs.Ways.{way};
+ghost use Rattle.shared_terms_putting.specs.Ways.{is_run_form};
 ghost use Rattle.shared_terms_putting.specs.Put.{laid, KnownPut, Asks, Has, Puts, RunsHead, IsComp, HasBind, Binds};
 
 use crate::heads::pair_row;
-use crate::way::{Way, way_of};
+use crate::way::{is_ret, is_run};
 use crate::work::{Head, PutTask, PutWork};
 use shared_terms_renaming::Renaming;
 use shared_terms_rows::{CompForm, Form, Row, SkeletonForm, StepForm, slots_of};
@@ -30,18 +29,30 @@ impl PutWork {
     {
         let step = self.row(row.first);
         let rest = self.put_slot(task, slots_of(row.form).second, row.second)?;
-        match way_of(step.form) {
-            Way::Run => match self.head(task.at(step.first))? {
-                Head::Stays(term) => {
-                    let first = self.run_row(task.at(row.first), step, term)?;
-                    self.fold(pair_row(Form::Comp(CompForm::Step), first, rest))
-                }
-                Head::Gives(term, _) => self.bind(self.row(term).first, rest),
-            },
-            _ => {
-                let first = self.put(task.at(row.first))?;
+        if !is_run(step.form) {
+            let first = self.put(PutTask {
+                place: row.first,
+                ..task
+            })?;
+            return self.fold(pair_row(Form::Comp(CompForm::Step), first, rest));
+        }
+        let head = self.head(PutTask {
+            place: step.first,
+            ..task
+        })?;
+        match head {
+            Head::Stays(term) => {
+                let first = self.run_row(
+                    PutTask {
+                        place: row.first,
+                        ..task
+                    },
+                    step,
+                    term,
+                )?;
                 self.fold(pair_row(Form::Comp(CompForm::Step), first, rest))
             }
+            Head::Gives(term, _) => self.bind(self.row(term).first, rest),
         }
     }
 
@@ -51,13 +62,17 @@ impl PutWork {
         requires known { KnownPut self.old }
         requires asks { Asks (laid self.old) task }
         requires row { RowIs (laid self.old) task.place row }
-        requires form { way row.form ≡ ways.Run }
+        requires form { is_run_form row.form ≡ true }
         requires has { Has (laid self.old) task }
         ensures known { KnownPut self.new }
         ensures kept { Extends (laid self.old) (laid self.new) }
         ensures put { IfOk result (λ r. Puts (laid self.new) task r) }
     {
-        match self.head(task.at(row.first))? {
+        let head = self.head(PutTask {
+            place: row.first,
+            ..task
+        })?;
+        match head {
             Head::Stays(term) => self.run_row(task, row, term),
             Head::Gives(_, _) => unreachable!(),
         }
@@ -68,7 +83,7 @@ impl PutWork {
         requires known { KnownPut self.old }
         requires asks { Asks (laid self.old) task }
         requires row { RowIs (laid self.old) task.place row }
-        requires form { way row.form ≡ ways.Run }
+        requires form { is_run_form row.form ≡ true }
         requires head { RunsHead (laid self.old) task row term }
         ensures known { KnownPut self.new }
         ensures kept { Extends (laid self.old) (laid self.new) }
@@ -93,21 +108,17 @@ impl PutWork {
         ensures bound { IfOk result (λ r. Binds (laid self.new) comp others r) }
     {
         let row = self.row(comp);
-        match row.form {
-            Form::Comp(CompForm::Ret) => {
-                let skeleton = self.fold(pair_row(Form::Skeleton(SkeletonForm::O), 0, 0))?;
-                self.put(PutTask {
-                    new: row.first,
-                    skeleton,
-                    index: 0,
-                    place: others,
-                })
-            }
-            _ => {
-                let raised = self.rename(Renaming::Past(1), others)?;
-                let rest = self.bind(row.second, raised)?;
-                self.fold(pair_row(Form::Comp(CompForm::Step), row.first, rest))
-            }
+        if is_ret(row.form) {
+            let skeleton = self.fold(pair_row(Form::Skeleton(SkeletonForm::O), 0, 0))?;
+            return self.put(PutTask {
+                new: row.first,
+                skeleton,
+                index: 0,
+                place: others,
+            });
         }
+        let raised = self.rename(Renaming::Past(1), others)?;
+        let rest = self.bind(row.second, raised)?;
+        self.fold(pair_row(Form::Comp(CompForm::Step), row.first, rest))
     }
 }

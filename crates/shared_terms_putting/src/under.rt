@@ -7,23 +7,6 @@ ghost use Rattle.shared_terms_putting.specs.Put.{laid, KnownPut, Asks, IsUnder};
 use crate::work::{PutTask, PutWork};
 use std::alloc::AllocError;
 
-impl PutTask {
-    /// The same task at another place.
-    pub fn at(self, place: usize) -> PutTask
-        ensures new { result.new ≡ self.new }
-        ensures skeleton { result.skeleton ≡ self.skeleton }
-        ensures index { result.index ≡ self.index }
-        ensures place { result.place ≡ place }
-    {
-        PutTask {
-            new: self.new,
-            skeleton: self.skeleton,
-            index: self.index,
-            place,
-        }
-    }
-}
-
 impl PutWork {
     /// The task under so many more binders, for what stands at the place. It fails for want of memory, or where an
     /// index would pass 32 bits.

@@ -44,11 +44,14 @@ impl PutWork {
     {
         let row = self.row(task.place);
         match way_of(row.form) {
-            Way::Var(_) | Way::App | Way::Inst => match self.head(task)? {
-                Head::Stays(place) => Ok(place),
-                Head::Gives(place, _) => Ok(place),
-            },
-            Way::Fixed | Way::Slots => self.put_slots(task, row),
+            Way::Head => {
+                let head = self.head(task)?;
+                match head {
+                    Head::Stays(place) => Ok(place),
+                    Head::Gives(place, _) => Ok(place),
+                }
+            }
+            Way::Slots => self.put_slots(task, row),
             Way::Step => self.put_step(task, row),
             Way::Run => self.put_run(task, row),
             Way::Mono => self.rename(Renaming::Closing(task.index), task.place),

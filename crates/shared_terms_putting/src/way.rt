@@ -1,22 +1,15 @@
 //! How substitution goes over a row, by its form.
 
 ghost use Rattle.std.specs.Prelude.{◌≡◌};
-ghost use Rattle.shared_terms_rows.specs.declared.form.Form.TheVariants as form;
-ghost use Rattle.shared_terms_putting.specs.Ways.{way};
+ghost use Rattle.shared_terms_putting.specs.Ways.{way, head_way, is_run_form, is_ret_form};
 
 use shared_terms_rows::{CompForm, Form, FormulaForm, StepForm, TermForm, TyForm};
 
 /// The ways of substitution over a row.
 #[derive(Clone, Copy)]
 pub enum Way {
-    /// A variable with this index.
-    Var(u32),
-    /// A head with an argument.
-    App,
-    /// A head with a monotype.
-    Inst,
-    /// A head that no term is put for.
-    Fixed,
+    /// A variable, or a head with an argument or a monotype.
+    Head,
     /// A step before a computation.
     Step,
     /// A step that runs a term.
@@ -29,12 +22,30 @@ pub enum Way {
     Never,
 }
 
+/// What stands at the end of a head with its arguments.
+#[derive(Clone, Copy)]
+pub enum HeadWay {
+    /// A variable with this index.
+    Var(u32),
+    /// A head with an argument.
+    App,
+    /// A head with a monotype.
+    Inst,
+    /// A head that no term is put for.
+    Fixed,
+    /// No head.
+    Other,
+}
+
 /// The way over rows of a form.
-pub fn way_of(form: Form) -> Way
+pub(crate) fn way_of(form: Form) -> Way
     ensures way { result ≡ way form }
 {
     match form {
-        Form::Term(term) => way_of_term(term),
+        Form::Term(TermForm::Var(_)) | Form::Term(TermForm::App) | Form::Term(TermForm::Inst) =>
+            Way::Head,
+        Form::Term(TermForm::Def(_)) | Form::Term(TermForm::Ann) | Form::Term(TermForm::At(_)) =>
+            Way::Never,
         Form::Comp(CompForm::Step) => Way::Step,
         Form::Step(StepForm::Run) | Form::Step(StepForm::RunOpen) => Way::Run,
         Form::Mono(_) => Way::Mono,
@@ -44,15 +55,37 @@ pub fn way_of(form: Form) -> Way
     }
 }
 
-fn way_of_term(term: TermForm) -> Way
-    ensures way { result ≡ way (form.Term term) }
+/// The way over heads of a form.
+pub(crate) fn head_way_of(form: Form) -> HeadWay
+    ensures way { result ≡ head_way form }
 {
-    match term {
-        TermForm::Var(index) => Way::Var(index),
-        TermForm::App => Way::App,
-        TermForm::Inst => Way::Inst,
-        TermForm::Val(_) | TermForm::Fix(_) | TermForm::Made(_) => Way::Fixed,
-        TermForm::Def(_) | TermForm::Ann | TermForm::At(_) => Way::Never,
-        _ => Way::Slots,
+    match form {
+        Form::Term(TermForm::Var(index)) => HeadWay::Var(index),
+        Form::Term(TermForm::App) => HeadWay::App,
+        Form::Term(TermForm::Inst) => HeadWay::Inst,
+        Form::Term(TermForm::Val(_))
+        | Form::Term(TermForm::Fix(_))
+        | Form::Term(TermForm::Made(_)) => HeadWay::Fixed,
+        _ => HeadWay::Other,
+    }
+}
+
+/// Whether a step of the form runs a term.
+pub(crate) fn is_run(form: Form) -> bool
+    ensures run { result ≡ is_run_form form }
+{
+    match form {
+        Form::Step(StepForm::Run) | Form::Step(StepForm::RunOpen) => true,
+        _ => false,
+    }
+}
+
+/// Whether a computation of the form is a result.
+pub(crate) fn is_ret(form: Form) -> bool
+    ensures ret { result ≡ is_ret_form form }
+{
+    match form {
+        Form::Comp(CompForm::Ret) => true,
+        _ => false,
     }
 }
