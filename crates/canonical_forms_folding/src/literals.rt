@@ -1,7 +1,9 @@
 //! What is seen of a term at its root: the literals, and the pairs.
 
-ghost use Rattle.std.specs.Prelude.{◌≡◌, MatchOption, option_map, None, nat_eq};
+ghost use Rattle.std.specs.Prelude.{◌≡◌, option_map, None, nat_eq};
 ghost use Rattle.theory_values.specs.Values.{bool_eq};
+ghost use Rattle.std.specs.Bool.{OnTrue, OnFalse};
+ghost use Rattle.htt_syntax.specs.declared.tree.Term.{Term};
 ghost use Rattle.htt_syntax.specs.declared.tree.Term.TheVariants as vterm;
 ghost use Rattle.htt_syntax.specs.Views.{mono_tree, term_tree};
 ghost use Rattle.theory_canonical.specs.Folding.{op_literal};
@@ -105,13 +107,14 @@ fn loc_of(term: &Term) -> Option<u64>
     }
 }
 
-/// The parts, where the term is a pair.
+/// Whether the term is a pair.
 #[tactic(auto, using(htt_syntax::specs::Levels::term_levels))]
-pub(crate) fn pair_of(term: &Term) -> Option<(&Term, &Term)>
-    ensures pair { MatchOption result (pair_of (term_tree term.now) ≡ None) (λ p. term.now ≡ vterm.Pair p.0.now p.1.now) }
+pub(crate) fn is_pair(term: &Term) -> bool
+    ensures pair { OnTrue result ((a : Term) × (b : Term) × (term.now ≡ vterm.Pair a b)) }
+    ensures no_pair { OnFalse result (pair_of (term_tree term.now) ≡ None) }
 {
     match term {
-        Term::Pair(left, right) => Some((left.get(), right.get())),
+        Term::Pair(..) => true,
         Term::Var(_)
         | Term::Val(_)
         | Term::Def(_)
@@ -133,7 +136,7 @@ pub(crate) fn pair_of(term: &Term) -> Option<(&Term, &Term)>
         | Term::Sel(..)
         | Term::Ann(..)
         | Term::Made(..)
-        | Term::At(..) => None,
+        | Term::At(..) => false,
     }
 }
 

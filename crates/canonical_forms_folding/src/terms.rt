@@ -5,9 +5,9 @@ ghost use Rattle.htt_syntax.specs.Trees.{t_fst, t_snd, t_not, t_bin, t_eq, t_sel
 ghost use Rattle.htt_syntax.specs.Views.{mono_tree, term_tree};
 ghost use Rattle.theory_canonical.specs.Folding.{folding};
 
-use crate::literals::{bool_of, compared, pair_of, result_of, words_of};
+use crate::literals::{bool_of, compared, is_pair, result_of, words_of};
 use htt_syntax::{Mono, Op, Term};
-use htt_syntax_build::{term_bin, term_eq, term_fst, term_sel, term_snd, term_un};
+use htt_syntax_build::{term_bin, term_eq, term_fst, term_not, term_sel, term_snd};
 use htt_syntax_seq::boxed;
 use std::alloc::{AllocError, Global};
 
@@ -15,7 +15,7 @@ use std::alloc::{AllocError, Global};
 pub fn folded_fst(alloc: Global, pair: Term) -> Result<Term, AllocError>
     ensures folded { IfOk result (λ t. term_tree t ≡ folding (t_fst (term_tree pair))) }
 {
-    if pair_of(&pair).is_none() {
+    if !is_pair(&pair) {
         return term_fst(boxed(alloc, Ok(pair)));
     }
     match pair {
@@ -28,7 +28,7 @@ pub fn folded_fst(alloc: Global, pair: Term) -> Result<Term, AllocError>
 pub fn folded_snd(alloc: Global, pair: Term) -> Result<Term, AllocError>
     ensures folded { IfOk result (λ t. term_tree t ≡ folding (t_snd (term_tree pair))) }
 {
-    if pair_of(&pair).is_none() {
+    if !is_pair(&pair) {
         return term_snd(boxed(alloc, Ok(pair)));
     }
     match pair {
@@ -43,7 +43,7 @@ pub fn folded_not(alloc: Global, term: Term) -> Result<Term, AllocError>
 {
     match bool_of(&term) {
         Some(truth) => Ok(Term::Bool(!truth)),
-        None => term_un(boxed(alloc, Ok(term))),
+        None => term_not(boxed(alloc, Ok(term))),
     }
 }
 
