@@ -64,21 +64,21 @@ module _ {E : Type 0} where
       ap term_tree made.6 ∙ term_eq made.0 made.1 made.2 ∙ (λ j. t_eq (mono_tree (m j)) (term_tree (x j)) (term_tree (y j)))
       ∙ itself (t_eq (mono_tree mono) (term_tree left) (term_tree right)) stays
 
-  pub sel_parts : (mono : Mono) (given : Result Mono E) (test yes no : Term) (first second third result : Result Term E)
+  pub sel_parts : (mono : Mono) (given : Result Mono E) (test left right : Term) (first second third result : Result Term E)
       → given ≡ Ok mono
       → IfOk first (λ b. (let one : Result Term E = Ok test in one) ≡ Ok b)
-      → IfOk second (λ b. (let one : Result Term E = Ok yes in one) ≡ Ok b)
-      → IfOk third (λ b. (let one : Result Term E = Ok no in one) ≡ Ok b)
+      → IfOk second (λ b. (let one : Result Term E = Ok left in one) ≡ Ok b)
+      → IfOk third (λ b. (let one : Result Term E = Ok right in one) ≡ Ok b)
       → IfOk result (λ t. (m : Mono) × (x : Term) × (y : Term) × (z : Term)
       × (given ≡ Ok m) × (first ≡ Ok x) × (second ≡ Ok y) × (third ≡ Ok z) × (t ≡ vterm.Sel m x y z))
-      → contractum (t_sel (mono_tree mono) (term_tree test) (term_tree yes) (term_tree no)) ≡ None
-      → IfOk result (λ t. term_tree t ≡ folding (t_sel (mono_tree mono) (term_tree test) (term_tree yes) (term_tree no)))
-  sel_parts mono given test yes no first second third (Err e) is ht hy hn made stays = made
-  sel_parts mono given test yes no first second third (Ok t) is ht hy hn made stays =
+      → contractum (t_sel (mono_tree mono) (term_tree test) (term_tree left) (term_tree right)) ≡ None
+      → IfOk result (λ t. term_tree t ≡ folding (t_sel (mono_tree mono) (term_tree test) (term_tree left) (term_tree right)))
+  sel_parts mono given test left right first second third (Err e) is ht hy hn made stays = made
+  sel_parts mono given test left right first second third (Ok t) is ht hy hn made stays =
       let m = ok_is made.0 mono (sym made.4 ∙ is) in
       let x = sym (moved_is test first made.1 ht made.5) in
-      let y = sym (moved_is yes second made.2 hy made.6) in
-      let z = sym (moved_is no third made.3 hn made.7) in
+      let y = sym (moved_is left second made.2 hy made.6) in
+      let z = sym (moved_is right third made.3 hn made.7) in
       ap term_tree made.8 ∙ term_sel made.0 made.1 made.2 made.3
       ∙ (λ j. t_sel (mono_tree (m j)) (term_tree (x j)) (term_tree (y j)) (term_tree (z j)))
-      ∙ itself (t_sel (mono_tree mono) (term_tree test) (term_tree yes) (term_tree no)) stays
+      ∙ itself (t_sel (mono_tree mono) (term_tree test) (term_tree left) (term_tree right)) stays

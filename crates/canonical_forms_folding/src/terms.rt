@@ -1,6 +1,8 @@
 //! Terms from their parts, folded.
 
 ghost use Rattle.std.specs.Prelude.{◌≡◌, IfOk};
+ghost use Rattle.htt_syntax.specs.declared.tree.Term.{Term};
+ghost use Rattle.htt_syntax.specs.declared.tree.Term.TheVariants as vterm;
 ghost use Rattle.htt_syntax.specs.Trees.{t_fst, t_snd, t_not, t_bin, t_eq, t_sel};
 ghost use Rattle.htt_syntax.specs.Views.{mono_tree, term_tree};
 ghost use Rattle.theory_canonical.specs.Folding.{folding};
@@ -9,18 +11,44 @@ use crate::literals::{bool_of, compared, is_pair, result_of, words_of};
 use htt_syntax::{Mono, Op, Term};
 use htt_syntax_build::{term_bin, term_eq, term_fst, term_not, term_sel, term_snd};
 use htt_syntax_seq::boxed;
+use sqlite_items::Boxed;
 use std::alloc::{AllocError, Global};
+
+/// The first of two parts.
+fn one_of(part: Boxed<Term>, _other: Boxed<Term>) -> Term
+    ensures part { result ≡ part }
+{
+    part.into_inner()
+}
+
+/// The left part of a pair, and any other term itself.
+fn left_of(term: Term) -> Term
+    ensures left { (a b : Term) → term ≡ vterm.Pair a b → result ≡ a }
+{
+    match term {
+        Term::Pair(left, right) => one_of(left, right),
+        other => other,
+    }
+}
+
+/// The right part of a pair, and any other term itself.
+fn right_of(term: Term) -> Term
+    ensures right { (a b : Term) → term ≡ vterm.Pair a b → result ≡ b }
+{
+    match term {
+        Term::Pair(left, right) => one_of(right, left),
+        other => other,
+    }
+}
 
 /// The left part of a pair, where the term is one, else `fst` of the term. It fails for want of memory alone.
 pub fn folded_fst(alloc: Global, pair: Term) -> Result<Term, AllocError>
     ensures folded { IfOk result (λ t. term_tree t ≡ folding (t_fst (term_tree pair))) }
 {
-    if !is_pair(&pair) {
-        return term_fst(boxed(alloc, Ok(pair)));
-    }
-    match pair {
-        Term::Pair(left, _) => Ok(left.into_inner()),
-        other => term_fst(boxed(alloc, Ok(other))),
+    if is_pair(&pair) {
+        Ok(left_of(pair))
+    } else {
+        term_fst(boxed(alloc, Ok(pair)))
     }
 }
 
@@ -28,12 +56,10 @@ pub fn folded_fst(alloc: Global, pair: Term) -> Result<Term, AllocError>
 pub fn folded_snd(alloc: Global, pair: Term) -> Result<Term, AllocError>
     ensures folded { IfOk result (λ t. term_tree t ≡ folding (t_snd (term_tree pair))) }
 {
-    if !is_pair(&pair) {
-        return term_snd(boxed(alloc, Ok(pair)));
-    }
-    match pair {
-        Term::Pair(_, right) => Ok(right.into_inner()),
-        other => term_snd(boxed(alloc, Ok(other))),
+    if is_pair(&pair) {
+        Ok(right_of(pair))
+    } else {
+        term_snd(boxed(alloc, Ok(pair)))
     }
 }
 
