@@ -1,5 +1,5 @@
 -- A term that was built has the tree of its parts; and a term that isn't computed is itself, folded.
-use Rattle.std.proofs.Common.{◌≡◌, Option, Some, None, Result, Ok, Err, refl, sym, ap, ◌∙◌, subst, arith}
+use Rattle.std.proofs.Common.{◌≡◌, Some, None, Result, Ok, Err, sym, ap, ◌∙◌, subst, arith}
 use Rattle.std.specs.Prelude.{IfOk}
 use Rattle.htt_syntax.specs.declared.mono.Mono.{Mono}
 use Rattle.htt_syntax.specs.declared.tree.Term.{Term}

@@ -1,12 +1,12 @@
 -- What a term is folded to, by what is seen of its parts.
-use Rattle.std.proofs.Common.{◌≡◌, ℕ, Bool, true, false, not, Option, Some, None, refl, sym, ap, ◌∙◌, arith}
+use Rattle.std.proofs.Common.{◌≡◌, Bool, true, false, not, Option, Some, None, refl}
 use Rattle.std.specs.Prelude.{option_map}
 use Rattle.htt_syntax.specs.declared.mono.Op.{Op}
 use Rattle.htt_syntax.specs.Trees.{MonoTree, TermTree, m_word, m_bool, m_loc, m_unit, m_pair, m_var, t_var, t_val, t_def, t_app, t_inst, t_lam}
 use Rattle.htt_syntax.specs.Trees.{t_lam_t, t_do, t_fix, t_word, t_bool, t_loc, t_unit, t_pair, t_fst, t_snd, t_not, t_bin, t_eq, t_sel, t_ann}
 use Rattle.htt_syntax.specs.Trees.{t_made, t_at}
 use Rattle.theory_canonical.specs.Folding.{contractum, op_literal}
-use Rattle.canonical_forms_folding.specs.Seen.{word_of, bool_of, loc_of, pair_of, both, compared}
+use Rattle.canonical_forms_folding.specs.Seen.{word_of, bool_of, pair_of, both, compared}
 
 pub fst_folds : (t : TermTree) → contractum (t_fst t) ≡ option_map (λ p. p.0) (pair_of t)
 unfolding contractum

@@ -1,6 +1,5 @@
 use Rattle.std.proofs.Common.{Ok, refl, sym, ap, ◌∙◌}
 use Rattle.std.specs.Prelude.{option_map}
-use Rattle.htt_syntax.specs.declared.tree.Term.TheVariants as vterm
 use Rattle.htt_syntax.specs.Trees.{t_bool, t_eq}
 use Rattle.htt_syntax.specs.Views.{mono_tree, term_tree}
 use Rattle.htt_syntax.specs.Levels.{term_bool}
