@@ -1,13 +1,13 @@
--- A claim comes to one thing.
-use Rattle.std.proofs.Common.{◌≡◌, ℕ, Bool, true, false, List, Option, Ok, Err, refl, sym, ap, ◌∙◌, subst, arith}
+-- A claim comes to one thing, and a row is claimed once.
+use Rattle.std.proofs.Common.{◌≡◌, ℕ, Bool, true, false, List, Option, Some, Ok, Err, refl, sym, ap, ◌∙◌, subst, arith}
 use Rattle.std.specs.Prelude.{slice_get, slice_set}
 use Rattle.obligations.specs.declared.row.Row.{Row}
 use Rattle.obligations.specs.declared.row.State.{State}
 use Rattle.obligations.specs.declared.claims.ClaimStop.TheVariants.{Stray, Twice}
-use Rattle.obligations.specs.Rows.{is_free, AreDistinct, ChangesTo, with_state}
+use Rattle.obligations.specs.Rows.{is_free, is_free_state, AreDistinct, ChangesTo, with_state}
 use Rattle.obligations.specs.Claims.{NoneNamed, StandsAs, claimed_as}
-use Rattle.obligations.specs.Laws.{ClaimsComeToOne}
-use Rattle.obligations.proofs.Rows.{some_is}
+use Rattle.obligations.specs.Laws.{ClaimsComeToOne, ClaimsAreOnce}
+use Rattle.obligations.proofs.Rows.{some_is, stands_changed, changed_distinct}
 
 module _ (target : Option ℕ) (number : ℕ) (rows : List Row) where
   one_row : (free also : Bool) (j k : ℕ) → AreDistinct rows → StandsAs free target number rows j → StandsAs also target number rows k → j ≡ k
@@ -43,3 +43,34 @@ claims_come_to_one target number auto rows one other (Err Twice) (Ok k) distinct
     let e = one_state target number rows false true a.0.0 k distinct a.0.1 b.0 in grind (arith, e)
 claims_come_to_one target number auto rows one other (Err Twice) (Err Stray) distinct a b = absurd (not_both target number rows false a.0.0 b.0 a.0.1)
 claims_come_to_one target number auto rows one other (Err Twice) (Err Twice) distinct a b = (refl, a.1 ∙ sym b.1)
+
+-- ---- a row is claimed once
+
+not_free : (auto : Bool) → is_free_state (claimed_as auto) ≡ false
+not_free true = refl
+not_free false = refl
+
+module _ (target : Option ℕ) (number : ℕ) (auto : Bool) (rows once : List Row) (row : ℕ) (distinct : AreDistinct rows) where
+  claimed : StandsAs true target number rows row → ChangesTo (claimed_as auto) row rows once → StandsAs false target number once row
+  claimed a b =
+      let same : a.there ≡ b.was = some_is a.there b.was (sym a.stands ∙ b.stood) in
+      let x = with_state (claimed_as auto) b.was in
+      record {
+        there = x;
+        stands = ap (λ (rs : List Row). slice_get rs row) b.changed ∙ stands_changed rows row b.was x b.stood;
+        named = record { of_item = a.named.of_item ∙ ap (λ (r : Row). Some r.item) same; of_number = a.named.of_number ∙ ap (λ (r : Row). r.number) same };
+        state = not_free auto;
+      }
+
+  stays_distinct : ChangesTo (claimed_as auto) row rows once → AreDistinct once
+  stays_distinct b = subst (λ (rs : List Row). AreDistinct rs) (sym b.changed) (changed_distinct rows row b.was (claimed_as auto) b.stood distinct)
+
+pub claims_are_once : ClaimsAreOnce
+claims_are_once target number auto again rows once twice row (Ok k) distinct a b =
+    let there = claimed target number auto rows once row distinct a.0 a.1 in
+    let kept = stays_distinct target number auto rows once row distinct a.1 in
+    let e = one_state target number once false true row k kept there b.0 in
+    grind (arith, e)
+claims_are_once target number auto again rows once twice row (Err Stray) distinct a b =
+    absurd (not_both target number once false row b.0 (claimed target number auto rows once row distinct a.0 a.1))
+claims_are_once target number auto again rows once twice row (Err Twice) distinct a b = (refl, b.1)

@@ -12,7 +12,7 @@ some_is x y e = grind arith
 -- ---- a row in another state
 
 -- each row of the changed list stood there with its item and number
-stood_before : (rows : List Row) (row k : ℕ) (was r : Row) (s : State)
+pub stood_before : (rows : List Row) (row k : ℕ) (was r : Row) (s : State)
     → slice_get rows row ≡ Some was
     → slice_get (slice_set rows row (with_state s was)) k ≡ Some r
     → (q : Row) × (slice_get rows k ≡ Some q) × (q.item ≡ r.item) × (q.number ≡ r.number)
@@ -24,6 +24,12 @@ stood_before (x ∷ xs) zero zero was r s stood there =
 stood_before (x ∷ xs) zero (suc k) was r s stood there = (r, there, refl, refl)
 stood_before (x ∷ xs) (suc row) zero was r s stood there = (r, there, refl, refl)
 stood_before (x ∷ xs) (suc row) (suc k) was r s stood there = stood_before xs row k was r s stood there
+
+-- and the row itself is there, in its new state
+pub stands_changed : (rows : List Row) (row : ℕ) (was x : Row) → slice_get rows row ≡ Some was → slice_get (slice_set rows row x) row ≡ Some x
+stands_changed [] row was x stood = absurd (grind (arith, stood))
+stands_changed (y ∷ ys) zero was x stood = refl
+stands_changed (y ∷ ys) (suc row) was x stood = stands_changed ys row was x stood
 
 pub changed_distinct : (rows : List Row) (row : ℕ) (was : Row) (s : State)
     → slice_get rows row ≡ Some was

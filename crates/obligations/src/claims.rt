@@ -1,6 +1,6 @@
 //! Why a proof of the file claims no row.
 
-ghost use Rattle.obligations.specs.Laws.{ClaimsComeToOne};
+ghost use Rattle.obligations.specs.Laws.{ClaimsComeToOne, ClaimsAreOnce};
 
 use thiserror::Error;
 
@@ -20,4 +20,10 @@ pub enum ClaimStop {
 /// the row isn't free.
 pub fn claims_come_to_one()
     ensures law { ClaimsComeToOne }
+{}
+
+/// A row is claimed once: behind a claim that had a row, each further one for the same item and number is refused as
+/// the second, and changes nothing.
+pub fn claims_are_once()
+    ensures law { ClaimsAreOnce }
 {}

@@ -7,7 +7,7 @@ mod claims;
 mod row;
 mod table;
 
-pub use claims::{ClaimStop, claims_come_to_one};
+pub use claims::{ClaimStop, claims_are_once, claims_come_to_one};
 pub use row::{Row, State};
 pub use table::Table;
 
