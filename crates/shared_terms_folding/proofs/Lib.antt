@@ -4,3 +4,4 @@ pub mod Rows
 pub mod Stood
 pub mod Told
 pub mod Others
+pub mod Standing

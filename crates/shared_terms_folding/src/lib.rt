@@ -41,3 +41,6 @@ pub fn fold(work: &mut Work, row: Row) -> Result<usize, AllocError>
         }),
     }
 }
+
+#[cfg(test)]
+mod tests;
