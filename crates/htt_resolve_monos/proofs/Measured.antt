@@ -13,7 +13,7 @@ use Rattle.htt_parser_trees.specs.declared.mono.RawBracket.TheVariants as vbrack
 use Rattle.htt_parser_trees.specs.declared.place.Span.{Span}
 use Rattle.htt_parser_trees.specs.Trees as raw
 use Rattle.htt_parser_trees.specs.Trees.{with_right}
-use Rattle.htt_parser_trees.specs.MonoViews.{raw_right_tree, raw_bracket_tree}
+use Rattle.htt_parser_trees.specs.MonoViews.{raw_right_tree, raw_bracket_tree, raw_brackets_row}
 use Rattle.htt_parser_trees.specs.MonoLevels.{raw_mono_tree, raw_brackets_tree, raw_right_nothing, raw_right_times, raw_bracket_alone, raw_bracket_times}
 use Rattle.htt_syntax_measure.specs.declared.size.Size.{Size}
 use Rattle.htt_syntax_measure.specs.Measures.{leaf, nothing, beside, node, node_of_two, mono_measure}
@@ -83,7 +83,7 @@ both_sized : (L R : Result MonoTree Stop) (a b : Size)
     → sized mono_measure L ≡ Ok a
     → sized mono_measure R ≡ Ok b
     → sized mono_measure (L >>= (λ l. R >>= (λ r. Ok (m_pair l r)))) ≡ Ok (node (beside a b))
-unfolding ◌>>=◌ node_of_two
+unfolding ◌>>=◌ node_of_two size_in mono_measure
 both_sized (Err stop) R a b h k = grind (arith, h)
 both_sized (Ok l) (Err stop) a b h k = grind (arith, k)
 both_sized (Ok l) (Ok r) a b h k =
@@ -169,7 +169,7 @@ module _ (s : Scope) where
   unfolding factor_comes raw_right_tree
   bracket_stops (bracket.Alone at) m stop h = h
   bracket_stops (bracket.Times' at pa (more_of-RawMono a b pc c end_of-RawMono)) m stop h =
-      right_stops (raw.m_brackets at m) (Some _) stop h
+      right_stops (raw.m_brackets at m) (Some (raw_brackets_row c (with_right (raw.m_name a) (raw_right_tree b)))) stop h
 
   brackets_stop : (bs : List RawBracket) (m : raw.RawMonoTree) (stop : Option Stop)
       → IsStop stop (sized mono_measure (mono_comes s m))

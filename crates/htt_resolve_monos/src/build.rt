@@ -26,9 +26,9 @@ pub fn build_mono(alloc: Global, scope: &Scope<'_>, mono: &RawMono) -> Result<Mo
     ensures built { Builds mono_tree result (mono_comes (scope_tree scope.now) (raw_mono_tree mono.now)) }
 {
     let name = build_name(alloc, scope, mono.name)?;
-    let mut built = build_right(alloc, scope, name, &mono.right)?;
+    let mut built = build_right(alloc, scope, &mono.right, name)?;
     for bracket in mono.brackets.as_slice() {
-        built = build_bracket(alloc, scope, built, bracket)?;
+        built = build_bracket(alloc, scope, bracket, built)?;
     }
     Ok(built)
 }
@@ -65,8 +65,8 @@ fn build_named(alloc: Global, scope: &Scope<'_>, span: Span) -> Result<Mono, All
 fn build_right(
     alloc: Global,
     scope: &Scope<'_>,
-    left: Mono,
     right: &RawRight,
+    left: Mono,
 ) -> Result<Mono, AllocError>
     ensures built { (f : RawFactorTree)
         → factor_comes (scope_tree scope.now) f ≡ Ok (mono_tree left)
@@ -74,7 +74,7 @@ fn build_right(
 {
     match right {
         RawRight::Nothing => Ok(left),
-        RawRight::Times(mono) => build_pair(alloc, scope, left, mono),
+        RawRight::Times(mono) => build_pair(alloc, scope, mono, left),
     }
 }
 
@@ -84,8 +84,8 @@ fn build_right(
 fn build_bracket(
     alloc: Global,
     scope: &Scope<'_>,
-    inner: Mono,
     bracket: &RawBracket,
+    inner: Mono,
 ) -> Result<Mono, AllocError>
     ensures built { (m : RawMonoTree)
         → mono_comes (scope_tree scope.now) m ≡ Ok (mono_tree inner)
@@ -93,7 +93,7 @@ fn build_bracket(
 {
     match bracket {
         RawBracket::Alone { at: _ } => Ok(inner),
-        RawBracket::Times { at: _, mono } => build_pair(alloc, scope, inner, mono),
+        RawBracket::Times { at: _, mono } => build_pair(alloc, scope, mono, inner),
     }
 }
 
@@ -103,8 +103,8 @@ fn build_bracket(
 fn build_pair(
     alloc: Global,
     scope: &Scope<'_>,
-    left: Mono,
     right: &Boxed<RawMono>,
+    left: Mono,
 ) -> Result<Mono, AllocError>
     ensures built { (f : RawFactorTree)
         → factor_comes (scope_tree scope.now) f ≡ Ok (mono_tree left)

@@ -91,6 +91,13 @@ fn measure_pair(scope: &Scope<'_>, left: Size, right: &Boxed<RawMono>) -> Result
         → sized mono_measure (factor_comes (scope_tree scope.now) f) ≡ Ok left
         → AnswersSize mono_measure result (mono_comes (scope_tree scope.now) (m_pair f (raw_mono_tree right.now))) }
 {
-    let right = measure_mono(scope, right.get())?;
+    let right = mono_box(scope, right)?;
     Ok(left.beside(right).under_node())
+}
+
+#[cycle(measure)]
+fn mono_box(scope: &Scope<'_>, mono: &Boxed<RawMono>) -> Result<Size, NameStop>
+    ensures measured { AnswersSize mono_measure result (mono_comes (scope_tree scope.now) (raw_mono_tree mono.now)) }
+{
+    measure_mono(scope, mono.get())
 }

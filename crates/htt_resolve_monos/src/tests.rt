@@ -12,12 +12,10 @@ use std::alloc::{AllocError, Global};
 use std::test::Fail;
 
 /// The name of one letter that stands at this byte.
-fn letter(at: u64) -> MonoName
-    requires room { at < 1000 }
-{
+fn letter(at: u32) -> MonoName {
     MonoName::Name(Span {
-        from: at,
-        to: at + 1,
+        from: at as u64,
+        to: at as u64 + 1,
     })
 }
 

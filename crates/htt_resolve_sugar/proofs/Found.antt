@@ -1,7 +1,9 @@
 -- Where in a list that has the innermost one last a variable finds what is put for it.
 use Rattle.std.proofs.Common.{◌≡◌, ℕ, zero, suc, ◌+◌, ◌-◌, ◌<◌, ◌≤◌, inl, inr, List, [], ◌∷◌, ◌++◌, length, map, get_or, refl, sym, ap, ◌∙◌, arith, subst}
 use Rattle.std.proofs.Common.{Option, Some, None, slice_get}
-use Rattle.std.specs.Prelude.{reverse, option_map, option_and_then, Result, IfOk}
+use Rattle.std.specs.Prelude.{reverse, option_map, option_and_then, Result, IfOk, true, false, nat_le, ◌⊎◌, ◌^◌}
+use Rattle.std.proofs.lemmas.Bool.Decides.{leb_tells}
+use Rattle.theory_saturation.specs.Saturation.{saturated}
 use Rattle.std.proofs.lemmas.Option.{slice_get_read, slice_get-get_or, slice_get_past, get_or_from_slice_get, slice_get-map}
 use Rattle.std.proofs.lemmas.List.{get_or-reverse, length-reverse, length-map, map-append, reverse-append}
 use Rattle.theory_renaming.specs.Renaming.{lifts, shifting}
@@ -110,27 +112,53 @@ size_at : (all : List PutSize) (put : List putting.Put) (m : ℕ) (z : Option Pu
 unfolding Measures
 size_at all put m z h at = sym (slice_get-map put_size put m) ∙ ap (λ xs. slice_get xs m) h ∙ at
 
+-- a depth that 64 bits hold tells the place as the depth does, since an index has 32
+held_place : (count index depth d : ℕ) (place : Option ℕ)
+    → index < 2 ^ 32
+    → depth ≡ saturated d
+    → IsPlace count index depth place
+    → IsPlace count index d place
+held_place count index depth d (Some place) few held (below, is) =
+    (omega (arith, few, held, below), omega (arith, few, held, below, is))
+held_place count index depth d None few held (inl h) = inl (omega (arith, few, held, h))
+held_place count index depth d None few held (inr h) = by_case (leb_tells (suc index) d)
+  where
+    by_case : ((nat_le (suc index) d ≡ true) × (suc index ≤ d)) ⊎ ((nat_le (suc index) d ≡ false) × (d < suc index))
+        → IsPlace count index d None
+    by_case (inl (is, within)) = inl (omega (arith, within))
+    by_case (inr (is, past)) = inr (omega (arith, few, held, h, past))
+
 pub size_there : (all : List PutSize) (index depth place : ℕ) (z : PutSize)
+    → index < 2 ^ 32
     → IsPlace (length all) index depth (Some place)
     → slice_get all place ≡ Some z
-    → (put : List putting.Put)
+    → (put : List putting.Put) (d : ℕ)
     → Measures all put
-    → IsMeasured (Some z) (put_for put depth index)
-size_there all index depth place z (below, is) at put h =
-    let out : index ≡ depth + (index - depth) = omega (arith, below) in
-    let count : suc (place + (index - depth)) ≡ length all = omega (arith, below, is) in
-    ap (λ o. option_map put_size (option_and_then (slice_get put) o)) (outside_at depth index (index - depth) out)
-    ∙ size_at all put (index - depth) (Some z) h (turned all place (index - depth) z at count)
+    → depth ≡ saturated d
+    → IsMeasured (Some z) (put_for put d index)
+size_there all index depth place z few at-place at put d h held = there (held_place (length all) index depth d (Some place) few held at-place)
+  where
+    there : IsPlace (length all) index d (Some place) → IsMeasured (Some z) (put_for put d index)
+    there (below, is) =
+        let out : index ≡ d + (index - d) = omega (arith, below) in
+        let count : suc (place + (index - d)) ≡ length all = omega (arith, below, is) in
+        ap (λ o. option_map put_size (option_and_then (slice_get put) o)) (outside_at d index (index - d) out)
+        ∙ size_at all put (index - d) (Some z) h (turned all place (index - d) z at count)
 
 pub size_missing : (all : List PutSize) (index depth : ℕ)
+    → index < 2 ^ 32
     → IsPlace (length all) index depth None
-    → (put : List putting.Put)
+    → (put : List putting.Put) (d : ℕ)
     → Measures all put
-    → IsMeasured None (put_for put depth index)
-size_missing all index depth (inl below) put h = ap (option_map put_size) (own put index depth below)
-size_missing all index depth (inr past) put h =
-    let out : index ≡ depth + (index - depth) = omega (arith, past) in
-    ap (λ o. option_map put_size (option_and_then (slice_get put) o)) (outside_at depth index (index - depth) out)
-    ∙ size_at all put (index - depth) None h (past_turned all (index - depth) (omega (arith, past)))
+    → depth ≡ saturated d
+    → IsMeasured None (put_for put d index)
+size_missing all index depth few no-place put d h held = missing (held_place (length all) index depth d None few held no-place)
+  where
+    missing : IsPlace (length all) index d None → IsMeasured None (put_for put d index)
+    missing (inl below) = ap (option_map put_size) (own put index d below)
+    missing (inr past) =
+        let out : index ≡ d + (index - d) = omega (arith, past) in
+        ap (λ o. option_map put_size (option_and_then (slice_get put) o)) (outside_at d index (index - d) out)
+        ∙ size_at all put (index - d) None h (past_turned all (index - d) (omega (arith, past)))
 
 pub ruleset sizes = (size_there, size_missing, slice_get_read)

@@ -83,7 +83,7 @@ put_more all more put M t z first mono is h f m zis =
     let size : term_measure (t_ann M (y_mono (put_into_mono put t))) ≡ z =
     (term_ann_measure M (y_mono (put_into_mono put t))
     ∙ ap (λ A. node_of_two (term_measure M) A) (ty_mono_measure (put_into_mono put t))
-    ∙ (λ j. node (beside (f (~ j)) (node (m (~ j)))))
+    ∙ sym (λ j. node (beside (f j) (node (m j))))
     ∙ sym zis) in
     (λ j. sizes.Term (size j) ∷ h j)
     ∙ sym (reverse-append all (sizes.Term z ∷ []))

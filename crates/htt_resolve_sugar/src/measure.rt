@@ -3,6 +3,7 @@
 ghost use Rattle.std.specs.Prelude.{◌≡◌, ℕ, List, Option, IfOk};
 ghost use Rattle.htt_syntax.specs.Trees.{TermTree};
 ghost use Rattle.htt_syntax.specs.Views.{mono_tree, formula_tree};
+ghost use Rattle.theory_saturation.specs.Saturation.{saturated};
 ghost use Rattle.htt_syntax_measure.specs.Measures.{mono_measure, term_measure, formula_measure};
 ghost use Rattle.theory_text_sugar.specs.Putting.{Put, put_for, mono_for, term_for, putting, put_into_formula};
 ghost use Rattle.htt_resolve_sugar.specs.Views.{Measures, IsMeasured, with_argument};
@@ -29,8 +30,11 @@ struct PutSizes<'a> {
 impl PutSizes<'_> {
     /// The size of what stands for the variable of this index under `depth` binders.
     #[tactic(auto, using(crate::proofs::Found::sizes))]
-    fn size_for(&self, index: u32, depth: u32) -> Option<PutSize>
-        ensures found { (puts : List Put) → Measures self.now.sizes.now puts → IsMeasured result (put_for puts depth index) }
+    fn size_for(&self, index: u32, depth: u64) -> Option<PutSize>
+        ensures found { (puts : List Put) (d : ℕ)
+            → Measures self.now.sizes.now puts
+            → depth ≡ saturated d
+            → IsMeasured result (put_for puts d index) }
     {
         match place(self.sizes.len(), index, depth) {
             Some(place) => Some(self.sizes[place]),
@@ -68,11 +72,11 @@ fn mono_size(found: Option<PutSize>) -> Size
 impl Sizes for PutSizes<'_> {
     ghost measures = { λ s p. (puts : List Put) × Measures s.sizes.now puts × (p ≡ putting puts) };
 
-    fn at_term(&self, index: u32, depth: u32) -> Size {
+    fn at_term(&self, index: u32, depth: u64) -> Size {
         term_size(self.size_for(index, depth))
     }
 
-    fn at_mono(&self, index: u32, depth: u32) -> Size {
+    fn at_mono(&self, index: u32, depth: u64) -> Size {
         mono_size(self.size_for(index, depth))
     }
 }
@@ -101,12 +105,11 @@ pub fn put_argument_size(
     Ok(())
 }
 
-/// The size of the body with what is put for its free variables, from the sizes of these. It takes no memory, and fails
-/// where more than 32 bits of binders stand around a place.
-pub fn body_size(body: &Formula, puts: &[PutSize]) -> Result<Size, AllocError>
+/// The size of the body with what is put for its free variables, from the sizes of these.
+pub fn body_size(body: &Formula, puts: &[PutSize]) -> Size
     ensures measured { (put : List Put)
         → Measures puts.now put
-        → IfOk result (λ z. z ≡ formula_measure (put_into_formula put (formula_tree body.now))) }
+        → result ≡ formula_measure (put_into_formula put (formula_tree body.now)) }
 {
     measure_formula(body, &PutSizes { sizes: puts }, 0)
 }

@@ -35,7 +35,7 @@ impl Putting<'_> {
     fn put_for(&self, index: u32, depth: u32) -> Option<&Put>
         ensures found { option_map (λ p. put_tree p.now) result ≡ put_for (puts_tree self.now.puts.now) depth index }
     {
-        match place(self.puts.len(), index, depth) {
+        match place(self.puts.len(), index, depth as u64) {
             Some(place) => Some(&self.puts[place]),
             None => None,
         }
