@@ -7,7 +7,15 @@ use std::test::Fail;
 
 #[test]
 fn an_entry_has_the_name_of_its_position(rt: HostRuntime) -> Result<(), Fail> {
-    let sorts = [Sort::TermOrHeap, Sort::Mem, Sort::Init, Sort::Heap, Sort::Mem, Sort::Term, Sort::Mono];
+    let sorts = [
+        Sort::TermOrHeap,
+        Sort::Mem,
+        Sort::Init,
+        Sort::Heap,
+        Sort::Mem,
+        Sort::Term,
+        Sort::Mono,
+    ];
     let scope = PrintScope::of(Vec::from_slice(rt.alloc(), &sorts)?, 2, &[], &[]);
     for (index, printed) in [
         (0, "_x6"),
@@ -28,20 +36,34 @@ fn an_entry_has_the_name_of_its_position(rt: HostRuntime) -> Result<(), Fail> {
 
 #[test]
 fn binders_add_the_next_names(rt: HostRuntime) -> Result<(), Fail> {
-    let scope = PrintScope::of(Vec::from_slice(rt.alloc(), &[Sort::Heap, Sort::Term])?, 3, &[], &[]);
+    let scope = PrintScope::of(
+        Vec::from_slice(rt.alloc(), &[Sort::Heap, Sort::Term])?,
+        3,
+        &[],
+        &[],
+    );
     let mut out = Vec::new(rt.alloc());
     scope.append_new_name(&mut out, Sort::Heap)?;
-    scope.under_heaps(rt.alloc())?.append_new_name(&mut out, Sort::Term)?;
-    scope.under_mem(rt.alloc())?.append_new_name(&mut out, Sort::Mono)?;
+    scope
+        .under_heaps(rt.alloc())?
+        .append_new_name(&mut out, Sort::Term)?;
+    scope
+        .under_mem(rt.alloc())?
+        .append_new_name(&mut out, Sort::Mono)?;
     scope.append_new_hypothesis(&mut out)?;
-    scope.under_hypothesis(rt.alloc())?.append_new_hypothesis(&mut out)?;
+    scope
+        .under_hypothesis(rt.alloc())?
+        .append_new_hypothesis(&mut out)?;
     assert_eq!(rt; out.as_slice(), "_h2_x4_a3_u3_u4".as_bytes());
     Ok(())
 }
 
 #[test]
 fn declared_names_are_printed_by_their_numbers(rt: HostRuntime) -> Result<(), Fail> {
-    let vals = [Seq::of(Vec::from_slice(rt.alloc(), b"dup")?), Seq::of(Vec::from_slice(rt.alloc(), b"main")?)];
+    let vals = [
+        Seq::of(Vec::from_slice(rt.alloc(), b"dup")?),
+        Seq::of(Vec::from_slice(rt.alloc(), b"main")?),
+    ];
     let recs = [Seq::of(Vec::from_slice(rt.alloc(), b"lst")?)];
     let scope = PrintScope::of(Vec::new(rt.alloc()), 0, &vals, &recs);
     let mut out = Vec::new(rt.alloc());
