@@ -1,7 +1,7 @@
 -- What folding comes to where literals and pairs are seen, and where none are.
 use Rattle.std.proofs.Common.{◌≡◌, ℕ, Bool, Some, None, refl, ap}
 use Rattle.htt_syntax.specs.declared.mono.Op.{Op}
-use Rattle.htt_syntax.specs.Trees.{MonoTree, TermTree, m_word, m_bool, m_loc, t_word, t_bool, t_loc, t_pair, t_bin, t_eq, t_fst, t_snd}
+use Rattle.htt_syntax.specs.Trees.{MonoTree, TermTree, m_word, m_bool, m_loc, t_word, t_bool, t_loc, t_bin, t_eq}
 use Rattle.theory_canonical.specs.Folding.{folding, contractum, op_literal}
 use Rattle.theory_logic_axioms.specs.Table.{op_of}
 use Rattle.logic_axioms_parts.specs.Literals.{words_in, truths_in, places_in, are_equal}

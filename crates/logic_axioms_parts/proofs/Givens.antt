@@ -1,5 +1,5 @@
 -- Arguments that begin otherwise aren't those that are asked for.
-use Rattle.std.proofs.Common.{◌≡◌, List, [], ◌∷◌, false, refl}
+use Rattle.std.proofs.Common.{◌≡◌, List, ◌∷◌, false, refl}
 use Rattle.htt_syntax.specs.Trees.{ArgTree, a_heap, a_term}
 use Rattle.logic_axioms_parts.specs.Given.{Kind, heap, term, are_given, begins_with}
 

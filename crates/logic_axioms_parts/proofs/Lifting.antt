@@ -1,5 +1,5 @@
 -- A shift from 0 on by one goes under one more binder.
-use Rattle.std.proofs.Common.{◌≡◌, ℕ, suc, ap, add-one}
+use Rattle.std.proofs.Common.{◌≡◌, suc, ap, add-one}
 use Rattle.htt_syntax.specs.Trees.{MonoTree, TermTree}
 use Rattle.theory_renaming.specs.Renaming.{Map, lifts, shifting, rename_mono, rename_term}
 use Rattle.theory_substitution.specs.Closing.{up}

@@ -1,6 +1,6 @@
 -- The table has no formula at other arguments than those of an axiom's sorts.
-use Rattle.std.proofs.Common.{◌≡◌, List, [], ◌∷◌, map, Bool, true, false, Some, None, is_some, refl, sym, ◌∙◌, ap, subst}
-use Rattle.std.specs.Prelude.{Option, Result, Ok, Err}
+use Rattle.std.proofs.Common.{◌≡◌, List, [], ◌∷◌, map, false, Some, None, is_some, refl, sym, ◌∙◌, ap, subst}
+use Rattle.std.specs.Prelude.{Option, Result, Err}
 use Rattle.htt_syntax.specs.declared.tree.Formula.{Formula}
 use Rattle.htt_syntax.specs.Trees.{MonoTree, ArgTree, FormulaTree, a_heap, a_term}
 use Rattle.theory_logic_axioms.specs.Names.{AxiomName}
@@ -8,7 +8,7 @@ use Rattle.theory_logic_axioms.specs.Table.{ArgSort, heap_sort, term_sort, Signa
 use Rattle.theory_logic_axioms.proofs.Shapes.{formula_shaped}
 use Rattle.logic_axioms_shapes.specs.declared.sort.AxiomStop.{AxiomStop}
 use Rattle.logic_axioms_shapes.specs.declared.sort.AxiomStop.TheVariants.{BadInstance}
-use Rattle.logic_axioms_parts.specs.Given.{Kind, heap, term, are_given, kind_of, are_none, are_one, are_two}
+use Rattle.logic_axioms_parts.specs.Given.{are_given, kind_of, are_none, are_one, are_two}
 use Rattle.logic_axioms_parts.specs.Rows.{IsRow}
 
 kinds_fit : (sorts : List ArgSort) (args : List ArgTree) → fits_sorts sorts args ≡ are_given (map kind_of sorts) args

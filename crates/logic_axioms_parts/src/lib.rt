@@ -24,6 +24,7 @@ pub use formulas::{
 };
 pub use monotypes::{no_mono, one_mono, two_monos};
 pub use terms::{
-    lifted_heap, lifted_mono, lifted_term, mono, pair, pair_mono, place, term, unit, variable, word,
+    lifted_heap, lifted_mono, lifted_term, mono, pair, pair_mono, place, place_mono, term, truth,
+    unit, unit_mono, variable, word, word_mono,
 };
 pub use words::{equal_words, is_truth, less, minus, plus, times};

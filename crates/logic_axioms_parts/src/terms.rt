@@ -1,16 +1,14 @@
 //! Heaps, monotypes and terms of formulas.
 
 ghost use Rattle.std.specs.Prelude.{◌≡◌, ℕ, suc};
-ghost use Rattle.htt_syntax.specs.declared.mono.Op.TheVariants as op;
-ghost use Rattle.htt_syntax.specs.Trees.{MonoTree, TermTree, m_pair, t_var, t_word, t_bool, t_loc, t_unit, t_pair, t_fst, t_snd, t_bin, t_eq};
+ghost use Rattle.htt_syntax.specs.Trees.{TermTree, m_loc, m_pair, m_unit, m_word, t_bool, t_loc, t_pair, t_unit, t_var, t_word};
 ghost use Rattle.htt_syntax.specs.Views.{mono_tree, term_tree};
-ghost use Rattle.theory_canonical.specs.Folding.{folding};
 ghost use Rattle.theory_substitution.specs.Closing.{up};
-ghost use Rattle.theory_logic_axioms.specs.Table.{op_of, up_mono};
+ghost use Rattle.theory_logic_axioms.specs.Table.{up_mono};
 ghost use Rattle.logic_axioms_parts.specs.Made.{MakesHeap, MakesMono, MakesTerm};
 
-use htt_syntax::{Mono, Op, Term};
-use htt_syntax_build::{mono_pair, term_bin, term_eq, term_fst, term_pair, term_snd};
+use htt_syntax::{Mono, Term};
+use htt_syntax_build::{mono_pair, term_pair};
 use htt_syntax_seq::boxed;
 use htt_syntax_shift::{shift_mono, shift_term};
 use htt_syntax_walk::{copy_mono, copy_term};
@@ -21,6 +19,30 @@ pub fn lifted_heap(heap: u32) -> Result<u32, AllocError>
     ensures lifted { MakesHeap result (suc heap) }
 {
     heap.checked_add(1).ok_or(AllocError)
+}
+
+/// `word`
+#[tactic(auto, using(htt_syntax::specs::Levels::mono_levels))]
+pub fn word_mono() -> Result<Mono, AllocError>
+    ensures word { MakesMono result m_word }
+{
+    Ok(Mono::Word)
+}
+
+/// `loc`
+#[tactic(auto, using(htt_syntax::specs::Levels::mono_levels))]
+pub fn place_mono() -> Result<Mono, AllocError>
+    ensures place { MakesMono result m_loc }
+{
+    Ok(Mono::Loc)
+}
+
+/// `unit`
+#[tactic(auto, using(htt_syntax::specs::Levels::mono_levels))]
+pub fn unit_mono() -> Result<Mono, AllocError>
+    ensures unit { MakesMono result m_unit }
+{
+    Ok(Mono::Unit)
 }
 
 /// A copy of the monotype.
@@ -64,6 +86,7 @@ pub fn lifted_term(alloc: Global, term: &Term) -> Result<Term, AllocError>
     shift_term(alloc, term, 0, 1)
 }
 
+/// The variable of this index.
 #[tactic(auto, using(htt_syntax::specs::Levels::term_levels))]
 pub fn variable(index: u32) -> Result<Term, AllocError>
     ensures variable { MakesTerm result (t_var index) }
@@ -71,6 +94,7 @@ pub fn variable(index: u32) -> Result<Term, AllocError>
     Ok(Term::Var(index))
 }
 
+/// A number.
 #[tactic(auto, using(htt_syntax::specs::Levels::term_levels))]
 pub fn word(word: u64) -> Result<Term, AllocError>
     ensures word { MakesTerm result (t_word word) }
@@ -78,6 +102,15 @@ pub fn word(word: u64) -> Result<Term, AllocError>
     Ok(Term::Word(word))
 }
 
+/// `true` or `false`
+#[tactic(auto, using(htt_syntax::specs::Levels::term_levels))]
+pub fn truth(truth: bool) -> Result<Term, AllocError>
+    ensures truth { MakesTerm result (t_bool truth) }
+{
+    Ok(Term::Bool(truth))
+}
+
+/// A location; 0 is `null`.
 #[tactic(auto, using(htt_syntax::specs::Levels::term_levels))]
 pub fn place(place: u64) -> Result<Term, AllocError>
     ensures place { MakesTerm result (t_loc place) }
@@ -85,6 +118,7 @@ pub fn place(place: u64) -> Result<Term, AllocError>
     Ok(Term::Loc(place))
 }
 
+/// `()`
 #[tactic(auto, using(htt_syntax::specs::Levels::term_levels))]
 pub fn unit() -> Result<Term, AllocError>
     ensures unit { MakesTerm result t_unit }
