@@ -1,0 +1,6 @@
+//! The printer of phrases.
+#![tactic(auto)]
+
+mod after;
+
+pub use after::push_binder;
