@@ -9,5 +9,5 @@ mod scope;
 #[cfg(test)]
 mod tests;
 
-pub use names::push_number;
+pub use names::{push_hypothesis_name, push_name_at, push_number};
 pub use scope::NameScope;

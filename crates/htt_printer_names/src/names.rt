@@ -1,7 +1,8 @@
 //! Names by position, and what an index or a number is printed as. Each call appends to the bytes that it is given; it
 //! fails for want of memory alone, and then some of these bytes may be there.
 
-ghost use Rattle.std.specs.Prelude.{◌≡◌, ◌++◌, ◌<◌, OnOk, decimal, slice_get, length};
+ghost use Rattle.std.specs.Prelude.{◌≡◌, ◌++◌, ◌+◌, ◌<◌, OnOk, decimal, slice_get, length};
+ghost use Rattle.theory_text_names.specs.Scopes.{a_term};
 ghost use Rattle.theory_printing.specs.Pieces.{bytes_of};
 ghost use Rattle.theory_printing.specs.Names.{letters, name_at, hypothesis_name, past, entry, new_name, new_hypothesis, val_name, rec_name, name_or_blank};
 ghost use Rattle.htt_resolve_scopes.specs.Views.{sort_of};
@@ -77,6 +78,16 @@ impl NameScope<'_> {
         ensures printed { OnOk result (out.new.items ≡ out.old.items ++ bytes_of (new_name (sort_of sort) (print_scope self.now))) }
     {
         push_name_at(out, sort, self.entries.len() as u64)
+    }
+
+    /// Appends the name of what a binder of a term adds that stands behind so many others. A position past 64 bits is
+    /// taken as want of memory.
+    #[tactic(auto, using(crate::proofs::Inward::sorts_length))]
+    pub fn push_name_behind(&self, out: &mut Vec<u8>, others: usize) -> Result<(), AllocError>
+        ensures printed { OnOk result (out.new.items ≡ out.old.items ++ name_at a_term (length (print_scope self.now).entries + others)) }
+    {
+        let position = self.entries.len().checked_add(others).ok_or(AllocError)?;
+        push_name_at(out, Sort::Term, position as u64)
     }
 
     /// Appends the name of a further hypothesis.
