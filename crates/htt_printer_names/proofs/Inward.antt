@@ -84,12 +84,12 @@ entry_spelled xs p x below there =
     let is : innermost_sorts xs ≡ inside ++ (sort_of x ∷ outside) = sorts_split xs p x below there in
     let index : length xs - suc p ≡ length inside = sym (inside_length xs p) in
     let got : slice_get (innermost_sorts xs) (length xs - suc p) ≡ Some (sort_of x) =
-        (λ j. slice_get (is j) (index j)) ∙ get_behind inside outside (sort_of x) in
+    (λ j. slice_get (is j) (index j)) ∙ get_behind inside outside (sort_of x) in
     let taken : take (length xs - suc p) (innermost_sorts xs) ≡ inside =
-        (λ j. take (index j) (is j)) ∙ take_front inside (sort_of x ∷ outside) in
+    (λ j. take (index j) (is j)) ∙ take_front inside (sort_of x ∷ outside) in
     let one : suc p ≡ p + 1 = omega arith in
     let position : length (innermost_sorts xs) - suc (length xs - suc p) ≡ p =
-        ap (λ n. n - suc (length xs - suc p)) (sorts_length xs) ∙ omega (arith, below) in
+    ap (λ n. n - suc (length xs - suc p)) (sorts_length xs) ∙ omega (arith, below) in
     ap (λ s. bytes_of (entry_of_sort s (length xs - suc p) (innermost_sorts xs))) got
     ∙ spelled_there (sort_of x) p (length xs - suc p) (innermost_sorts xs) inside taken position
     ∙ ap (λ n. spelled (sort_of x) p (innermost_sorts (drop n xs))) one

@@ -34,7 +34,11 @@ pub fn push_mono(out: &mut Vec<u8>, scope: &NameScope<'_>, mono: &Mono) -> Resul
 
 #[cycle(mono)]
 #[tactic(auto, using(std::proofs::lemmas::Grind::common_steps, crate::proofs::MonoRows::mono_places))]
-fn push_operand(out: &mut Vec<u8>, scope: &NameScope<'_>, mono: &Boxed<Mono>) -> Result<(), AllocError>
+fn push_operand(
+    out: &mut Vec<u8>,
+    scope: &NameScope<'_>,
+    mono: &Boxed<Mono>,
+) -> Result<(), AllocError>
     ensures { OnOk result (out.new.items ≡ out.old.items ++ mono_operand_bytes (print_scope scope.now) (mono_tree mono.now)) }
 {
     if needs_brackets(Place::Operand, mono_shape(mono.get())) {
