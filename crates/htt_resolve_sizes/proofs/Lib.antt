@@ -1,7 +1,7 @@
 pub mod Forms
-pub mod Parts
+pub mod Sides
 pub mod Comes
 pub mod Answered
 pub mod Rows
 pub mod Firsts
-pub mod Chains
+pub mod Operators

@@ -45,7 +45,7 @@ fn factor(operand: &ProdOperand) -> &RawAppl
 
 /// The size of a chain of sums.
 #[cycle(sizes)]
-#[tactic(auto, using(crate::proofs::Chains::sums))]
+#[tactic(auto, using(crate::proofs::Operators::sums))]
 pub(crate) fn measure_sum(alloc: Global, scope: &Scope<'_>, sum: &RawSum) -> Result<Size, NameStop>
     ensures measured { IsSize result (size_of_sum (scope_tree scope.now) (raw_sum_tree sum.now)) }
 {
@@ -59,7 +59,7 @@ pub(crate) fn measure_sum(alloc: Global, scope: &Scope<'_>, sum: &RawSum) -> Res
 
 /// The size of a chain of products.
 #[cycle(sizes)]
-#[tactic(auto, using(crate::proofs::Chains::prods))]
+#[tactic(auto, using(crate::proofs::Operators::prods))]
 fn measure_prod(alloc: Global, scope: &Scope<'_>, prod: &RawProd) -> Result<Size, NameStop>
     ensures measured { IsSize result (size_of_prod (scope_tree scope.now) (raw_prod_tree prod.now)) }
 {

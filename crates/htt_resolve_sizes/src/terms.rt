@@ -113,10 +113,14 @@ pub(crate) fn measure_atom(
 }
 
 /// The size of what the name stands for, which is one node.
+#[tactic(auto, using(crate::proofs::Forms::afters))]
 fn measure_named(scope: &Scope<'_>, span: Span) -> Result<Size, NameStop>
     ensures measured { IsSize result (after (term_named (scope_tree scope.now) span) (Ok leaf)) }
 {
-    after(scope.term_named(span), Ok(Size::leaf()))
+    match scope.term_named(span) {
+        Ok(_) => Ok(Size::leaf()),
+        Err(stop) => Err(stop),
+    }
 }
 
 /// The size of terms that stand side by side.

@@ -48,7 +48,7 @@ pub(crate) fn measure_use(
     let mut puts = monos_put(alloc, scope, monos)?;
     put_arguments(alloc, scope, &mut puts, predicate.params, arguments)?;
     puts.push(PutSize::Heap)?;
-    Ok(body_size(predicate.body, puts.as_slice())?)
+    Ok(body_size(predicate.body, puts.as_slice()))
 }
 
 /// The sizes of the monotypes that are put.
