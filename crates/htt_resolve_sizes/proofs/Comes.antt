@@ -247,28 +247,28 @@ mutual
   pub star_sized : (s : Scope) (x : raw.RawStarTree) → sized formula_measure (star_comes s x) ≡ size_of_star s x
   star_sized s (raw.k_fatom g) = fatom_sized s g
   star_sized s (raw.k_times g k) =
-      afters formula_measure (current_heap s (byte_of_fatom g)) (λ h.
+      afters formula_measure (current_heap s (byte_of_fatom g)) _ (λ h.
       stars (byte_of_fatom g) h (fatom_comes (left_part s) g) (star_comes (right_part s) k) (fatom_sized (left_part s) g)
       (star_sized (right_part s) k))
 
   pub fatom_sized : (s : Scope) (x : raw.RawFatomTree) → sized formula_measure (fatom_comes s x) ≡ size_of_fatom s x
   fatom_sized s (raw.g_tt at) = ap Ok (formula_at_measure at f_tt ∙ formula_tt_measure)
   fatom_sized s (raw.g_ff at) = ap Ok (formula_at_measure at f_ff ∙ formula_ff_measure)
-  fatom_sized s (raw.g_emp at) = afters formula_measure (current_heap s at)
+  fatom_sized s (raw.g_emp at) = afters formula_measure (current_heap s at) _
       (λ h. ap Ok (formula_at_measure at (f_emp h) ∙ formula_emp_measure h))
   fatom_sized s (raw.g_brackets at p) = formula_sized s p
   fatom_sized s (raw.g_at_heap at h p) =
-      heaps formula_measure (heap_comes s h)
+      heaps formula_measure (heap_comes s h) _
       (λ k. sames formula_measure formula_measure (λ x. f_at at x) (λ x. formula_at_measure at x)
       (formula_comes (at_heap s k) p) (formula_sized (at_heap s k) p))
-  fatom_sized s (raw.g_emp_of at h) = afters formula_measure (heap_comes s h)
+  fatom_sized s (raw.g_emp_of at h) = afters formula_measure (heap_comes s h) _
       (λ k. ap Ok (formula_at_measure at (f_emp k) ∙ formula_emp_measure k))
   fatom_sized s (raw.g_same at h k) =
-      afters formula_measure (heap_comes s h) (λ a. afters formula_measure (heap_comes s k) (λ b.
+      afters formula_measure (heap_comes s h) _ (λ a. afters formula_measure (heap_comes s k) _ (λ b.
       ap Ok (formula_at_measure at (f_same a b) ∙ formula_same_measure a b)))
   fatom_sized s (raw.g_join at h k l) =
-      afters formula_measure (heap_comes s h)
-      (λ a. afters formula_measure (heap_comes s k) (λ b. afters formula_measure (heap_comes s l) (λ c.
+      afters formula_measure (heap_comes s h) _
+      (λ a. afters formula_measure (heap_comes s k) _ (λ b. afters formula_measure (heap_comes s l) _ (λ c.
       ap Ok (formula_at_measure at (f_join a b c) ∙ formula_join_measure a b c))))
   fatom_sized s (raw.g_cell at m h a c) =
       cells (mono_comes s m) (heap_comes s h) (term_comes s a) (term_comes s c) (λ t k x y. f_at at (f_cell t k x y))
@@ -278,14 +278,14 @@ mutual
       (λ t k x. formula_at_measure at (f_block t k x) ∙ formula_block_measure t k x) (term_sized s a)
   fatom_sized s (raw.g_use at x ms xs) = refl
   fatom_sized s (raw.g_use_at at x n xs) =
-      afters formula_measure (current_heap s at) (λ h. heaps formula_measure (rec_named s x) (λ p.
-      afters formula_measure (right_count at (count_of xs == p.1)) (λ _.
+      afters formula_measure (current_heap s at) _ (λ h. heaps formula_measure (rec_named s x) _ (λ p.
+      afters formula_measure (right_count at (count_of xs == p.1)) _ (λ _.
       twos term_measure terms_measure formula_measure (λ y z. f_at at (f_rec p.0 h y z))
       (λ y z. formula_at_measure at (f_rec p.0 h y z) ∙ formula_rec_measure p.0 h y z) (term_comes s n) (terms_come s xs)
       (term_sized s n) (terms_sized s xs))))
   fatom_sized s (raw.g_use_at_heap at x h n xs) =
-      heaps formula_measure (rec_named s x) (λ p. afters formula_measure (right_count at (count_of xs == p.1)) (λ _.
-      afters formula_measure (heap_comes s h) (λ k.
+      heaps formula_measure (rec_named s x) _ (λ p. afters formula_measure (right_count at (count_of xs == p.1)) _ (λ _.
+      afters formula_measure (heap_comes s h) _ (λ k.
       twos term_measure terms_measure formula_measure (λ y z. f_at at (f_rec p.0 k y z))
       (λ y z. formula_at_measure at (f_rec p.0 k y z) ∙ formula_rec_measure p.0 k y z) (term_comes s n) (terms_come s xs)
       (term_sized s n) (terms_sized s xs))))
@@ -294,13 +294,13 @@ mutual
       (λ x t y. formula_at_measure (byte_of_rel a) (f_eq t x y) ∙ formula_eq_measure t x y ∙ three_turned (mono_measure t) (term_measure x) (term_measure y))
       (rel_comes s a) (mono_comes s m) (rel_comes s c) (rel_sized s a) refl (rel_sized s c)
   fatom_sized s (raw.g_points a m c) =
-      afters formula_measure (current_heap s (byte_of_rel a)) (λ h.
+      afters formula_measure (current_heap s (byte_of_rel a)) _ (λ h.
       threes term_measure mono_measure term_measure formula_measure (λ x t y. f_at (byte_of_rel a) (f_cell t h x y))
       (λ x t y. formula_at_measure (byte_of_rel a) (f_cell t h x y) ∙ formula_cell_measure t h x y
       ∙ three_turned (mono_measure t) (term_measure x) (term_measure y))
       (rel_comes s a) (mono_comes s m) (rel_comes s c) (rel_sized s a) refl (rel_sized s c))
   fatom_sized s (raw.g_points_any a m) =
-      afters formula_measure (current_heap s (byte_of_rel a)) (λ h.
+      afters formula_measure (current_heap s (byte_of_rel a)) _ (λ h.
       twos term_measure mono_measure formula_measure (λ x t. f_at (byte_of_rel a) (f_block t h x))
       (λ x t. formula_at_measure (byte_of_rel a) (f_block t h x) ∙ formula_block_measure t h x
       ∙ two_turned (mono_measure t) (term_measure x))

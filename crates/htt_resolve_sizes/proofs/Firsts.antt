@@ -32,10 +32,13 @@ use Rattle.htt_parser_trees.specs.TreeLevels.{raw_rel_sum, raw_sum_operand_bar, 
 use Rattle.theory_text.specs.Bytes.{byte_of_atom, byte_of_appl, byte_of_rel, byte_of_sum, byte_of_fatom}
 use Rattle.htt_resolve_sizes.specs.Operands.{IsSummand, IsFactor}
 
-pub rel_sum_first : (s : RawSum) → byte_of_sum (raw_sum_tree s) ≡ byte_of_rel (raw_rel_tree (vrel.Sum s))
+pub rel_sum_first : (s : RawSum) → byte_of_appl (raw_appl_tree s.first.first) ≡ byte_of_rel (raw_rel_tree (vrel.Sum s))
+unfolding raw_sum_tree raw_prod_tree
 rel_sum_first s = sym (ap byte_of_rel (raw_rel_sum s))
 
-pub rel_less_first : (s : RawSum) (s2 : RawSum) → byte_of_sum (raw_sum_tree s) ≡ byte_of_rel (raw_rel_tree (vrel.Less s s2))
+pub rel_less_first : (s : RawSum) (s2 : RawSum)
+    → byte_of_appl (raw_appl_tree s.first.first) ≡ byte_of_rel (raw_rel_tree (vrel.Less s s2))
+unfolding raw_sum_tree raw_prod_tree
 rel_less_first s s2 = sym (ap byte_of_rel (raw_rel_less s s2))
 
 pub appl_unary_first : (at : ℕ) (word : UnaryWord) (operand : RawAtom) → at ≡ byte_of_appl
@@ -145,27 +148,35 @@ fatom_points_to_any_first at_place m = sym (ap byte_of_fatom (raw_fatom_points_t
 -- ---- operands behind their signs
 
 pub plus_operand : (x : RawProd) → IsSummand (vsum.Plus x) (raw_prod_tree x)
+unfolding IsSummand
 plus_operand x = (plus, λ rest. ap (λ f. f rest) (raw_sum_operand_plus x))
 
 pub minus_operand : (x : RawProd) → IsSummand (vsum.Minus x) (raw_prod_tree x)
+unfolding IsSummand
 minus_operand x = (minus, λ rest. ap (λ f. f rest) (raw_sum_operand_minus x))
 
 pub bar_operand : (x : RawProd) → IsSummand (vsum.Bar x) (raw_prod_tree x)
+unfolding IsSummand
 bar_operand x = (bar, λ rest. ap (λ f. f rest) (raw_sum_operand_bar x))
 
 pub caret_operand : (x : RawProd) → IsSummand (vsum.Caret x) (raw_prod_tree x)
+unfolding IsSummand
 caret_operand x = (caret, λ rest. ap (λ f. f rest) (raw_sum_operand_caret x))
 
 pub times_operand : (x : RawAppl) → IsFactor (vprod.Times x) (raw_appl_tree x)
+unfolding IsFactor
 times_operand x = (times, λ rest. ap (λ f. f rest) (raw_prod_operand_times x))
 
 pub and_operand : (x : RawAppl) → IsFactor (vprod.And x) (raw_appl_tree x)
+unfolding IsFactor
 and_operand x = (ampersand, λ rest. ap (λ f. f rest) (raw_prod_operand_and x))
 
 pub shift_left_operand : (x : RawAppl) → IsFactor (vprod.ShiftLeft x) (raw_appl_tree x)
+unfolding IsFactor
 shift_left_operand x = (shift_left, λ rest. ap (λ f. f rest) (raw_prod_operand_shift_left x))
 
 pub shift_right_operand : (x : RawAppl) → IsFactor (vprod.ShiftRight x) (raw_appl_tree x)
+unfolding IsFactor
 shift_right_operand x = (shift_right, λ rest. ap (λ f. f rest) (raw_prod_operand_shift_right x))
 
 pub ruleset rels = (

@@ -1,9 +1,18 @@
 -- What a node measures from its parts, whatever the parts do.
-use Rattle.std.proofs.Common.{◌≡◌, refl, sym, ap, ◌∙◌, subst}
-use Rattle.std.specs.Prelude.{Option, Some, None, Result, Ok, Err}
+use Rattle.std.proofs.Common.{◌≡◌, ℕ, suc, ⊥, List, [], ◌∷◌, length, refl, sym, ap, ◌∙◌, subst}
+use Rattle.std.proofs.lemmas.Bool.{eq-eqb, neq-eqb}
+use Rattle.std.specs.Prelude.{◌==◌, Option, Some, None, Result, Ok, Err}
 use Rattle.htt_syntax_measure.specs.declared.size.Size.{Size}
 use Rattle.htt_syntax_measure.specs.Measures.{node, node_of_two, node_of_three, node_of_four, beside, counted, deeper}
-use Rattle.theory_text_names.specs.Stops.{Stop, ◌>>=◌}
+use Rattle.theory_text_names.specs.Stops.{Stop, wrong_sort, ◌>>=◌}
+use Rattle.theory_text_names.specs.Scopes.{Scope}
+use Rattle.theory_text_names.specs.Uses.{rec_named}
+use Rattle.theory_text.specs.Phrases.{right_count, count_of}
+use Rattle.htt_parser_trees.specs.declared.place.Span.{Span}
+use Rattle.htt_parser_trees.specs.declared.tree.RawTerm.{RawTerm}
+use Rattle.htt_parser_trees.specs.TreeLevels.{raw_term_trees}
+use Rattle.htt_resolve_names.specs.declared.stop.NameStop.TheVariants as stops
+use Rattle.htt_resolve_sizes.specs.Operands.{size_of_recursive}
 use Rattle.htt_resolve_names.specs.declared.stop.NameStop.{NameStop}
 use Rattle.htt_resolve_names.specs.Views.{event_of}
 use Rattle.htt_resolve_names.specs.Answers.{IsStop}
@@ -19,9 +28,9 @@ stopped (Some stop) L next h = ap (λ l. l >>= next) h
 
 -- ---- answers of parts
 
-pub one_ok : (a : Size) (L : Result Size Stop) (z : Size) → IsSize (Ok a) L → z ≡ node a → IsSize (Ok z) (one L)
+pub one_ok : (a : Size) (L : Result Size Stop) (z : Size) → z ≡ node a → IsSize (Ok a) L → IsSize (Ok z) (one L)
 unfolding ◌>>=◌ one
-one_ok a L z h is = ap (λ l. l >>= (λ b. Ok (node b))) h ∙ ap Ok (sym is)
+one_ok a L z is h = ap (λ l. l >>= (λ b. Ok (node b))) h ∙ ap Ok (sym is)
 
 pub one_err : (stop : NameStop) (L : Result Size Stop) → IsSize (Err stop) L → IsSize (Err stop) (one L)
 unfolding one
@@ -29,9 +38,9 @@ one_err stop L h = stopped (event_of stop) L _ h
 
 pub ruleset ones = (one_ok, one_err)
 
-pub counted_ok : (a : Size) (L : Result Size Stop) (z : Size) → IsSize (Ok a) L → z ≡ counted a → IsSize (Ok z) (counted_one L)
+pub counted_ok : (a : Size) (L : Result Size Stop) (z : Size) → z ≡ counted a → IsSize (Ok a) L → IsSize (Ok z) (counted_one L)
 unfolding ◌>>=◌ counted_one
-counted_ok a L z h is = ap (λ l. l >>= (λ b. Ok (counted b))) h ∙ ap Ok (sym is)
+counted_ok a L z is h = ap (λ l. l >>= (λ b. Ok (counted b))) h ∙ ap Ok (sym is)
 
 pub counted_err : (stop : NameStop) (L : Result Size Stop) → IsSize (Err stop) L → IsSize (Err stop) (counted_one L)
 unfolding counted_one
@@ -39,9 +48,9 @@ counted_err stop L h = stopped (event_of stop) L _ h
 
 pub ruleset counts = (counted_ok, counted_err)
 
-pub deeper_ok : (a : Size) (L : Result Size Stop) (z : Size) → IsSize (Ok a) L → z ≡ deeper a → IsSize (Ok z) (deeper_one L)
+pub deeper_ok : (a : Size) (L : Result Size Stop) (z : Size) → z ≡ deeper a → IsSize (Ok a) L → IsSize (Ok z) (deeper_one L)
 unfolding ◌>>=◌ deeper_one
-deeper_ok a L z h is = ap (λ l. l >>= (λ b. Ok (deeper b))) h ∙ ap Ok (sym is)
+deeper_ok a L z is h = ap (λ l. l >>= (λ b. Ok (deeper b))) h ∙ ap Ok (sym is)
 
 pub deeper_err : (stop : NameStop) (L : Result Size Stop) → IsSize (Err stop) L → IsSize (Err stop) (deeper_one L)
 unfolding deeper_one
@@ -49,17 +58,17 @@ deeper_err stop L h = stopped (event_of stop) L _ h
 
 pub ruleset deepers = (deeper_ok, deeper_err)
 
-pub side_ok : (a b : Size) (L R : Result Size Stop) (z : Size) → IsSize (Ok a) L → IsSize (Ok b) R → z ≡ beside a b → IsSize
-    (Ok z) (side L R)
+pub side_ok : (a b : Size) (L R : Result Size Stop) (z : Size) → z ≡ beside a b → IsSize (Ok a) L → IsSize (Ok b) R
+    → IsSize (Ok z) (side L R)
 unfolding ◌>>=◌ side
-side_ok a b L R z h k is =
+side_ok a b L R z is h k =
     ap (λ l. l >>= (λ c. R >>= (λ d. Ok (beside c d)))) h ∙ ap (λ r. r >>= (λ d. Ok (beside a d))) k ∙ ap Ok (sym is)
 
 pub side_first : (stop : NameStop) (L R : Result Size Stop) → IsSize (Err stop) L → IsSize (Err stop) (side L R)
 unfolding side
 side_first stop L R h = stopped (event_of stop) L _ h
 
-second_stopped : {A B C : Type 0} (stop : Option Stop) (a : A) (L : Result A Stop) (R : Result B Stop)
+pub second_stopped : {A B C : Type 0} (stop : Option Stop) (a : A) (L : Result A Stop) (R : Result B Stop)
     (next : A → B → Result C Stop)
     → L ≡ Ok a
     → IsStop stop R
@@ -140,3 +149,43 @@ pub chained_err : {A : Type 0} (stop : NameStop) (L : Result A Stop) (next : A �
 chained_err stop L next h = stopped (event_of stop) L next h
 
 pub ruleset chained = (chained_ok, chained_err)
+
+-- ---- recursive predicates
+
+terms_counted : (xs : List RawTerm) → count_of (raw_term_trees xs) ≡ length xs
+unfolding count_of
+terms_counted [] = refl
+terms_counted (x ∷ xs) = ap suc (terms_counted xs)
+
+right_when : (at n m : ℕ) → n ≡ m → right_count at (n == m) ≡ Ok tt
+right_when at n m h = ap (right_count at) (eq-eqb n m h)
+
+wrong_when : (at n m : ℕ) → (n ≡ m → ⊥) → right_count at (n == m) ≡ Err (wrong_sort at)
+wrong_when at n m h = ap (right_count at) (neq-eqb n m h)
+
+module _ (s : Scope) (at : ℕ) (name : Span) (xs : List RawTerm) where
+  pub recursive_right : (p : ℕ × ℕ) (r : Result Size NameStop) (due : Result Size Stop)
+      → rec_named s name ≡ Ok p
+      → length xs ≡ p.1
+      → IsSize r due
+      → IsSize r (size_of_recursive s at name (raw_term_trees xs) due)
+  recursive_right p r due there same h =
+      chained_ok p (rec_named s name) _ r there
+      (after_ok tt (right_count at (count_of (raw_term_trees xs) == p.1)) r due
+      (right_when at (count_of (raw_term_trees xs)) p.1 (terms_counted xs ∙ same)) h)
+
+  pub recursive_wrong : (p : ℕ × ℕ) (due : Result Size Stop)
+      → rec_named s name ≡ Ok p
+      → (length xs ≡ p.1 → ⊥)
+      → IsSize (Err (stops.WrongSort at)) (size_of_recursive s at name (raw_term_trees xs) due)
+  recursive_wrong p due there other =
+      chained_ok p (rec_named s name) _ (Err (stops.WrongSort at)) there
+      (after_err (stops.WrongSort at) (right_count at (count_of (raw_term_trees xs) == p.1)) due
+      (wrong_when at (count_of (raw_term_trees xs)) p.1 (λ e. other (sym (terms_counted xs) ∙ e))))
+
+  pub recursive_stops : (stop : NameStop) (due : Result Size Stop)
+      → IsStop (event_of stop) (rec_named s name)
+      → IsSize (Err stop) (size_of_recursive s at name (raw_term_trees xs) due)
+  recursive_stops stop due h = chained_err stop (rec_named s name) _ h
+
+pub ruleset recursive_uses = (recursive_right, recursive_wrong, recursive_stops)

@@ -5,3 +5,4 @@ pub mod Answered
 pub mod Rows
 pub mod Firsts
 pub mod Operators
+pub mod Running

@@ -1,35 +1,31 @@
 -- What chains and lists measure, member by member from the first on.
 use Rattle.std.proofs.Common.{◌≡◌, ℕ, ◌+◌, ◌<◌, ◌≤◌, List, ◌∷◌, length, drop, get_or, refl, sym, ap, ◌∙◌, arith, subst}
 use Rattle.std.proofs.lemmas.List.{drop_all, drop_more}
-use Rattle.std.specs.Prelude.{max, Result, Ok, Err}
-use Rattle.theory_saturation.specs.Saturation.{saturated}
+use Rattle.std.specs.Prelude.{Result, Ok, Err}
 use Rattle.htt_parser_trees.specs.declared.tree.RawSum.{RawSum}
 use Rattle.htt_parser_trees.specs.declared.tree.RawProd.{RawProd}
 use Rattle.htt_parser_trees.specs.declared.tree.SumOperand.{SumOperand}
 use Rattle.htt_parser_trees.specs.declared.tree.ProdOperand.{ProdOperand}
 use Rattle.htt_parser_trees.specs.declared.tree.RawPart.{RawPart}
 use Rattle.htt_parser_trees.specs.declared.tree.RawPart.TheVariants as vpart
-use Rattle.htt_parser_trees.specs.declared.tree.RawAtom.{RawAtom}
-use Rattle.htt_parser_trees.specs.declared.mono.RawMono.{RawMono}
-use Rattle.htt_parser_trees.specs.MonoLevels.{raw_mono_tree}
-use Rattle.htt_parser_trees.specs.Trees.{RawProdTree, RawApplTree}
-use Rattle.htt_parser_trees.specs.TreeViews.{raw_atom_tree}
+use Rattle.htt_parser_trees.specs.Trees.{RawProdTree, RawApplTree, RawPartTrees}
+use Rattle.htt_parser_trees.specs.TreeViews.{raw_part_tree}
 use Rattle.htt_parser_trees.specs.TreeViews.{raw_appl_tree}
 use Rattle.htt_parser_trees.specs.TreeLevels.{raw_sum_tree, raw_prod_tree, raw_sum_rest, raw_prod_rest, raw_parts_tree}
 use Rattle.htt_parser_trees.specs.TreeLevels.{raw_part_atom, raw_part_mono}
 use Rattle.htt_syntax_measure.specs.declared.size.Size.{Size}
-use Rattle.htt_syntax_measure.specs.Measures.{beside, node_of_two}
+use Rattle.htt_syntax_measure.specs.Measures.{node_of_two}
 use Rattle.theory_text_names.specs.Stops.{Stop, ◌>>=◌}
 use Rattle.theory_text_names.specs.Scopes.{Scope}
 use Rattle.htt_resolve_names.specs.declared.stop.NameStop.{NameStop}
 use Rattle.htt_resolve_names.specs.Views.{event_of}
-use Rattle.htt_resolve_sizes.specs.Parts.{IsSize, side}
+use Rattle.htt_resolve_sizes.specs.Parts.{IsSize}
 use Rattle.htt_resolve_sizes.specs.Sizes.{size_of_sum, size_of_sum_rest, size_of_prod, size_of_prod_rest, size_of_appl}
-use Rattle.htt_resolve_sizes.specs.Sizes.{size_of_parts, size_of_atom, size_of_mono, size_of_term}
-use Rattle.htt_resolve_sizes.specs.Operands.{IsSummand, IsFactor}
+use Rattle.htt_resolve_sizes.specs.Sizes.{size_of_parts, size_of_term}
+use Rattle.htt_resolve_sizes.specs.Operands.{IsSummand, IsFactor, size_of_part}
 use Rattle.htt_resolve_sizes.proofs.Forms.{stopped}
 
-drop_read : {X : Type 0} (xs : List X) (i : ℕ) (x : X) → i < length xs → x ≡ get_or xs i x → drop i xs ≡ x ∷ drop (i + 1) xs
+pub drop_read : {X : Type 0} (xs : List X) (i : ℕ) (x : X) → i < length xs → x ≡ get_or xs i x → drop i xs ≡ x ∷ drop (i + 1) xs
 drop_read xs i x below is = drop_more xs i x below ∙ ap (λ y. y ∷ drop (i + 1) xs) (sym is)
 
 -- ---- one behind the other
@@ -56,7 +52,7 @@ module _ (s : Scope) where
       IsSummand x p
       → size_of_sum_rest s z (raw_sum_rest (drop i xs))
       ≡ size_of_prod s p >>= (λ y. size_of_sum_rest s (node_of_two z y) (raw_sum_rest (drop (i + 1) xs)))
-  unfolding size_of_term
+  unfolding size_of_term IsSummand
   sum_at xs i x p z below is takes =
       ap (λ ys. size_of_sum_rest s z (raw_sum_rest ys)) (drop_read xs i x below is)
       ∙ ap (size_of_sum_rest s z) (takes.1 (raw_sum_rest (drop (i + 1) xs)))
@@ -108,7 +104,7 @@ module _ (s : Scope) where
       IsFactor x a
       → size_of_prod_rest s z (raw_prod_rest (drop i xs))
       ≡ size_of_appl s a >>= (λ y. size_of_prod_rest s (node_of_two z y) (raw_prod_rest (drop (i + 1) xs)))
-  unfolding size_of_term
+  unfolding size_of_term IsFactor
   prod_at xs i x a z below is takes =
       ap (λ ys. size_of_prod_rest s z (raw_prod_rest ys)) (drop_read xs i x below is)
       ∙ ap (size_of_prod_rest s z) (takes.1 (raw_prod_rest (drop (i + 1) xs)))
@@ -146,33 +142,39 @@ module _ (s : Scope) where
 
   -- ---- arguments
 
-  pub atom_next : (xs : List RawPart) (i : ℕ) (x : RawAtom) (z y more : Size) (all : Result Size Stop)
+  part_at : (x : RawPart) (z : Size) (rest : RawPartTrees)
+      → size_of_parts s z (raw_part_tree x rest) ≡ size_of_part s x >>= (λ y. size_of_parts s (node_of_two z y) rest)
+  unfolding size_of_term
+  part_at (vpart.Atom x) z rest = ap (λ f. size_of_parts s z (f rest)) (raw_part_atom x)
+  part_at (vpart.Mono x) z rest = ap (λ f. size_of_parts s z (f rest)) (raw_part_mono x)
+
+  parts_at : (xs : List RawPart) (i : ℕ) (x : RawPart) (z : Size) → i < length xs → x ≡ get_or xs i x
+      → size_of_parts s z (raw_parts_tree (drop i xs))
+      ≡ size_of_part s x >>= (λ y. size_of_parts s (node_of_two z y) (raw_parts_tree (drop (i + 1) xs)))
+  parts_at xs i x z below is =
+      ap (λ ys. size_of_parts s z (raw_parts_tree ys)) (drop_read xs i x below is)
+      ∙ part_at x z (raw_parts_tree (drop (i + 1) xs))
+
+  pub part_next : (xs : List RawPart) (i : ℕ) (x : RawPart) (z y more : Size) (all : Result Size Stop)
       → all ≡ size_of_parts s z (raw_parts_tree (drop i xs))
       → i < length xs
-      → vpart.Atom x ≡ get_or xs i (vpart.Atom x)
-      → size_of_atom s (raw_atom_tree x) ≡ Ok y
+      → x ≡ get_or xs i x
+      → size_of_part s x ≡ Ok y
       → more ≡ node_of_two z y
       → all ≡ size_of_parts s more (raw_parts_tree (drop (i + 1) xs))
-  unfolding size_of_term
-  atom_next xs i x z y more all h below is there grown =
-      h ∙ ap (λ ys. size_of_parts s z (raw_parts_tree ys)) (drop_read xs i (vpart.Atom x) below is)
-      ∙ ap (λ f. size_of_parts s z (f (raw_parts_tree (drop (i + 1) xs)))) (raw_part_atom x)
-      ∙ gone (size_of_atom s (raw_atom_tree x)) y _ there
+  part_next xs i x z y more all h below is there grown =
+      h ∙ parts_at xs i x z below is
+      ∙ gone (size_of_part s x) y _ there
       ∙ ap (λ w. size_of_parts s w (raw_parts_tree (drop (i + 1) xs))) (sym grown)
 
-  pub mono_next : (xs : List RawPart) (i : ℕ) (x : RawMono) (z y more : Size) (all : Result Size Stop)
+  pub part_stops : (xs : List RawPart) (i : ℕ) (x : RawPart) (z : Size) (stop : NameStop) (all : Result Size Stop)
       → all ≡ size_of_parts s z (raw_parts_tree (drop i xs))
       → i < length xs
-      → vpart.Mono x ≡ get_or xs i (vpart.Mono x)
-      → size_of_mono s (raw_mono_tree x) ≡ Ok y
-      → more ≡ node_of_two z y
-      → all ≡ size_of_parts s more (raw_parts_tree (drop (i + 1) xs))
-  unfolding size_of_term
-  mono_next xs i x z y more all h below is there grown =
-      h ∙ ap (λ ys. size_of_parts s z (raw_parts_tree ys)) (drop_read xs i (vpart.Mono x) below is)
-      ∙ ap (λ f. size_of_parts s z (f (raw_parts_tree (drop (i + 1) xs)))) (raw_part_mono x)
-      ∙ gone (size_of_mono s (raw_mono_tree x)) y _ there
-      ∙ ap (λ w. size_of_parts s w (raw_parts_tree (drop (i + 1) xs))) (sym grown)
+      → x ≡ get_or xs i x
+      → IsSize (Err stop) (size_of_part s x)
+      → IsSize (Err stop) all
+  part_stops xs i x z stop all h below is k =
+      subst (IsSize (Err stop)) (sym (h ∙ parts_at xs i x z below is)) (stopped (event_of stop) (size_of_part s x) _ k)
 
   pub parts_end : (xs : List RawPart) (i : ℕ) (z : Size) (all : Result Size Stop)
       → all ≡ size_of_parts s z (raw_parts_tree (drop i xs))
@@ -181,33 +183,8 @@ module _ (s : Scope) where
   unfolding size_of_term
   parts_end xs i z all h past = h ∙ ap (λ ys. size_of_parts s z (raw_parts_tree ys)) (drop_all i xs past)
 
--- ---- side by side
-
-assoc : (a b c : Size) → beside (beside a b) c ≡ beside a (beside b c)
-unfolding beside
-assoc a b c =
-    let nodes : saturated (saturated (a.nodes + b.nodes) + c.nodes) ≡ saturated (a.nodes + saturated (b.nodes + c.nodes)) =
-    omega arith in
-    let depth : max (max a.depth b.depth) c.depth ≡ max a.depth (max b.depth c.depth) = omega arith in
-    λ j. record { nodes = nodes j; depth = depth j }
-
-side_assoc : (a b : Size) (R : Result Size Stop) → side (Ok a) (side (Ok b) R) ≡ side (Ok (beside a b)) R
-unfolding side ◌>>=◌
-side_assoc a b (Ok c) = ap Ok (sym (assoc a b c))
-side_assoc a b (Err stop) = refl
-
--- a member that is there, beside what was measured before it
-pub side_next : (L R : Result Size Stop) (z y more : Size) → L ≡ Ok y → more ≡ beside z y → side (Ok z) (side L R) ≡ side
-    (Ok more) R
-side_next L R z y more there grown =
-    ap (λ l. side (Ok z) (side l R)) there ∙ side_assoc z y R ∙ ap (λ w. side (Ok w) R) (sym grown)
-
--- one that is stopped
-pub side_stops : (stop : NameStop) (z : Size) (L R : Result Size Stop) → IsSize (Err stop) L → IsSize (Err stop)
-    (side (Ok z) (side L R))
-unfolding side ◌>>=◌
-side_stops stop z L R h = stopped (event_of stop) (side L R) _ (stopped (event_of stop) L _ h)
-
 pub ruleset sums = (sum_starts, sum_first_stops, sum_next, sum_stops, sum_ends)
 
 pub ruleset prods = (prod_starts, prod_first_stops, prod_next, prod_stops, prod_ends)
+
+pub ruleset parts = (part_next, part_stops, parts_end)

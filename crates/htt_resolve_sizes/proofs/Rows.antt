@@ -328,17 +328,17 @@ module _ (place : Scope) where
   unfolding size_of_term
   fatom_brackets_row at f r h = subst (λ t. IsSize r (size_of_fatom place t)) (sym (raw_fatom_brackets at f)) h
 
-  pub fatom_at_heap_row : (at : ℕ) (h : RawHeap) (f : RawFormula) (r : Result Size NameStop)
-      → IsSize r (heap_comes place h >>= (λ k. size_of_formula (at_heap place k) (raw_formula_tree f)))
-      → IsSize r (size_of_fatom place (raw_fatom_tree (vfatom.AtHeap at h f)))
+  pub fatom_at_heap_row : (at : ℕ) (heap : RawHeap) (f : RawFormula) (r : Result Size NameStop)
+      → IsSize r (heap_comes place heap >>= (λ k. size_of_formula (at_heap place k) (raw_formula_tree f)))
+      → IsSize r (size_of_fatom place (raw_fatom_tree (vfatom.AtHeap at heap f)))
   unfolding size_of_term
-  fatom_at_heap_row at h f r h = subst (λ t. IsSize r (size_of_fatom place t)) (sym (raw_fatom_at_heap at h f)) h
+  fatom_at_heap_row at heap f r h = subst (λ t. IsSize r (size_of_fatom place t)) (sym (raw_fatom_at_heap at heap f)) h
 
-  pub fatom_emp_of_row : (at : ℕ) (h : RawHeap) (r : Result Size NameStop)
-      → IsSize r (after (heap_comes place h) (Ok leaf))
-      → IsSize r (size_of_fatom place (raw_fatom_tree (vfatom.EmpOf at h)))
+  pub fatom_emp_of_row : (at : ℕ) (heap : RawHeap) (r : Result Size NameStop)
+      → IsSize r (after (heap_comes place heap) (Ok leaf))
+      → IsSize r (size_of_fatom place (raw_fatom_tree (vfatom.EmpOf at heap)))
   unfolding size_of_term
-  fatom_emp_of_row at h r h = subst (λ t. IsSize r (size_of_fatom place t)) (sym (raw_fatom_emp_of at h)) h
+  fatom_emp_of_row at heap r h = subst (λ t. IsSize r (size_of_fatom place t)) (sym (raw_fatom_emp_of at heap)) h
 
   pub fatom_same_row : (at : ℕ) (left : RawHeap) (right : RawHeap) (r : Result Size NameStop)
       → IsSize r (after (heap_comes place left) (after (heap_comes place right) (Ok leaf)))
@@ -353,20 +353,20 @@ module _ (place : Scope) where
   fatom_join_row at whole left right r h = subst (λ t. IsSize r (size_of_fatom place t))
       (sym (raw_fatom_join at whole left right)) h
 
-  pub fatom_cell_row : (at : ℕ) (m : RawMono) (h : RawHeap) (at_place : RawTerm) (value : RawTerm) (r : Result Size NameStop)
+  pub fatom_cell_row : (at : ℕ) (m : RawMono) (heap : RawHeap) (at_place : RawTerm) (value : RawTerm) (r : Result Size NameStop)
       → IsSize r
-      (three (size_of_mono place (raw_mono_tree m)) (after (heap_comes place h) (size_of_term place (raw_term_tree at_place))) (size_of_term place (raw_term_tree value)))
-      → IsSize r (size_of_fatom place (raw_fatom_tree (vfatom.Cell at m h at_place value)))
+      (three (size_of_mono place (raw_mono_tree m)) (after (heap_comes place heap) (size_of_term place (raw_term_tree at_place))) (size_of_term place (raw_term_tree value)))
+      → IsSize r (size_of_fatom place (raw_fatom_tree (vfatom.Cell at m heap at_place value)))
   unfolding size_of_term
-  fatom_cell_row at m h at_place value r h = subst (λ t. IsSize r (size_of_fatom place t))
-      (sym (raw_fatom_cell at m h at_place value)) h
+  fatom_cell_row at m heap at_place value r h = subst (λ t. IsSize r (size_of_fatom place t))
+      (sym (raw_fatom_cell at m heap at_place value)) h
 
-  pub fatom_block_row : (at : ℕ) (m : RawMono) (h : RawHeap) (at_place : RawTerm) (r : Result Size NameStop)
+  pub fatom_block_row : (at : ℕ) (m : RawMono) (heap : RawHeap) (at_place : RawTerm) (r : Result Size NameStop)
       → IsSize r
-      (two (size_of_mono place (raw_mono_tree m)) (after (heap_comes place h) (size_of_term place (raw_term_tree at_place))))
-      → IsSize r (size_of_fatom place (raw_fatom_tree (vfatom.Block at m h at_place)))
+      (two (size_of_mono place (raw_mono_tree m)) (after (heap_comes place heap) (size_of_term place (raw_term_tree at_place))))
+      → IsSize r (size_of_fatom place (raw_fatom_tree (vfatom.Block at m heap at_place)))
   unfolding size_of_term
-  fatom_block_row at m h at_place r h = subst (λ t. IsSize r (size_of_fatom place t)) (sym (raw_fatom_block at m h at_place)) h
+  fatom_block_row at m heap at_place r h = subst (λ t. IsSize r (size_of_fatom place t)) (sym (raw_fatom_block at m heap at_place)) h
 
   pub fatom_use_at_row : (at : ℕ) (x : Span) (index : RawTerm) (arguments : List RawTerm) (r : Result Size NameStop)
       → IsSize r
@@ -376,14 +376,14 @@ module _ (place : Scope) where
   fatom_use_at_row at x index arguments r h = subst (λ t. IsSize r (size_of_fatom place t))
       (sym (raw_fatom_use_at at x index arguments)) h
 
-  pub fatom_use_at_heap_row : (at : ℕ) (x : Span) (h : RawHeap) (index : RawTerm) (arguments : List RawTerm)
+  pub fatom_use_at_heap_row : (at : ℕ) (x : Span) (heap : RawHeap) (index : RawTerm) (arguments : List RawTerm)
       (r : Result Size NameStop)
       → IsSize r
-      (rec_named place x >>= (λ p. after (right_count at (count_of (raw_term_trees arguments) == p.1)) (after (heap_comes place h) (two (size_of_term place (raw_term_tree index)) (size_of_terms place (raw_term_trees arguments))))))
-      → IsSize r (size_of_fatom place (raw_fatom_tree (vfatom.UseAtHeap at x h index arguments)))
+      (rec_named place x >>= (λ p. after (right_count at (count_of (raw_term_trees arguments) == p.1)) (after (heap_comes place heap) (two (size_of_term place (raw_term_tree index)) (size_of_terms place (raw_term_trees arguments))))))
+      → IsSize r (size_of_fatom place (raw_fatom_tree (vfatom.UseAtHeap at x heap index arguments)))
   unfolding size_of_term
-  fatom_use_at_heap_row at x h index arguments r h = subst (λ t. IsSize r (size_of_fatom place t))
-      (sym (raw_fatom_use_at_heap at x h index arguments)) h
+  fatom_use_at_heap_row at x heap index arguments r h = subst (λ t. IsSize r (size_of_fatom place t))
+      (sym (raw_fatom_use_at_heap at x heap index arguments)) h
 
   pub fatom_eq_row : (left : RawRel) (m : RawMono) (right : RawRel) (r : Result Size NameStop)
       → IsSize r

@@ -151,19 +151,19 @@ module _ {X Z : Type 0} (f : X → Size) (h : Z → Size) where
       → sized h (L >>= K) ≡ a >>= k
   chains L K k e p = chain_sized L K k e ∙ ap (λ l. l >>= k) p
 
-pub afters : {A Z : Type 0} (h : Z → Size) (H : Result A Stop) {K : A → Result Z Stop} {b : Result Size Stop}
+pub afters : {A Z : Type 0} (h : Z → Size) (H : Result A Stop) (K : A → Result Z Stop) {b : Result Size Stop}
     → ((x : A) → sized h (K x) ≡ b)
     → sized h (H >>= K) ≡ after H b
 unfolding ◌>>=◌ after
-afters h (Ok x) e = e x
-afters h (Err stop) e = refl
+afters h (Ok x) K e = e x
+afters h (Err stop) K e = refl
 
-pub heaps : {A Z : Type 0} (h : Z → Size) (H : Result A Stop) {K : A → Result Z Stop} {k : A → Result Size Stop}
+pub heaps : {A Z : Type 0} (h : Z → Size) (H : Result A Stop) (K : A → Result Z Stop) {k : A → Result Size Stop}
     → ((x : A) → sized h (K x) ≡ k x)
     → sized h (H >>= K) ≡ H >>= k
 unfolding ◌>>=◌
-heaps h (Ok x) e = e x
-heaps h (Err stop) e = refl
+heaps h (Ok x) K e = e x
+heaps h (Err stop) K e = refl
 
 -- ---- forms of their own
 

@@ -1,5 +1,5 @@
 -- An operand of a chain behind its sign, an argument of a head, and a parameter.
-use Rattle.std.specs.Prelude.{◌≡◌, Result}
+use Rattle.std.specs.Prelude.{◌≡◌, ◌==◌, ℕ, Result}
 use Rattle.htt_parser_trees.specs.declared.tree.SumOperand.{SumOperand}
 use Rattle.htt_parser_trees.specs.declared.tree.ProdOperand.{ProdOperand}
 use Rattle.htt_parser_trees.specs.declared.tree.RawPart.{RawPart}
@@ -9,18 +9,23 @@ use Rattle.htt_parser_trees.specs.declared.tree.RawParam.TheVariants as params
 use Rattle.htt_parser_trees.specs.declared.place.Binder.{Binder}
 use Rattle.htt_parser_trees.specs.declared.place.Binder.TheVariants as binders
 use Rattle.htt_parser_trees.specs.Trees.{SumSign, ProdSign, RawTyTree, RawProdTree, RawApplTree, RawSumRestTree}
-use Rattle.htt_parser_trees.specs.Trees.{RawProdRestTree, s_more, x_more}
+use Rattle.htt_parser_trees.specs.Trees.{RawProdRestTree, RawFormulaTree, RawTermTrees, s_more, x_more}
+use Rattle.htt_parser_trees.specs.declared.tree.RawHeap.{RawHeap}
+use Rattle.htt_parser_trees.specs.declared.place.Span.{Span}
 use Rattle.htt_parser_trees.specs.MonoLevels.{raw_mono_tree}
 use Rattle.htt_parser_trees.specs.TreeViews.{raw_sum_operand_tree, raw_prod_operand_tree, raw_atom_tree, raw_ty_tree}
 use Rattle.htt_syntax_measure.specs.declared.size.Size.{Size}
-use Rattle.theory_text_names.specs.Stops.{Stop}
-use Rattle.theory_text_names.specs.Scopes.{Scope}
-use Rattle.htt_resolve_sizes.specs.Sizes.{size_of_mono, size_of_atom}
+use Rattle.theory_text_names.specs.Stops.{Stop, ◌>>=◌}
+use Rattle.theory_text_names.specs.Scopes.{Scope, at_heap}
+use Rattle.theory_text_names.specs.Uses.{rec_named, heap_comes}
+use Rattle.theory_text.specs.Phrases.{right_count, count_of}
+use Rattle.htt_resolve_sizes.specs.Parts.{after}
+use Rattle.htt_resolve_sizes.specs.Sizes.{size_of_mono, size_of_atom, size_of_formula}
 
-abbrev pub IsSummand : SumOperand → RawProdTree → Type 0
+unfoldable pub IsSummand : SumOperand → RawProdTree → Type 0
 IsSummand operand p = (sign : SumSign) × ((rest : RawSumRestTree) → raw_sum_operand_tree operand rest ≡ s_more sign p rest)
 
-abbrev pub IsFactor : ProdOperand → RawApplTree → Type 0
+unfoldable pub IsFactor : ProdOperand → RawApplTree → Type 0
 IsFactor operand a = (sign : ProdSign) × ((rest : RawProdRestTree) → raw_prod_operand_tree operand rest ≡ x_more sign a rest)
 
 -- what an argument of a head measures
@@ -36,3 +41,12 @@ name_of_param (params.Blank ty) = binders.Blank
 abbrev pub type_of_param : RawParam → RawTyTree
 type_of_param (params.Named name ty) = raw_ty_tree ty
 type_of_param (params.Blank ty) = raw_ty_tree ty
+
+-- what a formula at a heap measures
+abbrev pub size_at : Scope → RawHeap → RawFormulaTree → Result Size Stop
+size_at s heap formula = heap_comes s heap >>= (λ k. size_of_formula (at_heap s k) formula)
+
+-- the use of a recursive predicate, with as many arguments as it has parameters, where the rest measures so much
+abbrev pub size_of_recursive : Scope → ℕ → Span → RawTermTrees → Result Size Stop → Result Size Stop
+size_of_recursive s at name arguments rest =
+    rec_named s name >>= (λ p. after (right_count at (count_of arguments == p.1)) rest)

@@ -1,18 +1,17 @@
 //! Formulas that are no chain, and stars.
 
-ghost use Rattle.std.specs.Prelude.{◌==◌, Result};
-ghost use Rattle.theory_text_names.specs.Stops.{Stop, ◌>>=◌};
-ghost use Rattle.theory_text_names.specs.Scopes.{at_heap};
-ghost use Rattle.theory_text_names.specs.Uses.{rec_named, heap_comes, current_heap};
+ghost use Rattle.std.specs.Prelude.{Result};
+ghost use Rattle.theory_text_names.specs.Stops.{Stop};
+ghost use Rattle.theory_text_names.specs.Uses.{current_heap};
 ghost use Rattle.theory_text_sugar.specs.Sugar.{left_part, right_part};
 ghost use Rattle.theory_text.specs.Bytes.{byte_of_fatom};
-ghost use Rattle.theory_text.specs.Phrases.{right_count, count_of};
 ghost use Rattle.htt_parser_trees.specs.TreeViews.{raw_formula_tree, raw_fatom_tree, raw_star_tree};
 ghost use Rattle.htt_parser_trees.specs.TreeLevels.{raw_term_trees};
 ghost use Rattle.htt_syntax_measure.specs.declared.size.Size.{Size};
 ghost use Rattle.htt_resolve_scopes.specs.Views.{scope_tree};
 ghost use Rattle.htt_resolve_sizes.specs.Parts.{IsSize, after};
-ghost use Rattle.htt_resolve_sizes.specs.Sizes.{star_size, size_of_formula, size_of_star, size_of_fatom};
+ghost use Rattle.htt_resolve_sizes.specs.Sizes.{star_size, size_of_star, size_of_fatom};
+ghost use Rattle.htt_resolve_sizes.specs.Operands.{size_at, size_of_recursive};
 
 use crate::bytes::{byte_of_fatom, byte_of_rel};
 use crate::formulas::{formula_box, measure_star};
@@ -160,8 +159,7 @@ fn formula_at(
     heap: &RawHeap,
     formula: &Boxed<RawFormula>,
 ) -> Result<Size, NameStop>
-    ensures measured { IsSize result (heap_comes (scope_tree scope.now) heap.now
-        >>= (λ k. size_of_formula (at_heap (scope_tree scope.now) k) (raw_formula_tree formula.now))) }
+    ensures measured { IsSize result (size_at (scope_tree scope.now) heap.now (raw_formula_tree formula.now)) }
 {
     let heap = scope.heap(heap)?;
     let inner = scope.at_heap(alloc, heap)?;
@@ -180,8 +178,7 @@ fn recursive(
 ) -> Result<Size, NameStop>
     ensures measured { (due : Result Size Stop)
         → IsSize size due
-        → IsSize result (rec_named (scope_tree scope.now) name
-        >>= (λ p. after (right_count at (count_of (raw_term_trees arguments.now) == p.1)) due)) }
+        → IsSize result (size_of_recursive (scope_tree scope.now) at name (raw_term_trees arguments.now) due) }
 {
     let (_, params) = scope.rec_named(name)?;
     if arguments.len() == params as usize {

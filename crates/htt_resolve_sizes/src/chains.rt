@@ -52,7 +52,7 @@ pub(crate) fn measure_sum(alloc: Global, scope: &Scope<'_>, sum: &RawSum) -> Res
     let mut size = measure_prod(alloc, scope, &sum.first)?;
     for operand in sum.rest.as_slice() {
         let other = measure_prod(alloc, scope, summand(operand))?;
-        size = size.beside(other).under_node();
+        size = Size::node_of_two(size, other);
     }
     Ok(size)
 }
@@ -66,7 +66,7 @@ fn measure_prod(alloc: Global, scope: &Scope<'_>, prod: &RawProd) -> Result<Size
     let mut size = measure_appl(alloc, scope, &prod.first)?;
     for operand in prod.rest.as_slice() {
         let other = measure_appl(alloc, scope, factor(operand))?;
-        size = size.beside(other).under_node();
+        size = Size::node_of_two(size, other);
     }
     Ok(size)
 }
@@ -96,6 +96,7 @@ pub(crate) fn measure_appl(
 
 /// The size of a head that measures so much, applied to these.
 #[cycle(sizes)]
+#[tactic(auto, using(crate::proofs::Operators::parts))]
 fn measure_parts(
     alloc: Global,
     scope: &Scope<'_>,
@@ -107,7 +108,7 @@ fn measure_parts(
     let mut size = head;
     for part in parts {
         let argument = measure_part(alloc, scope, part)?;
-        size = size.beside(argument).under_node();
+        size = Size::node_of_two(size, argument);
     }
     Ok(size)
 }

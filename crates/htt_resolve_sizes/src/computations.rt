@@ -65,6 +65,7 @@ fn measure_fix(alloc: Global, scope: &Scope<'_>, fix: &RawFix) -> Result<Size, N
 
 /// The size of a computation, whose steps bind one after the other.
 #[cycle(sizes)]
+#[tactic(auto, using(crate::proofs::Running::steps))]
 fn measure_comp(alloc: Global, scope: &Scope<'_>, comp: &RawComp) -> Result<Size, NameStop>
     ensures measured { IsSize result (size_of_comp (scope_tree scope.now) (raw_comp_tree comp.now)) }
 {

@@ -125,6 +125,7 @@ fn measure_named(scope: &Scope<'_>, span: Span) -> Result<Size, NameStop>
 
 /// The size of terms that stand side by side.
 #[cycle(sizes)]
+#[tactic(auto, using(crate::proofs::Running::terms))]
 pub(crate) fn terms_size(
     alloc: Global,
     scope: &Scope<'_>,
