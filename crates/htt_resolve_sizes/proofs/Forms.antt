@@ -1,7 +1,8 @@
 -- What a node measures from its parts, whatever the parts do.
-use Rattle.std.proofs.Common.{◌≡◌, ℕ, suc, ⊥, List, [], ◌∷◌, length, refl, sym, ap, ◌∙◌, subst}
-use Rattle.std.proofs.lemmas.Bool.{eq-eqb, neq-eqb}
-use Rattle.std.specs.Prelude.{◌==◌, Option, Some, None, Result, Ok, Err}
+use Rattle.std.proofs.Common.{◌≡◌, ℕ, suc, ◌⊎◌, inl, inr, List, [], ◌∷◌, length, refl, sym, ap, ◌∙◌, subst}
+use Rattle.std.proofs.lemmas.Bool.{eq-eqb}
+use Rattle.std.proofs.lemmas.Bool.Decides.{eqb_tells}
+use Rattle.std.specs.Prelude.{◌==◌, true, false, ◌≢◌, Option, Some, None, Result, Ok, Err}
 use Rattle.htt_syntax_measure.specs.declared.size.Size.{Size}
 use Rattle.htt_syntax_measure.specs.Measures.{node, node_of_two, node_of_three, node_of_four, beside, counted, deeper}
 use Rattle.theory_text_names.specs.Stops.{Stop, wrong_sort, ◌>>=◌}
@@ -161,7 +162,11 @@ right_when : (at n m : ℕ) → n ≡ m → right_count at (n == m) ≡ Ok tt
 right_when at n m h = ap (right_count at) (eq-eqb n m h)
 
 wrong_when : (at n m : ℕ) → (n ≡ m → ⊥) → right_count at (n == m) ≡ Err (wrong_sort at)
-wrong_when at n m h = ap (right_count at) (neq-eqb n m h)
+wrong_when at n m h = by_case (eqb_tells n m)
+  where
+    by_case : (((n == m) ≡ true) × (n ≡ m)) ⊎ (((n == m) ≡ false) × (n ≢ m)) → right_count at (n == m) ≡ Err (wrong_sort at)
+    by_case (inl (is, same)) = absurd (h same)
+    by_case (inr (is, other)) = ap (right_count at) is
 
 module _ (s : Scope) (at : ℕ) (name : Span) (xs : List RawTerm) where
   pub recursive_right : (p : ℕ × ℕ) (r : Result Size NameStop) (due : Result Size Stop)

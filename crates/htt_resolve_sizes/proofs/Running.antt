@@ -98,12 +98,9 @@ next all L R total one more so there grown = record {
 }
 
 last : (all R : Result Size Stop) (total : Size) → Adds all (counted_one R) total → all ≡ side (Ok total) (counted_one R)
-last all R total so = by_case R so
-  where
-    by_case : (R : Result Size Stop) → Adds all (counted_one R) total → all ≡ side (Ok total) (counted_one R)
-    unfolding ◌>>=◌ side counted_one
-    by_case (Ok a) so = so.ends (counted a) (few_counted a) refl
-    by_case (Err stop) so = so.stops (Some stop) refl
+unfolding ◌>>=◌ side counted_one
+last all (Ok a) total so = so.ends (counted a) (few_counted a) refl
+last all (Err stop) total so = so.stops (Some stop) refl
 
 module _ (s : Scope) where
   -- ---- terms
