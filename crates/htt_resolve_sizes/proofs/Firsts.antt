@@ -145,40 +145,6 @@ pub fatom_points_to_any_first : (at_place : RawRel) (m : RawMono) → byte_of_re
     (raw_fatom_tree (vfatom.PointsToAny at_place m))
 fatom_points_to_any_first at_place m = sym (ap byte_of_fatom (raw_fatom_points_to_any at_place m))
 
--- ---- operands behind their signs
-
-pub plus_operand : (x : RawProd) → IsSummand (vsum.Plus x) (raw_prod_tree x)
-unfolding IsSummand
-plus_operand x = (plus, λ rest. ap (λ f. f rest) (raw_sum_operand_plus x))
-
-pub minus_operand : (x : RawProd) → IsSummand (vsum.Minus x) (raw_prod_tree x)
-unfolding IsSummand
-minus_operand x = (minus, λ rest. ap (λ f. f rest) (raw_sum_operand_minus x))
-
-pub bar_operand : (x : RawProd) → IsSummand (vsum.Bar x) (raw_prod_tree x)
-unfolding IsSummand
-bar_operand x = (bar, λ rest. ap (λ f. f rest) (raw_sum_operand_bar x))
-
-pub caret_operand : (x : RawProd) → IsSummand (vsum.Caret x) (raw_prod_tree x)
-unfolding IsSummand
-caret_operand x = (caret, λ rest. ap (λ f. f rest) (raw_sum_operand_caret x))
-
-pub times_operand : (x : RawAppl) → IsFactor (vprod.Times x) (raw_appl_tree x)
-unfolding IsFactor
-times_operand x = (times, λ rest. ap (λ f. f rest) (raw_prod_operand_times x))
-
-pub and_operand : (x : RawAppl) → IsFactor (vprod.And x) (raw_appl_tree x)
-unfolding IsFactor
-and_operand x = (ampersand, λ rest. ap (λ f. f rest) (raw_prod_operand_and x))
-
-pub shift_left_operand : (x : RawAppl) → IsFactor (vprod.ShiftLeft x) (raw_appl_tree x)
-unfolding IsFactor
-shift_left_operand x = (shift_left, λ rest. ap (λ f. f rest) (raw_prod_operand_shift_left x))
-
-pub shift_right_operand : (x : RawAppl) → IsFactor (vprod.ShiftRight x) (raw_appl_tree x)
-unfolding IsFactor
-shift_right_operand x = (shift_right, λ rest. ap (λ f. f rest) (raw_prod_operand_shift_right x))
-
 pub ruleset rels = (
   rel_sum_first,
   rel_less_first,
@@ -221,18 +187,4 @@ pub ruleset fatoms = (
   fatom_eq_first,
   fatom_points_to_first,
   fatom_points_to_any_first,
-)
-
-pub ruleset summands = (
-  plus_operand,
-  minus_operand,
-  bar_operand,
-  caret_operand,
-)
-
-pub ruleset factors = (
-  times_operand,
-  and_operand,
-  shift_left_operand,
-  shift_right_operand,
 )

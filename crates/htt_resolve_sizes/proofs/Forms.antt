@@ -4,16 +4,19 @@ use Rattle.std.proofs.lemmas.Bool.{eq-eqb}
 use Rattle.std.proofs.lemmas.Bool.Decides.{eqb_tells}
 use Rattle.std.specs.Prelude.{◌==◌, true, false, ◌≢◌, Option, Some, None, Result, Ok, Err}
 use Rattle.htt_syntax_measure.specs.declared.size.Size.{Size}
-use Rattle.htt_syntax_measure.specs.Measures.{node, node_of_two, node_of_three, node_of_four, beside, counted, deeper}
+use Rattle.htt_syntax_measure.specs.Measures.{leaf, node, node_of_two, node_of_three, node_of_four, beside, counted, deeper}
 use Rattle.theory_text_names.specs.Stops.{Stop, wrong_sort, ◌>>=◌}
-use Rattle.theory_text_names.specs.Scopes.{Scope}
-use Rattle.theory_text_names.specs.Uses.{rec_named}
+use Rattle.theory_text_names.specs.Scopes.{Scope, at_heap}
+use Rattle.theory_text_names.specs.Uses.{rec_named, heap_comes}
 use Rattle.theory_text.specs.Phrases.{right_count, count_of}
 use Rattle.htt_parser_trees.specs.declared.place.Span.{Span}
 use Rattle.htt_parser_trees.specs.declared.tree.RawTerm.{RawTerm}
 use Rattle.htt_parser_trees.specs.TreeLevels.{raw_term_trees}
 use Rattle.htt_resolve_names.specs.declared.stop.NameStop.TheVariants as stops
-use Rattle.htt_resolve_sizes.specs.Operands.{size_of_recursive}
+use Rattle.htt_resolve_sizes.specs.Operands.{size_of_recursive, size_at}
+use Rattle.htt_resolve_sizes.specs.Sizes.{size_of_formula, star_size}
+use Rattle.htt_parser_trees.specs.declared.tree.RawHeap.{RawHeap}
+use Rattle.htt_parser_trees.specs.Trees.{RawFormulaTree}
 use Rattle.htt_resolve_names.specs.declared.stop.NameStop.{NameStop}
 use Rattle.htt_resolve_names.specs.Views.{event_of}
 use Rattle.htt_resolve_names.specs.Answers.{IsStop}
@@ -149,7 +152,23 @@ pub chained_err : {A : Type 0} (stop : NameStop) (L : Result A Stop) (next : A �
     → IsSize (Err stop) (L >>= next)
 chained_err stop L next h = stopped (event_of stop) L next h
 
-pub ruleset chained = (chained_ok, chained_err)
+pub at_heap_there : (s t : Scope) (heap : RawHeap) (k : ℕ) (f : RawFormulaTree) (r : Result Size NameStop)
+    → heap_comes s heap ≡ Ok k
+    → t ≡ at_heap s k
+    → IsSize r (size_of_formula t f)
+    → IsSize r (size_at s heap f)
+at_heap_there s t heap k f r there inner h =
+    chained_ok k (heap_comes s heap) _ r there (subst (λ u. IsSize r (size_of_formula u f)) inner h)
+
+pub at_heap_stops : (s : Scope) (heap : RawHeap) (f : RawFormulaTree) (stop : NameStop)
+    → IsStop (event_of stop) (heap_comes s heap)
+    → IsSize (Err stop) (size_at s heap f)
+at_heap_stops s heap f stop h = chained_err stop (heap_comes s heap) _ h
+
+pub memory_stops : (stop : NameStop) (due : Result Size Stop) → stop ≡ stops.NoMemory → IsSize (Err stop) due
+memory_stops stop due is = subst (λ e. IsSize (Err e) due) (sym is) tt
+
+pub ruleset at_heaps = (at_heap_there, at_heap_stops, memory_stops)
 
 -- ---- recursive predicates
 
@@ -194,3 +213,13 @@ module _ (s : Scope) (at : ℕ) (name : Span) (xs : List RawTerm) where
   recursive_stops stop due h = chained_err stop (rec_named s name) _ h
 
 pub ruleset recursive_uses = (recursive_right, recursive_wrong, recursive_stops)
+
+-- ---- stars
+
+pub star_made : (z : Size) (L R : Result Size Stop) (r : Result Size NameStop)
+    → z ≡ leaf
+    → IsSize r (one (one (two (Ok z) (two L R))))
+    → IsSize r (star_size L R)
+star_made z L R r is h = subst (λ y. IsSize r (one (one (two (Ok y) (two L R))))) is h
+
+pub ruleset stars = (star_made)

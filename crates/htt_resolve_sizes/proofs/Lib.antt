@@ -6,3 +6,4 @@ pub mod Rows
 pub mod Firsts
 pub mod Operators
 pub mod Running
+pub mod Puts

@@ -61,6 +61,7 @@ use Rattle.theory_text.specs.Phrases.{right_count, count_of, fatom_comes}
 use Rattle.htt_resolve_names.specs.declared.stop.NameStop.{NameStop}
 use Rattle.htt_resolve_names.specs.Views.{event_of}
 use Rattle.htt_resolve_monos.specs.Sized.{AnswersSize}
+use Rattle.htt_resolve_sizes.specs.Operands.{size_of_recursive}
 use Rattle.htt_resolve_sizes.specs.Parts.{IsSize, one, two, three, four, deeper_one, after}
 use Rattle.htt_resolve_sizes.specs.Sizes.{size_of_mono, star_size, size_of_ty, size_of_triple, size_of_term, size_of_rel}
 use Rattle.htt_resolve_sizes.specs.Sizes.{size_of_sum, size_of_appl, size_of_parts, size_of_atom, size_of_terms, size_of_comp}
@@ -143,35 +144,35 @@ module _ (place : Scope) where
   unfolding size_of_term
   atom_name_row span r h = subst (λ t. IsSize r (size_of_atom place t)) (sym (raw_atom_name span)) h
 
-  pub atom_number_row : (at : ℕ) (value : ℕ) (r : Result Size NameStop)
-      → IsSize r (Ok leaf)
-      → IsSize r (size_of_atom place (raw_atom_tree (vatom.Number at value)))
+  pub atom_number_row : (at : ℕ) (value : ℕ) (z : Size)
+      → z ≡ leaf
+      → IsSize (Ok z) (size_of_atom place (raw_atom_tree (vatom.Number at value)))
   unfolding size_of_term
-  atom_number_row at value r h = subst (λ t. IsSize r (size_of_atom place t)) (sym (raw_atom_number at value)) h
+  atom_number_row at value z is = subst (λ t. IsSize (Ok z) (size_of_atom place t)) (sym (raw_atom_number at value)) (ap Ok (sym is))
 
-  pub atom_true_row : (at : ℕ) (r : Result Size NameStop)
-      → IsSize r (Ok leaf)
-      → IsSize r (size_of_atom place (raw_atom_tree (vatom.True at)))
+  pub atom_true_row : (at : ℕ) (z : Size)
+      → z ≡ leaf
+      → IsSize (Ok z) (size_of_atom place (raw_atom_tree (vatom.True at)))
   unfolding size_of_term
-  atom_true_row at r h = subst (λ t. IsSize r (size_of_atom place t)) (sym (raw_atom_true at)) h
+  atom_true_row at z is = subst (λ t. IsSize (Ok z) (size_of_atom place t)) (sym (raw_atom_true at)) (ap Ok (sym is))
 
-  pub atom_false_row : (at : ℕ) (r : Result Size NameStop)
-      → IsSize r (Ok leaf)
-      → IsSize r (size_of_atom place (raw_atom_tree (vatom.False at)))
+  pub atom_false_row : (at : ℕ) (z : Size)
+      → z ≡ leaf
+      → IsSize (Ok z) (size_of_atom place (raw_atom_tree (vatom.False at)))
   unfolding size_of_term
-  atom_false_row at r h = subst (λ t. IsSize r (size_of_atom place t)) (sym (raw_atom_false at)) h
+  atom_false_row at z is = subst (λ t. IsSize (Ok z) (size_of_atom place t)) (sym (raw_atom_false at)) (ap Ok (sym is))
 
-  pub atom_null_row : (at : ℕ) (r : Result Size NameStop)
-      → IsSize r (Ok leaf)
-      → IsSize r (size_of_atom place (raw_atom_tree (vatom.Null at)))
+  pub atom_null_row : (at : ℕ) (z : Size)
+      → z ≡ leaf
+      → IsSize (Ok z) (size_of_atom place (raw_atom_tree (vatom.Null at)))
   unfolding size_of_term
-  atom_null_row at r h = subst (λ t. IsSize r (size_of_atom place t)) (sym (raw_atom_null at)) h
+  atom_null_row at z is = subst (λ t. IsSize (Ok z) (size_of_atom place t)) (sym (raw_atom_null at)) (ap Ok (sym is))
 
-  pub atom_place_row : (at : ℕ) (value : ℕ) (r : Result Size NameStop)
-      → IsSize r (Ok leaf)
-      → IsSize r (size_of_atom place (raw_atom_tree (vatom.Place at value)))
+  pub atom_place_row : (at : ℕ) (value : ℕ) (z : Size)
+      → z ≡ leaf
+      → IsSize (Ok z) (size_of_atom place (raw_atom_tree (vatom.Place at value)))
   unfolding size_of_term
-  atom_place_row at value r h = subst (λ t. IsSize r (size_of_atom place t)) (sym (raw_atom_place at value)) h
+  atom_place_row at value z is = subst (λ t. IsSize (Ok z) (size_of_atom place t)) (sym (raw_atom_place at value)) (ap Ok (sym is))
 
   pub atom_eq_row : (at : ℕ) (m : RawMono) (left : RawTerm) (right : RawTerm) (r : Result Size NameStop)
       → IsSize r
@@ -187,11 +188,11 @@ module _ (place : Scope) where
   unfolding size_of_term
   atom_sel_row at m test this that r h = subst (λ t. IsSize r (size_of_atom place t)) (sym (raw_atom_sel at m test this that)) h
 
-  pub atom_unit_row : (at : ℕ) (r : Result Size NameStop)
-      → IsSize r (Ok leaf)
-      → IsSize r (size_of_atom place (raw_atom_tree (vatom.Unit at)))
+  pub atom_unit_row : (at : ℕ) (z : Size)
+      → z ≡ leaf
+      → IsSize (Ok z) (size_of_atom place (raw_atom_tree (vatom.Unit at)))
   unfolding size_of_term
-  atom_unit_row at r h = subst (λ t. IsSize r (size_of_atom place t)) (sym (raw_atom_unit at)) h
+  atom_unit_row at z is = subst (λ t. IsSize (Ok z) (size_of_atom place t)) (sym (raw_atom_unit at)) (ap Ok (sym is))
 
   pub atom_brackets_row : (at : ℕ) (t : RawTerm) (r : Result Size NameStop)
       → IsSize r (size_of_term place (raw_term_tree t))
@@ -304,17 +305,17 @@ module _ (place : Scope) where
   unfolding size_of_term
   star_times_row fatom s r h = subst (λ t. IsSize r (size_of_star place t)) (sym (raw_star_times fatom s)) h
 
-  pub fatom_tt_row : (at : ℕ) (r : Result Size NameStop)
-      → IsSize r (Ok leaf)
-      → IsSize r (size_of_fatom place (raw_fatom_tree (vfatom.Tt at)))
+  pub fatom_tt_row : (at : ℕ) (z : Size)
+      → z ≡ leaf
+      → IsSize (Ok z) (size_of_fatom place (raw_fatom_tree (vfatom.Tt at)))
   unfolding size_of_term
-  fatom_tt_row at r h = subst (λ t. IsSize r (size_of_fatom place t)) (sym (raw_fatom_tt at)) h
+  fatom_tt_row at z is = subst (λ t. IsSize (Ok z) (size_of_fatom place t)) (sym (raw_fatom_tt at)) (ap Ok (sym is))
 
-  pub fatom_ff_row : (at : ℕ) (r : Result Size NameStop)
-      → IsSize r (Ok leaf)
-      → IsSize r (size_of_fatom place (raw_fatom_tree (vfatom.Ff at)))
+  pub fatom_ff_row : (at : ℕ) (z : Size)
+      → z ≡ leaf
+      → IsSize (Ok z) (size_of_fatom place (raw_fatom_tree (vfatom.Ff at)))
   unfolding size_of_term
-  fatom_ff_row at r h = subst (λ t. IsSize r (size_of_fatom place t)) (sym (raw_fatom_ff at)) h
+  fatom_ff_row at z is = subst (λ t. IsSize (Ok z) (size_of_fatom place t)) (sym (raw_fatom_ff at)) (ap Ok (sym is))
 
   pub fatom_emp_row : (at : ℕ) (r : Result Size NameStop)
       → IsSize r (after (current_heap place at) (Ok leaf))
@@ -370,7 +371,7 @@ module _ (place : Scope) where
 
   pub fatom_use_at_row : (at : ℕ) (x : Span) (index : RawTerm) (arguments : List RawTerm) (r : Result Size NameStop)
       → IsSize r
-      (after (current_heap place at) (rec_named place x >>= (λ p. after (right_count at (count_of (raw_term_trees arguments) == p.1)) (two (size_of_term place (raw_term_tree index)) (size_of_terms place (raw_term_trees arguments))))))
+      (after (current_heap place at) (size_of_recursive place at x (raw_term_trees arguments) (two (size_of_term place (raw_term_tree index)) (size_of_terms place (raw_term_trees arguments)))))
       → IsSize r (size_of_fatom place (raw_fatom_tree (vfatom.UseAt at x index arguments)))
   unfolding size_of_term
   fatom_use_at_row at x index arguments r h = subst (λ t. IsSize r (size_of_fatom place t))
@@ -379,7 +380,7 @@ module _ (place : Scope) where
   pub fatom_use_at_heap_row : (at : ℕ) (x : Span) (heap : RawHeap) (index : RawTerm) (arguments : List RawTerm)
       (r : Result Size NameStop)
       → IsSize r
-      (rec_named place x >>= (λ p. after (right_count at (count_of (raw_term_trees arguments) == p.1)) (after (heap_comes place heap) (two (size_of_term place (raw_term_tree index)) (size_of_terms place (raw_term_trees arguments))))))
+      (size_of_recursive place at x (raw_term_trees arguments) (after (heap_comes place heap) (two (size_of_term place (raw_term_tree index)) (size_of_terms place (raw_term_trees arguments)))))
       → IsSize r (size_of_fatom place (raw_fatom_tree (vfatom.UseAtHeap at x heap index arguments)))
   unfolding size_of_term
   fatom_use_at_heap_row at x heap index arguments r h = subst (λ t. IsSize r (size_of_fatom place t))
@@ -577,3 +578,5 @@ pub ruleset quantified_rows = (
   ex_mono_row,
   ex_heap_row,
 )
+
+pub ruleset triple_rows = (triple_row)

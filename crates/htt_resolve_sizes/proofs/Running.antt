@@ -9,6 +9,7 @@ use Rattle.htt_parser_trees.specs.declared.tree.RawComp.{RawComp}
 use Rattle.htt_parser_trees.specs.declared.tree.RawFix.{RawFix}
 use Rattle.htt_parser_trees.specs.declared.tree.RawParam.{RawParam}
 use Rattle.htt_parser_trees.specs.declared.tree.RawParam.TheVariants as vparam
+use Rattle.htt_parser_trees.specs.declared.place.Binder.{Binder}
 use Rattle.htt_parser_trees.specs.Trees.{RawCompTree, RawParamTrees, c_ret}
 use Rattle.htt_parser_trees.specs.TreeViews.{raw_term_tree, raw_step_name, raw_step_tree, raw_param_tree}
 use Rattle.htt_parser_trees.specs.TreeLevels.{raw_term_trees, raw_steps_tree, raw_params_tree, raw_comp_tree, raw_triple_tree}
@@ -25,7 +26,7 @@ use Rattle.htt_resolve_sizes.specs.Sizes.{size_of_term, size_of_terms, size_of_s
 use Rattle.htt_resolve_sizes.specs.Sizes.{size_of_triple}
 use Rattle.htt_resolve_sizes.specs.Fix.{size_of_fix}
 use Rattle.htt_resolve_sizes.specs.Operands.{name_of_param, type_of_param}
-use Rattle.htt_resolve_sizes.proofs.Forms.{stopped, second_stopped}
+use Rattle.htt_resolve_sizes.proofs.Forms.{stopped, second_stopped, memory_stops}
 use Rattle.htt_resolve_sizes.proofs.Operators.{drop_read}
 
 -- the whole measures so much beside what is left, and is stopped where that is
@@ -170,17 +171,18 @@ steps_at : (s : Scope) (xs : List RawStep) (end : RawCompTree) (i : ℕ) (x : Ra
 unfolding size_of_term
 steps_at s xs end i x below is = ap (λ ys. size_of_comp s (raw_steps_tree ys end)) (drop_read xs i x below is)
 
-pub steps_next : (s t : Scope) (xs : List RawStep) (end : RawCompTree) (i : ℕ) (x : RawStep) (all : Result Size Stop)
-    (total one more : Size)
+pub steps_next : (s t : Scope) (xs : List RawStep) (end : RawCompTree) (i : ℕ) (x : RawStep) (b : Binder)
+    (all : Result Size Stop) (total one more : Size)
     → Adds all (size_of_comp s (raw_steps_tree (drop i xs) end)) total
     → i < length xs
     → x ≡ get_or xs i x
     → size_of_step s (raw_step_tree x) ≡ Ok one
     → more ≡ beside total one
-    → t ≡ under s (raw_step_name x) a_term
+    → b ≡ raw_step_name x
+    → t ≡ under s b a_term
     → Adds all (size_of_comp t (raw_steps_tree (drop (i + 1) xs) end)) more
-steps_next s t xs end i x all total one more so below is there grown inner =
-    subst (λ u. Adds all (size_of_comp u (raw_steps_tree (drop (i + 1) xs) end)) more) (sym inner)
+steps_next s t xs end i x b all total one more so below is there grown binds inner =
+    subst (λ u. Adds all (size_of_comp u (raw_steps_tree (drop (i + 1) xs) end)) more) (sym (inner ∙ ap (λ c. under s c a_term) binds))
     (next all (size_of_step s (raw_step_tree x)) (size_of_comp (under s (raw_step_name x) a_term) (raw_steps_tree (drop (i + 1) xs) end))
     total one more (subst (λ r. Adds all r total) (steps_at s xs end i x below is) so) there grown)
 
@@ -205,4 +207,74 @@ steps_end s comp i all total r so past h =
     subst (IsSize r) (sym (last all (size_of_term s (raw_term_tree comp.result)) total
     (subst (λ ys. Adds all (size_of_comp s (raw_steps_tree ys (c_ret (raw_term_tree comp.result)))) total) (drop_all i comp.steps past) so))) h
 
-pub ruleset steps = (steps_start, steps_next, steps_stop, steps_end)
+pub ruleset steps = (steps_start, steps_next, steps_stop, steps_end, memory_stops)
+
+-- ---- parameters of a recursive function
+
+-- what stands under all of them
+abbrev pub under_params : RawFix → Scope → Result Size Stop
+under_params f inner =
+    counted_one (side (size_of_triple inner (raw_triple_tree f.triple))
+    (deeper_one (size_of_comp (under_name inner f.name a_term) (raw_comp_tree f.body))))
+
+param_at : (s : Scope) (x : RawParam) (rest : RawParamTrees) (K : Scope → Result Size Stop)
+    → size_of_params s (raw_param_tree x rest) K
+    ≡ side (size_of_ty s (type_of_param x)) (size_of_params (under s (name_of_param x) a_term) rest K)
+unfolding size_of_term
+param_at s (vparam.Named x a) rest K = ap (λ f. size_of_params s (f rest) K) (raw_param_named x a)
+param_at s (vparam.Blank a) rest K = ap (λ f. size_of_params s (f rest) K) (raw_param_blank a)
+
+params_at : (s : Scope) (xs : List RawParam) (K : Scope → Result Size Stop) (i : ℕ) (x : RawParam) → i < length xs
+    → x ≡ get_or xs i x
+    → size_of_params s (raw_params_tree (drop i xs)) K
+    ≡ side (size_of_ty s (type_of_param x)) (size_of_params (under s (name_of_param x) a_term) (raw_params_tree (drop (i + 1) xs)) K)
+params_at s xs K i x below is =
+    ap (λ ys. size_of_params s (raw_params_tree ys) K) (drop_read xs i x below is)
+    ∙ param_at s x (raw_params_tree (drop (i + 1) xs)) K
+
+pub params_start : (s t : Scope) (f : RawFix) (z : Size) → z ≡ nothing → t ≡ s
+    → Adds (size_of_fix s f) (size_of_params t (raw_params_tree (drop 0 f.params)) (under_params f)) z
+params_start s t f z is same =
+    subst (λ u. Adds (size_of_fix s f) (size_of_fix u f) z) (sym same) (starts (size_of_fix s f) z is)
+
+pub params_next : (s t : Scope) (xs : List RawParam) (K : Scope → Result Size Stop) (i : ℕ) (x : RawParam) (b : Binder)
+    (all : Result Size Stop) (total one more : Size)
+    → Adds all (size_of_params s (raw_params_tree (drop i xs)) K) total
+    → i < length xs
+    → x ≡ get_or xs i x
+    → size_of_ty s (type_of_param x) ≡ Ok one
+    → more ≡ beside total one
+    → b ≡ name_of_param x
+    → t ≡ under s b a_term
+    → Adds all (size_of_params t (raw_params_tree (drop (i + 1) xs)) K) more
+params_next s t xs K i x b all total one more so below is there grown binds inner =
+    subst (λ u. Adds all (size_of_params u (raw_params_tree (drop (i + 1) xs)) K) more) (sym (inner ∙ ap (λ c. under s c a_term) binds))
+    (next all (size_of_ty s (type_of_param x)) (size_of_params (under s (name_of_param x) a_term) (raw_params_tree (drop (i + 1) xs)) K)
+    total one more (subst (λ r. Adds all r total) (params_at s xs K i x below is) so) there grown)
+
+pub params_stop : (s : Scope) (xs : List RawParam) (K : Scope → Result Size Stop) (i : ℕ) (x : RawParam)
+    (all : Result Size Stop) (total : Size) (stop : NameStop)
+    → Adds all (size_of_params s (raw_params_tree (drop i xs)) K) total
+    → i < length xs
+    → x ≡ get_or xs i x
+    → IsSize (Err stop) (size_of_ty s (type_of_param x))
+    → IsSize (Err stop) all
+params_stop s xs K i x all total stop so below is h =
+    so.stops (event_of stop) (subst (IsStop (event_of stop)) (sym (params_at s xs K i x below is))
+    (first (event_of stop) (size_of_ty s (type_of_param x)) _ h))
+
+pub params_end : (s t : Scope) (f : RawFix) (i : ℕ) (all : Result Size Stop) (total : Size) (r : Result Size NameStop)
+    → Adds all (size_of_params s (raw_params_tree (drop i f.params)) (under_params f)) total
+    → length f.params ≤ i
+    → t ≡ under_name s f.name a_term
+    → IsSize r (side (Ok total) (counted_one (side (size_of_triple s (raw_triple_tree f.triple)) (deeper_one (size_of_comp t (raw_comp_tree f.body))))))
+    → IsSize r all
+unfolding size_of_term
+params_end s t f i all total r so past inner h =
+    let body : Scope → Result Size Stop = λ u.
+    side (size_of_triple s (raw_triple_tree f.triple)) (deeper_one (size_of_comp u (raw_comp_tree f.body))) in
+    subst (IsSize r) (sym (last all (body (under_name s f.name a_term)) total
+    (subst (λ ys. Adds all (size_of_params s (raw_params_tree ys) (under_params f)) total) (drop_all i f.params past) so)))
+    (subst (λ u. IsSize r (side (Ok total) (counted_one (body u)))) inner h)
+
+pub ruleset params = (params_start, params_next, params_stop, params_end, memory_stops)

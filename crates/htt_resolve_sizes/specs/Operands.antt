@@ -1,32 +1,41 @@
 -- An operand of a chain behind its sign, an argument of a head, and a parameter.
-use Rattle.std.specs.Prelude.{◌≡◌, ◌==◌, ℕ, Result}
+use Rattle.std.specs.Prelude.{◌==◌, ℕ, Result}
 use Rattle.htt_parser_trees.specs.declared.tree.SumOperand.{SumOperand}
 use Rattle.htt_parser_trees.specs.declared.tree.ProdOperand.{ProdOperand}
+use Rattle.htt_parser_trees.specs.declared.tree.SumOperand.TheVariants as summands
+use Rattle.htt_parser_trees.specs.declared.tree.ProdOperand.TheVariants as factors
 use Rattle.htt_parser_trees.specs.declared.tree.RawPart.{RawPart}
 use Rattle.htt_parser_trees.specs.declared.tree.RawPart.TheVariants as parts
 use Rattle.htt_parser_trees.specs.declared.tree.RawParam.{RawParam}
 use Rattle.htt_parser_trees.specs.declared.tree.RawParam.TheVariants as params
 use Rattle.htt_parser_trees.specs.declared.place.Binder.{Binder}
 use Rattle.htt_parser_trees.specs.declared.place.Binder.TheVariants as binders
-use Rattle.htt_parser_trees.specs.Trees.{SumSign, ProdSign, RawTyTree, RawProdTree, RawApplTree, RawSumRestTree}
-use Rattle.htt_parser_trees.specs.Trees.{RawProdRestTree, RawFormulaTree, RawTermTrees, s_more, x_more}
+use Rattle.htt_parser_trees.specs.Trees.{RawTyTree, RawFormulaTree, RawTermTrees}
 use Rattle.htt_parser_trees.specs.declared.tree.RawHeap.{RawHeap}
 use Rattle.htt_parser_trees.specs.declared.place.Span.{Span}
 use Rattle.htt_parser_trees.specs.MonoLevels.{raw_mono_tree}
-use Rattle.htt_parser_trees.specs.TreeViews.{raw_sum_operand_tree, raw_prod_operand_tree, raw_atom_tree, raw_ty_tree}
+use Rattle.htt_parser_trees.specs.TreeViews.{raw_appl_tree, raw_atom_tree, raw_ty_tree}
+use Rattle.htt_parser_trees.specs.TreeLevels.{raw_prod_tree}
 use Rattle.htt_syntax_measure.specs.declared.size.Size.{Size}
 use Rattle.theory_text_names.specs.Stops.{Stop, ◌>>=◌}
 use Rattle.theory_text_names.specs.Scopes.{Scope, at_heap}
 use Rattle.theory_text_names.specs.Uses.{rec_named, heap_comes}
 use Rattle.theory_text.specs.Phrases.{right_count, count_of}
 use Rattle.htt_resolve_sizes.specs.Parts.{after}
-use Rattle.htt_resolve_sizes.specs.Sizes.{size_of_mono, size_of_atom, size_of_formula}
+use Rattle.htt_resolve_sizes.specs.Sizes.{size_of_mono, size_of_atom, size_of_formula, size_of_prod, size_of_appl}
 
-unfoldable pub IsSummand : SumOperand → RawProdTree → Type 0
-IsSummand operand p = (sign : SumSign) × ((rest : RawSumRestTree) → raw_sum_operand_tree operand rest ≡ s_more sign p rest)
+-- what an operand behind its sign measures
+abbrev pub size_of_summand : Scope → SumOperand → Result Size Stop
+size_of_summand s (summands.Plus prod) = size_of_prod s (raw_prod_tree prod)
+size_of_summand s (summands.Minus prod) = size_of_prod s (raw_prod_tree prod)
+size_of_summand s (summands.Bar prod) = size_of_prod s (raw_prod_tree prod)
+size_of_summand s (summands.Caret prod) = size_of_prod s (raw_prod_tree prod)
 
-unfoldable pub IsFactor : ProdOperand → RawApplTree → Type 0
-IsFactor operand a = (sign : ProdSign) × ((rest : RawProdRestTree) → raw_prod_operand_tree operand rest ≡ x_more sign a rest)
+abbrev pub size_of_factor : Scope → ProdOperand → Result Size Stop
+size_of_factor s (factors.Times appl) = size_of_appl s (raw_appl_tree appl)
+size_of_factor s (factors.And appl) = size_of_appl s (raw_appl_tree appl)
+size_of_factor s (factors.ShiftLeft appl) = size_of_appl s (raw_appl_tree appl)
+size_of_factor s (factors.ShiftRight appl) = size_of_appl s (raw_appl_tree appl)
 
 -- what an argument of a head measures
 abbrev pub size_of_part : Scope → RawPart → Result Size Stop

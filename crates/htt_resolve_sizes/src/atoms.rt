@@ -1,14 +1,13 @@
 //! Formulas that are no chain, and stars.
 
-ghost use Rattle.std.specs.Prelude.{Result};
+ghost use Rattle.std.specs.Prelude.{◌≡◌, Result, IfOk, IfErr};
 ghost use Rattle.theory_text_names.specs.Stops.{Stop};
-ghost use Rattle.theory_text_names.specs.Uses.{current_heap};
-ghost use Rattle.theory_text_sugar.specs.Sugar.{left_part, right_part};
-ghost use Rattle.theory_text.specs.Bytes.{byte_of_fatom};
+ghost use Rattle.theory_text_names.specs.Scopes.{at_heap};
+ghost use Rattle.theory_text_sugar.specs.Sugar.{under_parts, left_part, right_part};
 ghost use Rattle.htt_parser_trees.specs.TreeViews.{raw_formula_tree, raw_fatom_tree, raw_star_tree};
 ghost use Rattle.htt_parser_trees.specs.TreeLevels.{raw_term_trees};
 ghost use Rattle.htt_syntax_measure.specs.declared.size.Size.{Size};
-ghost use Rattle.htt_resolve_scopes.specs.Views.{scope_tree};
+ghost use Rattle.htt_resolve_scopes.specs.Views.{scope_tree, IsMemory};
 ghost use Rattle.htt_resolve_sizes.specs.Parts.{IsSize, after};
 ghost use Rattle.htt_resolve_sizes.specs.Sizes.{star_size, size_of_star, size_of_fatom};
 ghost use Rattle.htt_resolve_sizes.specs.Operands.{size_at, size_of_recursive};
@@ -152,7 +151,7 @@ pub(crate) fn measure_fatom(
 
 /// The size of a formula at a heap.
 #[cycle(sizes)]
-#[tactic(auto, using(crate::proofs::Forms::chained))]
+#[tactic(auto, using(crate::proofs::Forms::at_heaps))]
 fn formula_at(
     alloc: Global,
     scope: &Scope<'_>,
@@ -188,24 +187,44 @@ fn recursive(
     }
 }
 
-/// The size of `P ** Q`: two quantifiers over a conjunction of the join and of the conjunction of both.
-#[cycle(sizes)]
-pub(crate) fn star_of(
-    alloc: Global,
-    scope: &Scope<'_>,
-    fatom: &RawFatom,
-    others: &Boxed<RawStar>,
-) -> Result<Size, NameStop>
-    ensures measured { IsSize result (after (current_heap (scope_tree scope.now) (byte_of_fatom (raw_fatom_tree fatom.now)))
-        (star_size (size_of_fatom (left_part (scope_tree scope.now)) (raw_fatom_tree fatom.now))
-        (size_of_star (right_part (scope_tree scope.now)) (raw_star_tree others.now)))) }
+/// The scope of a side of a star, at this one of its two heaps.
+fn side_scope<'a>(alloc: Global, scope: &Scope<'a>, heap: u32) -> Result<Scope<'a>, NameStop>
+    ensures there { IfOk result (λ inner. scope_tree inner ≡ at_heap (under_parts (scope_tree scope.now)) heap) }
+    ensures memory { IfErr result IsMemory }
 {
     let mut parts = scope.under(alloc, Binder::Blank, Sort::Heap)?;
     parts.enter_binder(Binder::Blank, Sort::Heap)?;
-    let left = measure_fatom(alloc, &parts.at_heap(alloc, 1)?, fatom);
-    let right = measure_star(alloc, &parts.at_heap(alloc, 0)?, others.get());
-    after(
-        scope.current_heap(byte_of_fatom(fatom)),
-        node_of_one(node_of_one(node_of_two(Ok(Size::leaf()), node_of_two(left, right)))),
-    )
+    parts.at_heap(alloc, heap)
+}
+
+/// The left side of a star.
+#[cycle(sizes)]
+#[tactic(auto, using(crate::proofs::Forms::at_heaps))]
+pub(crate) fn left_side(alloc: Global, scope: &Scope<'_>, fatom: &RawFatom) -> Result<Size, NameStop>
+    ensures measured { IsSize result (size_of_fatom (left_part (scope_tree scope.now)) (raw_fatom_tree fatom.now)) }
+{
+    match side_scope(alloc, scope, 1) {
+        Ok(inner) => measure_fatom(alloc, &inner, fatom),
+        Err(stop) => Err(stop),
+    }
+}
+
+/// The right side of a star.
+#[cycle(sizes)]
+#[tactic(auto, using(crate::proofs::Forms::at_heaps))]
+pub(crate) fn right_side(alloc: Global, scope: &Scope<'_>, others: &Boxed<RawStar>) -> Result<Size, NameStop>
+    ensures measured { IsSize result (size_of_star (right_part (scope_tree scope.now)) (raw_star_tree others.now)) }
+{
+    match side_scope(alloc, scope, 0) {
+        Ok(inner) => measure_star(alloc, &inner, others.get()),
+        Err(stop) => Err(stop),
+    }
+}
+
+/// The size of `P ** Q`: two quantifiers over a conjunction of the join and of the conjunction of both.
+#[tactic(auto, using(crate::proofs::Forms::stars))]
+pub(crate) fn star_of(left: Result<Size, NameStop>, right: Result<Size, NameStop>) -> Result<Size, NameStop>
+    ensures made { (L R : Result Size Stop) → IsSize left L → IsSize right R → IsSize result (star_size L R) }
+{
+    node_of_one(node_of_one(node_of_two(Ok(Size::leaf()), node_of_two(left, right))))
 }

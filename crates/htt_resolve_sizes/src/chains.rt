@@ -6,7 +6,7 @@ ghost use Rattle.htt_parser_trees.specs.TreeLevels.{raw_sum_tree, raw_prod_tree,
 ghost use Rattle.htt_resolve_scopes.specs.Views.{scope_tree};
 ghost use Rattle.htt_resolve_sizes.specs.Parts.{IsSize};
 ghost use Rattle.htt_resolve_sizes.specs.Sizes.{size_of_sum, size_of_prod, size_of_appl, size_of_parts};
-ghost use Rattle.htt_resolve_sizes.specs.Operands.{IsSummand, IsFactor, size_of_part};
+ghost use Rattle.htt_resolve_sizes.specs.Operands.{size_of_summand, size_of_factor, size_of_part};
 
 use crate::parts::node_of_one;
 use crate::terms::measure_atom;
@@ -17,29 +17,29 @@ use htt_resolve_scopes::Scope;
 use htt_syntax_measure::Size;
 use std::alloc::Global;
 
-/// The operand behind a sign.
-#[tactic(auto, using(crate::proofs::Firsts::summands))]
-fn summand(operand: &SumOperand) -> &RawProd
-    ensures summand { IsSummand operand.now (raw_prod_tree result.now) }
+/// The size of the operand behind a sign.
+#[cycle(sizes)]
+fn measure_summand(alloc: Global, scope: &Scope<'_>, operand: &SumOperand) -> Result<Size, NameStop>
+    ensures measured { IsSize result (size_of_summand (scope_tree scope.now) operand.now) }
 {
     match operand {
-        SumOperand::Plus(prod) => prod,
-        SumOperand::Minus(prod) => prod,
-        SumOperand::Bar(prod) => prod,
-        SumOperand::Caret(prod) => prod,
+        SumOperand::Plus(prod) => measure_prod(alloc, scope, prod),
+        SumOperand::Minus(prod) => measure_prod(alloc, scope, prod),
+        SumOperand::Bar(prod) => measure_prod(alloc, scope, prod),
+        SumOperand::Caret(prod) => measure_prod(alloc, scope, prod),
     }
 }
 
-/// The operand behind a sign.
-#[tactic(auto, using(crate::proofs::Firsts::factors))]
-fn factor(operand: &ProdOperand) -> &RawAppl
-    ensures factor { IsFactor operand.now (raw_appl_tree result.now) }
+/// The size of the operand behind a sign.
+#[cycle(sizes)]
+fn measure_factor(alloc: Global, scope: &Scope<'_>, operand: &ProdOperand) -> Result<Size, NameStop>
+    ensures measured { IsSize result (size_of_factor (scope_tree scope.now) operand.now) }
 {
     match operand {
-        ProdOperand::Times(appl) => appl,
-        ProdOperand::And(appl) => appl,
-        ProdOperand::ShiftLeft(appl) => appl,
-        ProdOperand::ShiftRight(appl) => appl,
+        ProdOperand::Times(appl) => measure_appl(alloc, scope, appl),
+        ProdOperand::And(appl) => measure_appl(alloc, scope, appl),
+        ProdOperand::ShiftLeft(appl) => measure_appl(alloc, scope, appl),
+        ProdOperand::ShiftRight(appl) => measure_appl(alloc, scope, appl),
     }
 }
 
@@ -51,7 +51,7 @@ pub(crate) fn measure_sum(alloc: Global, scope: &Scope<'_>, sum: &RawSum) -> Res
 {
     let mut size = measure_prod(alloc, scope, &sum.first)?;
     for operand in sum.rest.as_slice() {
-        let other = measure_prod(alloc, scope, summand(operand))?;
+        let other = measure_summand(alloc, scope, operand)?;
         size = Size::node_of_two(size, other);
     }
     Ok(size)
@@ -65,7 +65,7 @@ fn measure_prod(alloc: Global, scope: &Scope<'_>, prod: &RawProd) -> Result<Size
 {
     let mut size = measure_appl(alloc, scope, &prod.first)?;
     for operand in prod.rest.as_slice() {
-        let other = measure_appl(alloc, scope, factor(operand))?;
+        let other = measure_factor(alloc, scope, operand)?;
         size = Size::node_of_two(size, other);
     }
     Ok(size)

@@ -47,6 +47,7 @@ fn measure_param(alloc: Global, scope: &Scope<'_>, param: &RawParam) -> Result<S
 /// The size of a recursive function's parameters, each of which stands under those before it, and of what is under all
 /// of them: the triple, and under the function's own name the body.
 #[cycle(sizes)]
+#[tactic(auto, using(crate::proofs::Running::params))]
 fn measure_fix(alloc: Global, scope: &Scope<'_>, fix: &RawFix) -> Result<Size, NameStop>
     ensures measured { IsSize result (size_of_fix (scope_tree scope.now) fix.now) }
 {

@@ -8,8 +8,9 @@ ghost use Rattle.htt_resolve_scopes.specs.Views.{sort_of, scope_tree};
 ghost use Rattle.htt_resolve_sizes.specs.Parts.{IsSize};
 ghost use Rattle.htt_resolve_sizes.specs.Sizes.{size_of_formula, size_of_disj, size_of_conj, size_of_star};
 
-use crate::atoms::{measure_fatom, star_of};
-use crate::parts::{node_of_one, node_of_two};
+use crate::atoms::{left_side, measure_fatom, right_side, star_of};
+use crate::bytes::byte_of_fatom;
+use crate::parts::{after, node_of_one, node_of_two};
 use htt_parser_trees::{Binder, RawConj, RawDisj, RawFormula, RawSort, RawStar};
 use htt_resolve_monos::measure_mono;
 use htt_resolve_names::NameStop;
@@ -113,7 +114,13 @@ pub(crate) fn measure_star(
 {
     match star {
         RawStar::Fatom(fatom) => measure_fatom(alloc, scope, fatom),
-        RawStar::Times(fatom, others) => star_of(alloc, scope, fatom, others),
+        RawStar::Times(fatom, others) => after(
+            scope.current_heap(byte_of_fatom(fatom)),
+            star_of(
+                left_side(alloc, scope, fatom),
+                right_side(alloc, scope, others),
+            ),
+        ),
     }
 }
 
