@@ -1,5 +1,5 @@
 -- What the phrases of a text measure, as the code takes them: a rule for each form.
-use Rattle.std.proofs.Common.{◌≡◌, ℕ, sym, subst, List, map}
+use Rattle.std.proofs.Common.{◌≡◌, ℕ, sym, ap, subst, List, map}
 use Rattle.std.specs.Prelude.{◌==◌, Result, Ok, Err}
 use Rattle.htt_parser_trees.specs.declared.place.Binder.{Binder}
 use Rattle.htt_parser_trees.specs.declared.place.Binder.TheVariants as binders
