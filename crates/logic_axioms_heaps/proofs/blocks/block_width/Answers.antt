@@ -1,0 +1,21 @@
+use Rattle.std.proofs.Common.{refl, rules}
+use Rattle.theory_logic_axioms.specs.Names.{block_width}
+use Rattle.theory_logic_axioms.specs.Table.{argument_sorts, formula_of}
+use Rattle.logic_axioms_parts.proofs.Tables.{takes_two_as_wide, unread}
+use Rattle.logic_axioms_heaps.proofs.Stopped.{stopped}
+use Rattle.logic_axioms_heaps.proofs.blocks.block_width.Goals as goal
+
+pub returns-in_err-t : goal.returns-in_err-t
+returns-in_err-t c = record { row = stopped _ _ _ c.from_residual.ensures.1 (takes_two_as_wide block_width _ _ _ _ refl c.in_err-t.ensures.read) }
+
+pub returns-in_err-h : goal.returns-in_err-h
+unfolding argument_sorts
+returns-in_err-h c = record {
+  row =
+      stopped _ _ _ c.from_residual-in_err-h.ensures.1
+      (rw c.in_ok-t.ensures.read (unread block_width _ _ _ _ refl c.in_err-h.ensures.read));
+}
+
+pub returns : goal.returns
+unfolding formula_of
+returns c = record { row = rw (c.in_ok-t.ensures.read, c.in_ok-h.ensures.read) (c.answer.ensures.answered _ (search rules)) }

@@ -1,0 +1,4 @@
+pub mod Lifting
+pub mod Folds
+pub mod Givens
+pub mod Tables

@@ -1,0 +1,4 @@
+pub mod Made
+pub mod Literals
+pub mod Given
+pub mod Rows

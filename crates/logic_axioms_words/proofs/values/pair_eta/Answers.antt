@@ -1,0 +1,21 @@
+use Rattle.std.proofs.Common.{refl, rules}
+use Rattle.theory_logic_axioms.specs.Names.{pair_eta}
+use Rattle.theory_logic_axioms.specs.Table.{argument_sorts, formula_of}
+use Rattle.logic_axioms_parts.proofs.Tables.{takes_two, unread}
+use Rattle.logic_axioms_words.proofs.Stopped.{stopped}
+use Rattle.logic_axioms_words.proofs.values.pair_eta.Goals as goal
+
+pub returns-in_err-t : goal.returns-in_err-t
+returns-in_err-t c = record { row = stopped _ _ _ c.from_residual.ensures.1 (takes_two pair_eta _ _ _ _ refl c.in_err-t.ensures.read) }
+
+pub returns-in_err-p : goal.returns-in_err-p
+unfolding argument_sorts
+returns-in_err-p c = record {
+  row =
+      stopped _ _ _ c.from_residual-in_err-p.ensures.1
+      (rw c.in_ok-t.ensures.read (unread pair_eta _ _ _ _ refl c.in_err-p.ensures.read));
+}
+
+pub returns : goal.returns
+unfolding formula_of
+returns c = record { row = rw (c.in_ok-t.ensures.read, c.in_ok-p.ensures.read) (c.answer.ensures.answered _ (search rules)) }
