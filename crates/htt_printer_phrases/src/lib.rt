@@ -1,0 +1,16 @@
+//! Types, terms, computations, steps and formulas, printed: one recursion, in four files. A function for each kind of
+//! phrase appends its bytes to those that were printed before it; beside it stand those that first append a text, and
+//! those that put the phrase in brackets where its place needs them. Each fails for want of memory alone, and then some
+//! of its bytes may be there.
+#![tactic(auto)]
+
+mod after;
+mod computations;
+mod formulas;
+mod terms;
+mod types;
+
+pub use after::{push_binder, push_entry_after, push_mono_after};
+pub use formulas::push_formula;
+pub use terms::push_term;
+pub use types::push_ty;

@@ -1,0 +1,73 @@
+//! Types and triples.
+
+ghost use Rattle.std.specs.Prelude.{◌≡◌, ◌++◌, OnOk};
+ghost use Rattle.htt_syntax.specs.Views.{ty_tree};
+ghost use Rattle.htt_syntax.specs.Levels.{triple_tree};
+ghost use Rattle.theory_printing.specs.Names.{with_entry};
+ghost use Rattle.htt_resolve_scopes.specs.Views.{sort_of};
+ghost use Rattle.htt_printer_names.specs.Views.{print_scope};
+ghost use Rattle.htt_printer_phrases.specs.Bytes.{ty_bytes, triple_bytes};
+
+use crate::after::{push_binder, push_mono_after};
+use crate::formulas::push_formula_after;
+use htt_printer_names::NameScope;
+use htt_printer_pieces::push_mono;
+use htt_resolve_scopes::Sort;
+use htt_syntax::{Triple, Ty};
+use std::alloc::AllocError;
+
+/// Appends the type.
+#[cycle(phrase)]
+#[tactic(auto, using(std::proofs::lemmas::Grind::common_steps, htt_syntax::specs::Levels::ty_levels, crate::proofs::Rows::ty_rows))]
+pub fn push_ty(out: &mut Vec<u8>, scope: &NameScope<'_>, ty: &Ty) -> Result<(), AllocError>
+    ensures printed { OnOk result (out.new.items ≡ out.old.items ++ ty_bytes (print_scope scope.now) (ty_tree ty.now)) }
+{
+    match ty {
+        Ty::Mono(mono) => push_mono(out, scope, mono),
+        Ty::Fun(argument, answer) => {
+            push_binder(out, scope, b"(", Sort::Term)?;
+            push_ty_after(out, scope, b" : ", argument.get())?;
+            push_ty_under(out, scope, Sort::Term, b") -> ", answer.get())
+        }
+        Ty::All(body) => {
+            push_binder(out, scope, b"[", Sort::Mono)?;
+            push_ty_under(out, scope, Sort::Mono, b"] -> ", body.get())
+        }
+        Ty::Hoare(triple) => push_triple(out, scope, triple.get()),
+        Ty::At(_, ty) => push_ty(out, scope, ty.get()),
+    }
+}
+
+/// Appends a text and the type.
+#[cycle(phrase)]
+pub fn push_ty_after(out: &mut Vec<u8>, scope: &NameScope<'_>, text: &[u8], ty: &Ty) -> Result<(), AllocError>
+    ensures printed { OnOk result (out.new.items ≡ out.old.items ++ (text.now ++ ty_bytes (print_scope scope.now) (ty_tree ty.now))) }
+{
+    out.extend_from_slice(text)?;
+    push_ty(out, scope, ty)
+}
+
+/// Appends a text and the type, which stands under a binder.
+#[cycle(phrase)]
+fn push_ty_under(out: &mut Vec<u8>, scope: &NameScope<'_>, sort: Sort, text: &[u8], ty: &Ty) -> Result<(), AllocError>
+    ensures { OnOk result (out.new.items ≡ out.old.items ++ (text.now ++ ty_bytes (with_entry (sort_of sort) (print_scope scope.now)) (ty_tree ty.now))) }
+{
+    let inner = scope.under(sort)?;
+    push_ty_after(out, &inner, text, ty)
+}
+
+/// Appends the triple: the precondition, the result and the postcondition.
+#[cycle(phrase)]
+#[tactic(auto, using(std::proofs::lemmas::Grind::common_steps, crate::proofs::Rows::triple_rows), unfolding(htt_syntax::specs::Levels::triple_tree))]
+pub fn push_triple(out: &mut Vec<u8>, scope: &NameScope<'_>, triple: &Triple) -> Result<(), AllocError>
+    ensures printed { OnOk result (out.new.items ≡ out.old.items ++ triple_bytes (print_scope scope.now) (triple_tree triple.now)) }
+{
+    let before = scope.under_mem()?;
+    let inner = scope.under(Sort::Term)?;
+    let after = inner.under_heaps()?;
+    push_formula_after(out, &before, b"{", &triple.pre)?;
+    push_binder(out, scope, b"} ", Sort::Term)?;
+    push_mono_after(out, scope, b" : ", &triple.result)?;
+    push_formula_after(out, &after, b" {", &triple.post)?;
+    out.extend_from_slice(b"}")
+}
