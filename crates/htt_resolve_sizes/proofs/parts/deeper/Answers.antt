@@ -1,0 +1,9 @@
+use Rattle.std.proofs.Common.{subst}
+use Rattle.htt_resolve_sizes.specs.Parts.{IsSize}
+use Rattle.htt_resolve_sizes.proofs.Forms.{deeper_ok}
+use Rattle.htt_resolve_sizes.proofs.parts.deeper.Goals as goal
+
+pub returns-in-Ok : goal.returns-in-Ok
+returns-in-Ok c = record {
+  made = λ L h. deeper_ok c.in-Ok.part L c.deeper.result c.deeper.ensures (subst (λ r. IsSize r L) c.in-Ok.is h);
+}

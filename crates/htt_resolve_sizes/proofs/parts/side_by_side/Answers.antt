@@ -1,0 +1,7 @@
+use Rattle.htt_resolve_sizes.proofs.Forms.{side_ok}
+use Rattle.htt_resolve_sizes.proofs.parts.side_by_side.Goals as goal
+
+pub returns-in-Ok-Ok : goal.returns-in-Ok-Ok
+returns-in-Ok-Ok c = record {
+  made = λ L R h k. side_ok c.in-Ok-Ok.first c.in-Ok-Ok.second L R c.beside.result c.beside.ensures h k;
+}
