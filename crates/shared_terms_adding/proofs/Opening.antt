@@ -1,5 +1,5 @@
 -- Lists of the code as definitions speak of them, and the operation of a row.
-use Rattle.std.proofs.Common.{◌≡◌, ℕ, ◌+◌, ◌<◌, ◌≤◌, List, [], ◌∷◌, length, get_or, drop, refl, sym, ap, ◌∙◌, arith}
+use Rattle.std.proofs.Common.{◌≡◌, ℕ, ◌+◌, ◌<◌, ◌≤◌, List, [], ◌∷◌, length, get_or, drop, Some, refl, sym, ap, ◌∙◌, arith}
 use Rattle.std.proofs.lemmas.List.{drop_all, drop_more}
 use Rattle.htt_syntax.specs.declared.mono.Op.{Op}
 use Rattle.htt_syntax.specs.Trees.{TermTree, FixTree, no_terms, more_terms, x_param, c_ret, c_step}
@@ -10,8 +10,13 @@ use Rattle.htt_syntax.specs.declared.tree.Ty.{Ty}
 use Rattle.htt_syntax.specs.declared.tree.Step.{Step}
 use Rattle.shared_terms_rows.specs.declared.operation.Operation.{Operation}
 use Rattle.shared_terms_rows.specs.declared.operation.Operation.TheVariants as operation
-use Rattle.shared_terms_rows.specs.Parts.{op_of}
-use Rattle.theory_rows_inversion.specs.Inversion.{operation_of}
+use Rattle.shared_terms_rows.specs.declared.form.Form.TheVariants as form
+use Rattle.shared_terms_rows.specs.declared.form.FixForm.TheVariants as fix
+use Rattle.shared_terms_rows.specs.declared.form.CompForm.TheVariants as comp
+use Rattle.shared_terms_rows.specs.Parts.{op_of, of_fix, of_comp}
+use Rattle.shared_terms_rows.specs.Forms.{slots, fix_slots, comp_slots}
+use Rattle.theory_rows_inversion.specs.Inversion.{operation_of, form_at, parts_at}
+use Rattle.shared_terms_adding.specs.Roots.{root_of}
 
 there_and_back : (o : Operation) → o ≡ operation_of (op_of o)
 there_and_back operation.Add = refl
@@ -53,3 +58,28 @@ pub step_there : (xs : List Step) (from : ℕ) (x : Step) (result : TermTree)
     → steps_tree (drop from xs) result ≡ c_step (step_tree x) (steps_tree (drop (from + 1) xs) result)
 step_there xs from x result below is =
     ap (λ ys. steps_tree ys result) (drop_more xs from x below ∙ ap (λ y. y ∷ drop (from + 1) xs) (sym is))
+
+-- a step that is left, and a parameter
+pub step_form : (xs : List Step) (from : ℕ) (result : TermTree) → from < length xs → form.Comp comp.Step ≡ form_at (of_comp (steps_tree (drop from xs) result))
+unfolding form_at
+step_form [] from result below = absurd (omega (arith, below))
+step_form (x ∷ xs) from result below = ap (λ ys. form_at (of_comp (steps_tree ys result))) (sym (drop_more (x ∷ xs) from x below))
+
+pub step_second : (xs : List Step) (from : ℕ) (result : TermTree)
+    → from < length xs
+    → Some (of_comp (steps_tree (drop (from + 1) xs) result)) ≡ (root_of (of_comp (steps_tree (drop from xs) result))).second
+unfolding root_of form_at parts_at slots comp_slots
+step_second [] from result below = absurd (omega (arith, below))
+step_second (x ∷ xs) from result below = ap (λ ys. (root_of (of_comp (steps_tree ys result))).second) (sym (drop_more (x ∷ xs) from x below))
+
+pub param_form : (xs : List Ty) (from : ℕ) (rest : FixTree) → from < length xs → form.Fix fix.Param ≡ form_at (of_fix (params_tree (drop from xs) rest))
+unfolding form_at
+param_form [] from rest below = absurd (omega (arith, below))
+param_form (x ∷ xs) from rest below = ap (λ ys. form_at (of_fix (params_tree ys rest))) (sym (drop_more (x ∷ xs) from x below))
+
+pub param_second : (xs : List Ty) (from : ℕ) (rest : FixTree)
+    → from < length xs
+    → Some (of_fix (params_tree (drop (from + 1) xs) rest)) ≡ (root_of (of_fix (params_tree (drop from xs) rest))).second
+unfolding root_of form_at parts_at slots fix_slots
+param_second [] from rest below = absurd (omega (arith, below))
+param_second (x ∷ xs) from rest below = ap (λ ys. (root_of (of_fix (params_tree ys rest))).second) (sym (drop_more (x ∷ xs) from x below))

@@ -13,16 +13,16 @@ use Rattle.shared_terms_rows.specs.Forms.{slots, skeleton_slots, mono_slots, ty_
 use Rattle.theory_rows_inversion.specs.Inversion.{form_at, parts_at}
 use Rattle.shared_terms_adding.specs.Roots.{Root, root_of}
 
-abbrev over : ℕ → ℕ → ℕ → ℕ → ℕ
+abbrev pub over : ℕ → ℕ → ℕ → ℕ → ℕ
 over a b c d = a + b + c + d + 1
 
-unfoldable rank_skeleton : Skeleton → ℕ
+unfoldable pub rank_skeleton : Skeleton → ℕ
 rank_skeleton sk_o = over 0 0 0 0
 rank_skeleton sk_c = over 0 0 0 0
 rank_skeleton (sk_arrow a b) = over (rank_skeleton a) (rank_skeleton b) 0 0
 rank_skeleton (sk_all a) = over (rank_skeleton a) 0 0 0
 
-unfoldable rank_mono : MonoTree → ℕ
+unfoldable pub rank_mono : MonoTree → ℕ
 rank_mono m_word = over 0 0 0 0
 rank_mono m_bool = over 0 0 0 0
 rank_mono m_loc = over 0 0 0 0
@@ -31,17 +31,17 @@ rank_mono (m_pair a b) = over (rank_mono a) (rank_mono b) 0 0
 rank_mono (m_var index) = over 0 0 0 0
 
 unfoldable mutual
-  rank_ty : TyTree → ℕ
+  pub rank_ty : TyTree → ℕ
   rank_ty (y_mono a) = over (rank_mono a) 0 0 0
   rank_ty (y_fun a b) = over (rank_ty a) (rank_ty b) 0 0
   rank_ty (y_all a) = over (rank_ty a) 0 0 0
   rank_ty (y_hoare a) = over (rank_triple a) 0 0 0
   rank_ty (y_at at a) = over (rank_ty a) 0 0 0
 
-  rank_triple : TripleTree → ℕ
+  pub rank_triple : TripleTree → ℕ
   rank_triple (triple a b c) = over (rank_formula a) (rank_mono b) (rank_formula c) 0
 
-  rank_term : TermTree → ℕ
+  pub rank_term : TermTree → ℕ
   rank_term (t_var index) = over 0 0 0 0
   rank_term (t_val number) = over 0 0 0 0
   rank_term (t_def number) = over 0 0 0 0
@@ -66,19 +66,19 @@ unfoldable mutual
   rank_term (t_made number a) = over (rank_terms a) 0 0 0
   rank_term (t_at at a) = over (rank_term a) 0 0 0
 
-  rank_terms : TermTrees → ℕ
+  pub rank_terms : TermTrees → ℕ
   rank_terms no_terms = over 0 0 0 0
   rank_terms (more_terms a b) = over (rank_term a) (rank_terms b) 0 0
 
-  rank_fix : FixTree → ℕ
+  pub rank_fix : FixTree → ℕ
   rank_fix (x_param a b) = over (rank_ty a) (rank_fix b) 0 0
   rank_fix (x_body a b) = over (rank_triple a) (rank_comp b) 0 0
 
-  rank_comp : CompTree → ℕ
+  pub rank_comp : CompTree → ℕ
   rank_comp (c_ret a) = over (rank_term a) 0 0 0
   rank_comp (c_step a b) = over (rank_step a) (rank_comp b) 0 0
 
-  rank_step : StepTree → ℕ
+  pub rank_step : StepTree → ℕ
   rank_step (s_run a (Some b)) = over (rank_term a) (rank_mono b) 0 0
   rank_step (s_run a None) = over (rank_term a) 0 0 0
   rank_step (s_alloc a b) = over (rank_mono a) (rank_term b) 0 0
@@ -88,7 +88,7 @@ unfoldable mutual
   rank_step (s_if a b c d) = over (rank_mono a) (rank_term b) (rank_comp c) (rank_comp d)
   rank_step (s_claim a) = over (rank_formula a) 0 0 0
 
-  rank_formula : FormulaTree → ℕ
+  pub rank_formula : FormulaTree → ℕ
   rank_formula f_tt = over 0 0 0 0
   rank_formula f_ff = over 0 0 0 0
   rank_formula (f_and a b) = over (rank_formula a) (rank_formula b) 0 0
