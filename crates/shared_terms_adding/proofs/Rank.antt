@@ -195,3 +195,16 @@ rank_adds (of_formula (f_at at a)) = refl
 rank_adds (of_formula (f_rec number heap a b)) = refl
 rank_adds (of_terms no_terms) = refl
 rank_adds (of_terms (more_terms a b)) = refl
+
+-- what stands in a slot is less than the tree
+pub first_less : (part : Part) → rank_in ((root_of part).first) < rank part
+first_less part = omega (arith, rank_adds part)
+
+pub second_less : (part : Part) → rank_in ((root_of part).second) < rank part
+second_less part = omega (arith, rank_adds part)
+
+pub third_less : (part : Part) → rank_in ((root_of part).third) < rank part
+third_less part = omega (arith, rank_adds part)
+
+pub fourth_less : (part : Part) → rank_in ((root_of part).fourth) < rank part
+fourth_less part = omega (arith, rank_adds part)
