@@ -14,3 +14,6 @@ mod types;
 
 pub use adding::add;
 pub use tree::Tree;
+
+#[cfg(test)]
+mod tests;
