@@ -1,11 +1,10 @@
 -- A list of parts that grows by a tree, slot by slot and then by the tree itself.
-use Rattle.std.proofs.Common.{◌≡◌, ℕ, ◌+◌, ◌<◌, ◌≤◌, List, [], ◌∷◌, ◌++◌, length, Option, Some, None, refl, sym, ap, subst, ◌∙◌, arith, true, ◌&&◌, nat_eq}
+use Rattle.std.proofs.Common.{◌≡◌, ℕ, ◌<◌, ◌≤◌, List, [], ◌∷◌, ◌++◌, length, Option, Some, None, refl, sym, ap, subst, ◌∙◌, arith, true, ◌&&◌, nat_eq}
 use Rattle.std.proofs.Common.{◌⊎◌, inl, inr, Result, Ok, Err, IfOk}
 use Rattle.std.proofs.lemmas.Bool.{cases_lt}
 use Rattle.shared_terms_rows.specs.declared.slots.Slot.{Slot}
 use Rattle.shared_terms_rows.specs.declared.row.Row.{Row}
 use Rattle.shared_terms_rows.specs.declared.form.Form.{Form}
-use Rattle.shared_terms_rows.specs.declared.form.Kind.{Kind}
 use Rattle.shared_terms_rows.specs.Parts.{Part, kind_of, build}
 use Rattle.shared_terms_rows.specs.Forms.{slots}
 use Rattle.shared_terms_rows.specs.Rows.{at, in_slot, node, behind, bound, bound_in, number, slot_fits, fits, fits_in, IsOfSlot, RowIs, Extends}
@@ -155,9 +154,9 @@ grows_last {p} {a} {b} {row} h (inr e) =
     (record {
       kept = extends_push a (node a row);
       only = λ k from below.
-      let last : k ≡ length a = omega (arith, from, below, length_more a (node a row)) in
-      let is : at (a ++ node a row ∷ []) k ≡ p = ap (at (a ++ node a row ∷ [])) last ∙ at_push a (node a row) ∙ row_node h in
-      subst (λ q. IsIn q p) (sym is) itself;
+          let last : k ≡ length a = omega (arith, from, below, length_more a (node a row)) in
+          let is : at (a ++ node a row ∷ []) k ≡ p = ap (at (a ++ node a row ∷ [])) last ∙ at_push a (node a row) ∙ row_node h in
+          subst (λ q. IsIn q p) (sym is) itself;
     })
 
 -- what is in a slot that holds a tree

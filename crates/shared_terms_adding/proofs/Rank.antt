@@ -1,5 +1,5 @@
 -- A number for each tree that is greater than those of the trees in its slots: by it the walk ends.
-use Rattle.std.proofs.Common.{◌≡◌, ℕ, suc, ◌+◌, ◌<◌, Option, Some, None, refl, sym, ap, arith}
+use Rattle.std.proofs.Common.{◌≡◌, ℕ, ◌+◌, ◌<◌, Option, Some, None, refl, arith}
 use Rattle.htt_syntax.specs.Trees.{MonoTree, TyTree, TripleTree, TermTree, FixTree, CompTree, StepTree, FormulaTree, TermTrees}
 use Rattle.htt_syntax.specs.Trees.{c_ret, c_step, f_all_h, f_all_t, f_and, f_at, f_block, f_cell, f_emp, f_eq, f_ex_h}
 use Rattle.htt_syntax.specs.Trees.{f_ex_t, f_ff, f_imp, f_join, f_or, f_rec, f_same, f_tt, m_bool, m_loc, m_pair}
@@ -11,7 +11,7 @@ use Rattle.theory_canonical.specs.Skeletons.{Skeleton, sk_all, sk_arrow, sk_c, s
 use Rattle.shared_terms_rows.specs.Parts.{Part, of_skeleton, of_mono, of_ty, of_triple, of_term, of_terms, of_fix, of_comp, of_step, of_formula}
 use Rattle.shared_terms_rows.specs.Forms.{slots, skeleton_slots, mono_slots, ty_slots, term_slots, fix_slots, comp_slots, step_slots, formula_slots}
 use Rattle.theory_rows_inversion.specs.Inversion.{form_at, parts_at}
-use Rattle.shared_terms_adding.specs.Roots.{Root, root_of}
+use Rattle.shared_terms_adding.specs.Roots.{root_of}
 
 abbrev pub over : ℕ → ℕ → ℕ → ℕ → ℕ
 over a b c d = a + b + c + d + 1

@@ -28,7 +28,9 @@ pub(crate) fn form_of_formula(formula: &Formula) -> Form
         Formula::Emp(heap) => Form::Formula(FormulaForm::Emp(*heap)),
         Formula::Cell(_, heap, _, _) => Form::Formula(FormulaForm::Cell(*heap)),
         Formula::Block(_, heap, _) => Form::Formula(FormulaForm::Block(*heap)),
-        Formula::Join(whole, left, right) => Form::Formula(FormulaForm::Join(*whole, *left, *right)),
+        Formula::Join(whole, left, right) => Form::Formula(FormulaForm::Join(
+            *whole, *left, *right,
+        )),
         Formula::Same(left, right) => Form::Formula(FormulaForm::Same(*left, *right)),
         Formula::Eq(_, _, _) => Form::Formula(FormulaForm::Eq),
         Formula::At(at, _) => Form::Formula(FormulaForm::At(*at)),
@@ -53,7 +55,11 @@ pub(crate) fn first_of_formula(formula: &Formula) -> Option<Tree<'_>>
         Formula::Eq(mono, _, _) => Some(Tree::Mono(mono)),
         Formula::At(_, formula) => Some(Tree::Formula(formula.get())),
         Formula::Rec(_, _, place, _) => Some(Tree::Term(place)),
-        Formula::Tt | Formula::Ff | Formula::Emp(_) | Formula::Join(_, _, _) | Formula::Same(_, _) => None,
+        Formula::Tt
+        | Formula::Ff
+        | Formula::Emp(_)
+        | Formula::Join(_, _, _)
+        | Formula::Same(_, _) => None,
     }
 }
 
@@ -71,7 +77,14 @@ pub(crate) fn second_of_formula(formula: &Formula) -> Option<Tree<'_>>
         Formula::Block(_, _, place) => Some(Tree::Term(place)),
         Formula::Eq(_, left, _) => Some(Tree::Term(left)),
         Formula::Rec(_, _, _, arguments) => Some(Tree::Terms(arguments.as_slice())),
-        Formula::Tt | Formula::Ff | Formula::AllH(_) | Formula::ExH(_) | Formula::Emp(_) | Formula::Join(_, _, _) | Formula::Same(_, _) | Formula::At(_, _) => None,
+        Formula::Tt
+        | Formula::Ff
+        | Formula::AllH(_)
+        | Formula::ExH(_)
+        | Formula::Emp(_)
+        | Formula::Join(_, _, _)
+        | Formula::Same(_, _)
+        | Formula::At(_, _) => None,
     }
 }
 
@@ -82,6 +95,20 @@ pub(crate) fn third_of_formula(formula: &Formula) -> Option<Tree<'_>>
     match formula {
         Formula::Cell(_, _, _, value) => Some(Tree::Term(value)),
         Formula::Eq(_, _, right) => Some(Tree::Term(right)),
-        Formula::Tt | Formula::Ff | Formula::And(_, _) | Formula::Or(_, _) | Formula::Imp(_, _) | Formula::AllT(_, _) | Formula::ExT(_, _) | Formula::AllH(_) | Formula::ExH(_) | Formula::Emp(_) | Formula::Block(_, _, _) | Formula::Join(_, _, _) | Formula::Same(_, _) | Formula::At(_, _) | Formula::Rec(_, _, _, _) => None,
+        Formula::Tt
+        | Formula::Ff
+        | Formula::And(_, _)
+        | Formula::Or(_, _)
+        | Formula::Imp(_, _)
+        | Formula::AllT(_, _)
+        | Formula::ExT(_, _)
+        | Formula::AllH(_)
+        | Formula::ExH(_)
+        | Formula::Emp(_)
+        | Formula::Block(_, _, _)
+        | Formula::Join(_, _, _)
+        | Formula::Same(_, _)
+        | Formula::At(_, _)
+        | Formula::Rec(_, _, _, _) => None,
     }
 }

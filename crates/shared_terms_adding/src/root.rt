@@ -6,11 +6,17 @@ ghost use Rattle.shared_terms_adding.specs.Roots.{root_of};
 ghost use Rattle.shared_terms_adding.specs.Views.{part_of, part_in};
 
 use crate::formulas::{first_of_formula, form_of_formula, second_of_formula, third_of_formula};
-use crate::lists::{first_of_comp, first_of_fix, first_of_terms, first_of_triple, form_of_comp, form_of_fix, form_of_terms, second_of_comp, second_of_fix, second_of_terms, second_of_triple, third_of_triple};
+use crate::lists::{
+    first_of_comp, first_of_fix, first_of_terms, first_of_triple, form_of_comp, form_of_fix,
+    form_of_terms, second_of_comp, second_of_fix, second_of_terms, second_of_triple,
+    third_of_triple,
+};
 use crate::steps::{first_of_step, form_of_step, fourth_of_step, second_of_step, third_of_step};
 use crate::terms::{first_of_term, form_of_term, fourth_of_term, second_of_term, third_of_term};
-use crate::types::{first_of_mono, first_of_ty, form_of_mono, form_of_ty, second_of_mono, second_of_ty};
 use crate::tree::Tree;
+use crate::types::{
+    first_of_mono, first_of_ty, form_of_mono, form_of_ty, second_of_mono, second_of_ty,
+};
 use shared_terms_rows::Form;
 
 impl<'a> Tree<'a> {

@@ -76,7 +76,11 @@ pub(crate) fn fourth_of_step(step: &Step) -> Option<Tree<'_>>
     match step {
         Step::Run(term, mono) => fourth_of_run(term, mono),
         Step::If(_, _, _, on_false) => Some(Tree::Comp(on_false, 0)),
-        Step::Alloc(_, _) | Step::Get(_, _) | Step::Set(_, _, _) | Step::Free(_, _) | Step::Claim(_) => None,
+        Step::Alloc(_, _)
+        | Step::Get(_, _)
+        | Step::Set(_, _, _)
+        | Step::Free(_, _)
+        | Step::Claim(_) => None,
     }
 }
 

@@ -63,7 +63,13 @@ pub(crate) fn first_of_term(term: &Term) -> Option<Tree<'_>>
         Term::Ann(term, _) => Some(Tree::Term(term.get())),
         Term::Made(_, values) => Some(Tree::Terms(values.as_slice())),
         Term::At(_, term) => Some(Tree::Term(term.get())),
-        Term::Var(_) | Term::Val(_) | Term::Def(_) | Term::Word(_) | Term::Bool(_) | Term::Loc(_) | Term::Unit => None,
+        Term::Var(_)
+        | Term::Val(_)
+        | Term::Def(_)
+        | Term::Word(_)
+        | Term::Bool(_)
+        | Term::Loc(_)
+        | Term::Unit => None,
     }
 }
 
@@ -79,7 +85,22 @@ pub(crate) fn second_of_term(term: &Term) -> Option<Tree<'_>>
         Term::Eq(_, left, _) => Some(Tree::Term(left.get())),
         Term::Sel(_, test, _, _) => Some(Tree::Term(test.get())),
         Term::Ann(_, ty) => Some(Tree::Ty(ty.get())),
-        Term::Var(_) | Term::Val(_) | Term::Def(_) | Term::Lam(_) | Term::LamT(_) | Term::Do(_) | Term::Fix(_) | Term::Word(_) | Term::Bool(_) | Term::Loc(_) | Term::Unit | Term::Fst(_) | Term::Snd(_) | Term::Un(_) | Term::Made(_, _) | Term::At(_, _) => None,
+        Term::Var(_)
+        | Term::Val(_)
+        | Term::Def(_)
+        | Term::Lam(_)
+        | Term::LamT(_)
+        | Term::Do(_)
+        | Term::Fix(_)
+        | Term::Word(_)
+        | Term::Bool(_)
+        | Term::Loc(_)
+        | Term::Unit
+        | Term::Fst(_)
+        | Term::Snd(_)
+        | Term::Un(_)
+        | Term::Made(_, _)
+        | Term::At(_, _) => None,
     }
 }
 
@@ -90,7 +111,27 @@ pub(crate) fn third_of_term(term: &Term) -> Option<Tree<'_>>
     match term {
         Term::Eq(_, _, right) => Some(Tree::Term(right.get())),
         Term::Sel(_, _, on_true, _) => Some(Tree::Term(on_true.get())),
-        Term::Var(_) | Term::Val(_) | Term::Def(_) | Term::App(_, _) | Term::Inst(_, _) | Term::Lam(_) | Term::LamT(_) | Term::Do(_) | Term::Fix(_) | Term::Word(_) | Term::Bool(_) | Term::Loc(_) | Term::Unit | Term::Pair(_, _) | Term::Fst(_) | Term::Snd(_) | Term::Un(_) | Term::Bin(_, _, _) | Term::Ann(_, _) | Term::Made(_, _) | Term::At(_, _) => None,
+        Term::Var(_)
+        | Term::Val(_)
+        | Term::Def(_)
+        | Term::App(_, _)
+        | Term::Inst(_, _)
+        | Term::Lam(_)
+        | Term::LamT(_)
+        | Term::Do(_)
+        | Term::Fix(_)
+        | Term::Word(_)
+        | Term::Bool(_)
+        | Term::Loc(_)
+        | Term::Unit
+        | Term::Pair(_, _)
+        | Term::Fst(_)
+        | Term::Snd(_)
+        | Term::Un(_)
+        | Term::Bin(_, _, _)
+        | Term::Ann(_, _)
+        | Term::Made(_, _)
+        | Term::At(_, _) => None,
     }
 }
 
@@ -100,6 +141,27 @@ pub(crate) fn fourth_of_term(term: &Term) -> Option<Tree<'_>>
 {
     match term {
         Term::Sel(_, _, _, on_false) => Some(Tree::Term(on_false.get())),
-        Term::Var(_) | Term::Val(_) | Term::Def(_) | Term::App(_, _) | Term::Inst(_, _) | Term::Lam(_) | Term::LamT(_) | Term::Do(_) | Term::Fix(_) | Term::Word(_) | Term::Bool(_) | Term::Loc(_) | Term::Unit | Term::Pair(_, _) | Term::Fst(_) | Term::Snd(_) | Term::Un(_) | Term::Bin(_, _, _) | Term::Eq(_, _, _) | Term::Ann(_, _) | Term::Made(_, _) | Term::At(_, _) => None,
+        Term::Var(_)
+        | Term::Val(_)
+        | Term::Def(_)
+        | Term::App(_, _)
+        | Term::Inst(_, _)
+        | Term::Lam(_)
+        | Term::LamT(_)
+        | Term::Do(_)
+        | Term::Fix(_)
+        | Term::Word(_)
+        | Term::Bool(_)
+        | Term::Loc(_)
+        | Term::Unit
+        | Term::Pair(_, _)
+        | Term::Fst(_)
+        | Term::Snd(_)
+        | Term::Un(_)
+        | Term::Bin(_, _, _)
+        | Term::Eq(_, _, _)
+        | Term::Ann(_, _)
+        | Term::Made(_, _)
+        | Term::At(_, _) => None,
     }
 }

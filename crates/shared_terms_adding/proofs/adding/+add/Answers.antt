@@ -1,9 +1,9 @@
 use Rattle.std.proofs.Common.{ap, arith}
 use Rattle.shared_terms_table.specs.View.{parts_of}
-use Rattle.shared_terms_table.proofs.Lists.{extends_trans, extends_refl}
+use Rattle.shared_terms_table.proofs.Lists.{extends_trans}
 use Rattle.shared_terms_rows.specs.declared.row.Row.{Row}
 use Rattle.shared_terms_adding.specs.Views.{part_of, part_in}
-use Rattle.shared_terms_adding.proofs.Rank.{rank, rank_in, first_less, second_less, third_less, fourth_less}
+use Rattle.shared_terms_adding.proofs.Rank.{rank_in, first_less, second_less, third_less, fourth_less}
 use Rattle.shared_terms_adding.proofs.Growth.{Placed, grows_trans, grows_first, grows_second, grows_third, grows_fourth, grows_last, slot_extends, slot_kept, slot_told, slot_grown, placed_kept, row_behind, row_fits, stands_ok}
 use Rattle.shared_terms_adding.proofs.adding.+add.Goals as goal
 
