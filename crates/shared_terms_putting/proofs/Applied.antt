@@ -61,7 +61,7 @@ pair_fits parts first second g a b e k l =
     ∙ (λ j. (nat_eq (number (k j)) (number a.kind) && nat_eq (number (l j)) (number b.kind)) && true) ∙ both (number a.kind) (number b.kind)
 
 -- a head over a table that has grown
-head_moved : {parts more : List Part} {task : PutTask} {t r u : TermTree} {k : Option Skeleton}
+pub head_moved : {parts more : List Part} {task : PutTask} {t r u : TermTree} {k : Option Skeleton}
     → Extends parts more
     → Asks parts task
     → as_term (at parts task.place) ≡ t
@@ -128,7 +128,8 @@ pub record Beta (parts : List Part) (task : PutTask) (value : ℕ) (arrow functi
   pub codomain : IsSkeleton parts arrow.second
   pub body : IsTerm parts function.first
   pub smaller : size (as_skeleton (at parts arrow.first)) < size (skeleton_of parts task)
-  pub rest : size (as_skeleton (at parts arrow.second)) ≤ size (skeleton_of parts task)
+  pub is_arrow : arrow.form ≡ form.Skeleton skeleton.Arrow
+  pub is_function : function.form ≡ form.Term term.Lam
   pub has : Has parts (record { new = value; skeleton = arrow.first; index = 0; place = function.first })
 
 arrow_left : {s t u v : Skeleton} → sk_arrow s t ≡ sk_arrow u v → s ≡ u
@@ -137,10 +138,10 @@ arrow_left e = cc
 lam_body : {t u : TermTree} → t_lam t ≡ t_lam u → t ≡ u
 lam_body e = cc
 
-gives_within : {parts : List Part} {task : PutTask} {f left : ℕ} → Heads parts task (heads.Gives f left) → IsTerm parts f × IsSkeleton parts left
+pub gives_within : {parts : List Part} {task : PutTask} {f left : ℕ} → Heads parts task (heads.Gives f left) → IsTerm parts f × IsSkeleton parts left
 gives_within (head_gives i l z g) = (i, l)
 
-gives_size : {parts : List Part} {task : PutTask} {f left : ℕ}
+pub gives_size : {parts : List Part} {task : PutTask} {f left : ℕ}
     → Heads parts task (heads.Gives f left)
     → size (as_skeleton (at parts left)) ≤ size (skeleton_of parts task)
 gives_size (head_gives i l z g) = z
@@ -176,7 +177,8 @@ beta {parts} task {row} {arrow} {function} {f} {v} {left} w e h g p wa wf =
       codomain = ps.1;
       body = lam_part wf ff;
       smaller = omega (arith, y, z);
-      rest = omega (arith, y, z);
+      is_arrow = fa;
+      is_function = ff;
       has = record {
         result = of_term ((app_redex task w e h g p).0);
         sub = term_part (at parts function.first) ((lam_part wf ff).term)

@@ -5,3 +5,8 @@ pub mod Slots
 pub mod Ways
 pub mod Puts
 pub mod Applied
+pub mod Instances
+pub mod Stepped
+pub mod Ran
+pub mod Under
+pub mod Bound
