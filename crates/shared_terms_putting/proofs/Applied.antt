@@ -108,6 +108,21 @@ module _ {parts : List Part} (task : PutTask) {row : Row} (w : RowIs parts task.
       head_stays (record { within = s.within; term = ap kind_of s.tree })
       (head_moved {task = task} x a app_tree (ap as_term (sym s.tree)) q)
 
+  pub app_behind : {f v : ℕ}
+      → Heads parts (moved task row.first) (heads.Stays f)
+      → Puts parts (moved task row.second) v
+      → bound (pair (form.Term term.App) f v) ≤ length parts
+  unfolding slots term_slots
+  app_behind (head_stays i h) p = pair_behind (form.Term term.App) _ _ refl i.within p.within
+
+  pub app_fits : {f v : ℕ}
+      → Heads parts (moved task row.first) (heads.Stays f)
+      → Puts parts (moved task row.second) v
+      → fits parts (pair (form.Term term.App) f v) ≡ true
+  unfolding slots term_slots
+  app_fits {f} {v} (head_stays i h) p =
+      pair_fits parts f v (form.Term term.App) _ _ refl i.term (kind_stays p.sub ∙ (app_parts w e).1.term)
+
   app_redex : {f v left : ℕ}
       → HasHead parts task
       → Heads parts (moved task row.first) (heads.Gives f left)

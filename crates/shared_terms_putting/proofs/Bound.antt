@@ -26,7 +26,7 @@ use Rattle.shared_terms_putting.specs.Put.{IsSkeleton, IsComp, Asks, Has, Puts, 
 use Rattle.shared_terms_putting.proofs.Kept.{comp_kept}
 use Rattle.shared_terms_putting.proofs.Nodes.{ret_node, ret_part, step_node, step_kinds, step_within, comp_itself}
 use Rattle.shared_terms_putting.proofs.Puts.{sub_comp, comp_part}
-use Rattle.shared_terms_putting.proofs.Applied.{pair}
+use Rattle.shared_terms_putting.proofs.Applied.{pair, pair_behind, pair_fits}
 
 -- a computation's row is a result or a step
 ret_form : (f : Form) → is_ret_form f ≡ true → f ≡ form.Comp comp.Ret
@@ -121,6 +121,14 @@ module _ {parts : List Part} {place others raised : ℕ} {row : Row} (w : RowIs 
   behind_has h =
       let b = bound_step (subst (λ p. Bind (as_comp p) (as_comp (at parts others)) h.result) (step_node w e) h.bind) in
       record { result = b.0; bind = subst (λ p. Bind (as_comp (at parts row.second)) (as_comp p) (b.0)) (sym raised_tree) (b.2) }
+
+  pub bind_behind : {rest : ℕ} → Binds parts row.second raised rest → bound (pair (form.Comp comp.Step) row.first rest) ≤ length parts
+  unfolding slots comp_slots
+  bind_behind b = pair_behind (form.Comp comp.Step) _ _ refl ((step_within w e).0) b.result.within
+
+  pub bind_fits : {rest : ℕ} → Binds parts row.second raised rest → fits parts (pair (form.Comp comp.Step) row.first rest) ≡ true
+  unfolding slots comp_slots
+  bind_fits {rest} b = pair_fits parts row.first rest (form.Comp comp.Step) _ _ refl ((step_kinds w e).0) b.result.comp
 
   pub step_binds : {more : List Part} {rest p : ℕ}
       → Extends parts more

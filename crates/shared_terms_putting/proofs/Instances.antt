@@ -1,5 +1,5 @@
 -- A head with a monotype, on rows.
-use Rattle.std.proofs.Common.{◌≡◌, ℕ, zero, ◌+◌, ◌<◌, ◌≤◌, List, length, refl, sym, ap, ◌∙◌, subst, arith, Option, None, Some}
+use Rattle.std.proofs.Common.{◌≡◌, ℕ, zero, ◌+◌, ◌<◌, ◌≤◌, List, length, refl, sym, ap, ◌∙◌, subst, arith, true, Option, None, Some}
 use Rattle.htt_syntax.specs.Trees.{TermTree, MonoTree, t_inst, t_lam_t}
 use Rattle.theory_renaming.specs.Renaming.{rename_mono}
 use Rattle.theory_canonical.specs.Skeletons.{Skeleton, sk_all}
@@ -12,7 +12,7 @@ use Rattle.shared_terms_rows.specs.declared.form.TermForm.TheVariants as term
 use Rattle.shared_terms_rows.specs.declared.row.Row.{Row}
 use Rattle.shared_terms_rows.specs.Parts.{Part, of_skeleton, of_mono, of_term, as_term, as_mono, as_skeleton, kind_of, build, build_term}
 use Rattle.shared_terms_rows.specs.Forms.{slots, term_slots}
-use Rattle.shared_terms_rows.specs.Rows.{at, node, RowIs, Extends}
+use Rattle.shared_terms_rows.specs.Rows.{at, node, bound, fits, RowIs, Extends}
 use Rattle.theory_rows_renaming.specs.Renaming.{rename_part}
 use Rattle.theory_rows_filling.specs.Filling.{fill_part}
 use Rattle.theory_rows_substitution.specs.Substitution.{fold_part}
@@ -28,7 +28,7 @@ use Rattle.shared_terms_putting.specs.declared.work.Head.TheVariants as heads
 use Rattle.shared_terms_putting.specs.declared.work.PutTask.{PutTask}
 use Rattle.shared_terms_putting.specs.Put.{IsSkeleton, Asks, HasHead, Heads, head_stays, head_gives, moved, new_of, skeleton_of, size}
 use Rattle.shared_terms_putting.proofs.Nodes.{inst_node, inst_parts, lam_t_node, lam_t_part, all_node, all_part, all_form, lam_t_form, skeleton_itself}
-use Rattle.shared_terms_putting.proofs.Applied.{pair, head_moved, gives_within, gives_size}
+use Rattle.shared_terms_putting.proofs.Applied.{pair, pair_behind, pair_fits, head_moved, gives_within, gives_size}
 
 module _ {parts : List Part} (task : PutTask) {row : Row} (w : RowIs parts task.place row) (e : row.form ≡ form.Term term.Inst) where
   inst_tree : as_term (at parts task.place) ≡ t_inst (as_term (at parts row.first)) (as_mono (at parts row.second))
@@ -65,6 +65,20 @@ module _ {parts : List Part} (task : PutTask) {row : Row} (w : RowIs parts task.
       head_stays (record { within = s.within; term = ap kind_of s.tree })
       (head_moved {task = task} x a inst_tree
       (ap (λ z. t_inst (as_term (at parts f)) (as_mono z)) (sym (closed p)) ∙ ap as_term (sym s.tree)) q)
+
+  pub inst_behind : {f m : ℕ}
+      → Heads parts (moved task row.first) (heads.Stays f)
+      → RenamesBy parts (closing task.index) row.second m
+      → bound (pair (form.Term term.Inst) f m) ≤ length parts
+  unfolding slots term_slots
+  inst_behind (head_stays i h) r = pair_behind (form.Term term.Inst) _ _ refl i.within r.within
+
+  pub inst_fits : {f m : ℕ}
+      → Heads parts (moved task row.first) (heads.Stays f)
+      → RenamesBy parts (closing task.index) row.second m
+      → fits parts (pair (form.Term term.Inst) f m) ≡ true
+  unfolding slots term_slots
+  inst_fits {f} {m} (head_stays i h) r = pair_fits parts f m (form.Term term.Inst) _ _ refl i.term (ap kind_of (closed r))
 
   inst_redex : {f left : ℕ}
       → HasHead parts task

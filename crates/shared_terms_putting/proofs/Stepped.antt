@@ -14,7 +14,7 @@ use Rattle.shared_terms_rows.specs.declared.row.Row.{Row}
 use Rattle.shared_terms_rows.specs.declared.slots.Slots.{Slots}
 use Rattle.shared_terms_rows.specs.Parts.{Part, of_term, of_comp, of_step, as_term, as_mono, as_comp, as_step, as_skeleton, kind_of, build, build_comp, build_step}
 use Rattle.shared_terms_rows.specs.Forms.{slots, comp_slots, step_slots}
-use Rattle.shared_terms_rows.specs.Rows.{at, node, RowIs, Extends}
+use Rattle.shared_terms_rows.specs.Rows.{at, node, bound, fits, RowIs, Extends}
 use Rattle.theory_rows_substitution.specs.Substitution.{SubPart, in_comp, fold_part, ups, beyond}
 use Rattle.theory_rows_heads.specs.Heads.{SubHead, is_run}
 use Rattle.theory_rows_heads.specs.Laws.{RunParts, StepParts, Spliced}
@@ -30,7 +30,7 @@ use Rattle.shared_terms_putting.specs.Put.{moved, new_of, skeleton_of, size}
 use Rattle.shared_terms_putting.proofs.Kept.{asks_kept, sub_kept}
 use Rattle.shared_terms_putting.proofs.Nodes.{step_node, step_kinds, run_node, run_open_node, do_node, do_part, do_form, comp_itself}
 use Rattle.shared_terms_putting.proofs.Puts.{sub_comp, sub_step, comp_part, step_part}
-use Rattle.shared_terms_putting.proofs.Applied.{pair, gives_within, gives_size}
+use Rattle.shared_terms_putting.proofs.Applied.{pair, pair_behind, pair_fits, gives_within, gives_size}
 use Rattle.theory_substitution.specs.Substitution.{u_step}
 
 -- the tree of a step that runs
@@ -160,8 +160,20 @@ module _ {parts : List Part} (task : PutTask) {row first : Row} {s : Slots} (w :
   step_stands {more} {f} {r} {p} x a g h z =
       become x a (u_step (sub_step (at parts row.first) (at parts f) ((step_kinds w e).0) g.sub) (rest_sub h)) z
 
-  pub step_kind : {f : ℕ} → Puts parts (moved task row.first) f → kind_of (at parts f) ≡ kinds.Step
-  step_kind g = kind_stays g.sub ∙ (step_kinds w e).0
+  pub step_behind : {f r : ℕ}
+      → Puts parts (moved task row.first) f
+      → PutsSlot parts task s.second row.second r
+      → bound (pair (form.Comp comp.Step) f r) ≤ length parts
+  unfolding slots comp_slots
+  step_behind g h = pair_behind (form.Comp comp.Step) _ _ refl g.within ((rest_is_comp h).within)
+
+  pub step_fits : {f r : ℕ}
+      → Puts parts (moved task row.first) f
+      → PutsSlot parts task s.second row.second r
+      → fits parts (pair (form.Comp comp.Step) f r) ≡ true
+  unfolding slots comp_slots
+  step_fits {f} {r} g h =
+      pair_fits parts f r (form.Comp comp.Step) _ _ refl (kind_stays g.sub ∙ (step_kinds w e).0) ((rest_is_comp h).comp)
 
   spliced : {f left r : ℕ}
       → (g : is_run_form first.form ≡ true) (h : Has parts task)
