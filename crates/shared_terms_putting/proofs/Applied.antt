@@ -60,6 +60,19 @@ pair_fits parts first second g a b e k l =
     ap (λ z. fits_in parts z (pair g first second)) e
     ∙ (λ j. (nat_eq (number (k j)) (number a.kind) && nat_eq (number (l j)) (number b.kind)) && true) ∙ both (number a.kind) (number b.kind)
 
+-- a row that is told by its parts
+pub as_row : (parts : List Part) {more : List Part} {row told : Row} {place : ℕ}
+    → row ≡ told
+    → Stands more place (fold_part (node parts row))
+    → Stands more place (fold_part (node parts told))
+as_row parts {more} {place = place} e s = subst (λ r. Stands more place (fold_part (node parts r))) e s
+
+pub row_behind : {n : ℕ} {row told : Row} → row ≡ told → bound told ≤ n → bound row ≤ n
+row_behind {n} e l = subst (λ r. bound r ≤ n) (sym e) l
+
+pub row_fits : (parts : List Part) {row told : Row} → row ≡ told → fits parts told ≡ true → fits parts row ≡ true
+row_fits parts e f = ap (fits parts) e ∙ f
+
 -- a head over a table that has grown
 pub head_moved : {parts more : List Part} {task : PutTask} {t r u : TermTree} {k : Option Skeleton}
     → Extends parts more
@@ -93,6 +106,12 @@ module _ {parts : List Part} (task : PutTask) {row : Row} (w : RowIs parts task.
       (subst (λ t. SubHead (new_of parts task) (skeleton_of parts task) task.index t h.result h.left) app_tree h.sub)
       in
       record { result = of_term p.value; sub = term_part (at parts row.second) ((app_parts w e).1.term) p.of_argument }
+
+  pub app_function_asks : Asks parts task → Asks parts (moved task row.first)
+  app_function_asks a = record { new = a.new; skeleton = a.skeleton; within = (app_parts w e).0.within }
+
+  pub app_value : {v : ℕ} → Puts parts (moved task row.second) v → IsTerm parts v
+  app_value p = record { within = p.within; term = kind_stays p.sub ∙ (app_parts w e).1.term }
 
   pub app_stands : {more : List Part} {f v r : ℕ}
       → Extends parts more

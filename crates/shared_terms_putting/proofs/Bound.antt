@@ -29,7 +29,7 @@ use Rattle.shared_terms_putting.proofs.Puts.{sub_comp, comp_part}
 use Rattle.shared_terms_putting.proofs.Applied.{pair, pair_behind, pair_fits}
 
 -- a computation's row is a result or a step
-ret_form : (f : Form) → is_ret_form f ≡ true → f ≡ form.Comp comp.Ret
+pub ret_form : (f : Form) → is_ret_form f ≡ true → f ≡ form.Comp comp.Ret
 ret_form (form.Comp comp.Ret) e = refl
 ret_form f e = absurd (grind arith)
 
@@ -48,9 +48,6 @@ step_form form.Triple a b c d k e = absurd (grind arith)
 step_form form.NoTerms a b c d k e = absurd (grind arith)
 step_form form.MoreTerms a b c d k e = absurd (grind arith)
 
-pub comp_is_ret : {parts : List Part} {place : ℕ} {row : Row} → is_ret_form row.form ≡ true → row.form ≡ form.Comp comp.Ret
-comp_is_ret {row = row} e = ret_form row.form e
-
 pub comp_is_step : {parts : List Part} {place : ℕ} {row : Row}
     → RowIs parts place row
     → IsComp parts place
@@ -67,11 +64,14 @@ pub o_fits : (parts : List Part) → fits parts (pair (form.Skeleton skeleton.O)
 unfolding fits slots skeleton_slots
 o_fits parts = refl
 
-pub o_stands : {parts more : List Part} {place : ℕ}
+pub o_stands : (parts : List Part) {more : List Part} {place : ℕ}
     → Stands more place (fold_part (node parts (pair (form.Skeleton skeleton.O) 0 0)))
     → at more place ≡ of_skeleton sk_o
 unfolding build build_skeleton slots skeleton_slots
-o_stands s = s.tree
+o_stands parts s = s.tree
+
+pub o_stands_later : {parts more : List Part} {place : ℕ} → Extends parts more → at parts place ≡ of_skeleton sk_o → place < length parts → at more place ≡ of_skeleton sk_o
+o_stands_later {place = place} x e l = x.same place l ∙ e
 
 -- what stands behind a result has it put for its first variable
 module _ {parts : List Part} {place others skeleton : ℕ} {row : Row} (w : RowIs parts place row) (e : row.form ≡ form.Comp comp.Ret)

@@ -42,6 +42,9 @@ module _ {parts : List Part} (task : PutTask) {row : Row} (w : RowIs parts task.
       in
       record { result = p.0; left = p.1; sub = p.2 }
 
+  pub inst_function_asks : Asks parts task → Asks parts (moved task row.first)
+  inst_function_asks a = record { new = a.new; skeleton = a.skeleton; within = (inst_parts w e).0.within }
+
   -- the monotype has the gap closed
   closed : {m : ℕ}
       → RenamesBy parts (closing task.index) row.second m
@@ -91,6 +94,19 @@ module _ {parts : List Part} (task : PutTask) {row : Row} (w : RowIs parts task.
     instance_is_redex
         (subst (λ t. SubHead (new_of parts task) (skeleton_of parts task) task.index t h.result h.left) inst_tree h.sub) g,
   )
+
+-- the family's body stands, before its skeleton is looked at
+pub family_body : {parts : List Part} (task : PutTask) {row family : Row} {f left : ℕ}
+    → RowIs parts task.place row
+    → row.form ≡ form.Term term.Inst
+    → HasHead parts task
+    → Heads parts (moved task row.first) (heads.Gives f left)
+    → RowIs parts f family
+    → IsTerm parts family.first
+family_body {parts} task {row} {family} {f} {left} w e h g wf =
+    let b = (inst_redex task w e h g).2 in
+    let i = gives_within g in
+    lam_t_part wf (lam_t_form wf (sym (term_itself (at parts f) (i.0.term)) ∙ ap of_term b.family))
 
 -- what came for the variable: a family of a skeleton of families, by their rows
 pub record Family (parts : List Part) (task : PutTask) (all family : Row) : Type 0 where

@@ -8,5 +8,6 @@ pub mod Applied
 pub mod Instances
 pub mod Stepped
 pub mod Ran
-pub mod Under
+pub mod Binders
 pub mod Bound
+pub mod Standing

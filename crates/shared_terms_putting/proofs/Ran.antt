@@ -1,5 +1,5 @@
 -- A step that runs a term whose head stays, on rows.
-use Rattle.std.proofs.Common.{◌≡◌, ℕ, ◌<◌, ◌≤◌, true, ◌&&◌, nat_eq, List, length, refl, sym, ap, ◌∙◌, subst, arith, Option, None, Some, option_map}
+use Rattle.std.proofs.Common.{◌≡◌, ℕ, ◌<◌, ◌≤◌, Bool, true, false, ◌&&◌, nat_eq, List, length, refl, sym, ap, ◌∙◌, subst, arith, Option, None, Some, option_map}
 use Rattle.htt_syntax.specs.Trees.{TermTree, MonoTree, StepTree, s_run}
 use Rattle.theory_canonical.specs.Skeletons.{Skeleton}
 use Rattle.theory_renaming.specs.Renaming.{rename_mono}
@@ -21,13 +21,14 @@ use Rattle.theory_rows_heads.proofs.Heads.{never_both}
 use Rattle.theory_rows_heads.proofs.Steps.{run_stays}
 use Rattle.shared_terms_renaming.specs.Known.{RenamesBy}
 use Rattle.shared_terms_folding.specs.Folded.{IsTerm, Stands}
+use Rattle.shared_terms_folding.proofs.Rows.{within_one, within_two}
 use Rattle.shared_terms_filling.proofs.Fillings.{mono_itself}
 use Rattle.shared_terms_putting.specs.declared.work.Head.TheVariants as heads
 use Rattle.shared_terms_putting.specs.declared.work.PutTask.{PutTask}
-use Rattle.shared_terms_putting.specs.Ways.{is_run_form}
+use Rattle.shared_terms_putting.specs.Ways.{is_run_form, is_typed_form}
 use Rattle.shared_terms_putting.specs.Put.{Asks, Has, Puts, HasHead, Heads, head_stays, head_gives, RunsHead, moved, new_of, skeleton_of}
 use Rattle.shared_terms_putting.proofs.Kept.{asks_kept, sub_kept}
-use Rattle.shared_terms_putting.proofs.Nodes.{run_node, run_parts, run_open_node}
+use Rattle.shared_terms_putting.proofs.Nodes.{run_node, run_parts, run_open_node, run_open_part}
 use Rattle.shared_terms_putting.proofs.Puts.{sub_step}
 use Rattle.shared_terms_putting.proofs.Applied.{pair, pair_behind, pair_fits}
 use Rattle.shared_terms_putting.proofs.Stepped.{run_tree}
@@ -58,7 +59,31 @@ unfolding fits
 one_fits parts first g a e k =
     ap (λ z. fits_in parts z (pair g first 0)) e ∙ (λ j. (nat_eq (number (k j)) (number a.kind) && true) && true) ∙ alone (number a.kind)
 
+-- a run has its monotype or has none
+pub typed_form : (f : Form) → is_typed_form f ≡ true → f ≡ form.Step step.Run
+typed_form (form.Step step.Run) e = refl
+typed_form f e = absurd (grind arith)
+
+pub open_form : (f : Form) → is_run_form f ≡ true → is_typed_form f ≡ false → f ≡ form.Step step.RunOpen
+open_form (form.Step step.RunOpen) e h = refl
+open_form f e h = absurd (grind arith)
+
 module _ {parts : List Part} (task : PutTask) {row : Row} (w : RowIs parts task.place row) where
+  first_by : (b : Bool) → is_run_form row.form ≡ true → is_typed_form row.form ≡ b → (row.first < length parts) × (row.first < task.place)
+  unfolding slots step_slots
+  first_by true e h =
+      let f = typed_form row.form h in
+      ((run_parts w f).0.within, (within_two row (form.Step step.Run) _ _ task.place f refl w.below).0)
+  first_by false e h =
+      let f = open_form row.form e h in
+      ((run_open_part w f).within, within_one row (form.Step step.RunOpen) _ task.place f refl w.below)
+
+  pub run_first : is_run_form row.form ≡ true → (row.first < length parts) × (row.first < task.place)
+  run_first e = first_by (is_typed_form row.form) e refl
+
+  pub run_asks : is_run_form row.form ≡ true → Asks parts task → Asks parts (moved task row.first)
+  run_asks e a = record { new = a.new; skeleton = a.skeleton; within = (run_first e).0 }
+
   run_sub : (e : is_run_form row.form ≡ true) (h : Has parts task)
       → SubStep (new_of parts task) (skeleton_of parts task) task.index (s_run (as_term (at parts row.first)) ((run_tree w e).0))
       (as_step h.result)

@@ -1,5 +1,5 @@
 -- A step and the computation behind it, on rows: other steps than runs stay, and a run stays or is replaced.
-use Rattle.std.proofs.Common.{◌≡◌, ℕ, zero, suc, ◌+◌, ◌<◌, ◌≤◌, Bool, true, false, List, length, refl, sym, ap, ◌∙◌, subst, arith, Option, None, Some}
+use Rattle.std.proofs.Common.{◌≡◌, ℕ, zero, suc, ◌+◌, ◌<◌, ◌≤◌, Bool, true, false, not, List, length, refl, sym, ap, ◌∙◌, subst, arith, Option, None, Some}
 use Rattle.htt_syntax.specs.Trees.{TermTree, MonoTree, CompTree, StepTree, t_do, c_step, s_run}
 use Rattle.theory_canonical.specs.Skeletons.{Skeleton, sk_c}
 use Rattle.theory_substitution.specs.Closing.{up}
@@ -28,7 +28,7 @@ use Rattle.shared_terms_putting.specs.Ways.{is_run_form}
 use Rattle.shared_terms_putting.specs.Put.{IsComp, Asks, Has, Puts, HasHead, Heads, head_stays, head_gives, HasInSlot, PutsUnder, PutsSlot, HasBind, Binds}
 use Rattle.shared_terms_putting.specs.Put.{moved, new_of, skeleton_of, size}
 use Rattle.shared_terms_putting.proofs.Kept.{asks_kept, sub_kept}
-use Rattle.shared_terms_putting.proofs.Nodes.{step_node, step_kinds, run_node, run_open_node, do_node, do_part, do_form, comp_itself}
+use Rattle.shared_terms_putting.proofs.Nodes.{step_node, step_kinds, step_within, run_node, run_open_node, do_node, do_part, do_form, comp_itself}
 use Rattle.shared_terms_putting.proofs.Puts.{sub_comp, sub_step, comp_part, step_part}
 use Rattle.shared_terms_putting.proofs.Applied.{pair, pair_behind, pair_fits, gives_within, gives_size}
 use Rattle.theory_substitution.specs.Substitution.{u_step}
@@ -66,6 +66,14 @@ other_step (form.Formula f) a b c d e = refl
 other_step form.Triple a b c d e = refl
 other_step form.NoTerms a b c d e = refl
 other_step form.MoreTerms a b c d e = refl
+
+module _ {parts : List Part} (task : PutTask) {row : Row} (w : RowIs parts task.place row) (e : row.form ≡ form.Comp comp.Step) where
+  pub step_asks : Asks parts task → Asks parts (moved task row.first)
+  step_asks a = record { new = a.new; skeleton = a.skeleton; within = (step_within w e).0 }
+
+pub untrue : (b : Bool) {d : Bool} → b ≡ d → not b ≡ true → d ≡ false
+untrue true e h = absurd (grind arith)
+untrue false e h = sym e
 
 module _ {parts : List Part} (task : PutTask) {row first : Row} {s : Slots} (w : RowIs parts task.place row)
     (e : row.form ≡ form.Comp comp.Step) (v : RowIs parts row.first first) (q : s ≡ slots row.form) where
@@ -122,18 +130,18 @@ module _ {parts : List Part} (task : PutTask) {row first : Row} {s : Slots} (w :
   pub rest_has : Has parts task → HasInSlot parts task s.second row.second
   rest_has h = rest_by (is_run_form first.form) refl h
 
-  rest_under : {r : ℕ} → PutsSlot parts task s.second row.second r → PutsUnder parts task 1 row.second r
+  rest_under : (r : ℕ) → PutsSlot parts task s.second row.second r → PutsUnder parts task 1 row.second r
   unfolding slots comp_slots
-  rest_under {r} h = subst (λ (z : Slots). PutsSlot parts task z.second row.second r) (q ∙ ap slots e) h
+  rest_under r h = subst (λ (z : Slots). PutsSlot parts task z.second row.second r) (q ∙ ap slots e) h
 
-  pub rest_is_comp : {r : ℕ} → PutsSlot parts task s.second row.second r → IsComp parts r
-  rest_is_comp h = let u = rest_under h in record { within = u.within; comp = kind_stays u.sub ∙ (step_kinds w e).1 }
+  pub rest_is_comp : (r : ℕ) → PutsSlot parts task s.second row.second r → IsComp parts r
+  rest_is_comp r h = let u = rest_under r h in record { within = u.within; comp = kind_stays u.sub ∙ (step_kinds w e).1 }
 
-  rest_sub : {r : ℕ}
+  rest_sub : (r : ℕ)
       → PutsSlot parts task s.second row.second r
       → SubComp (up (new_of parts task)) (skeleton_of parts task) (suc task.index) (as_comp (at parts row.second)) (as_comp (at parts r))
   unfolding ups beyond
-  rest_sub {r} h = sub_comp (at parts row.second) (at parts r) ((step_kinds w e).1) ((rest_under h).sub)
+  rest_sub r h = sub_comp (at parts row.second) (at parts r) ((step_kinds w e).1) ((rest_under r h).sub)
 
   become : {more : List Part} {r : ℕ} {result : CompTree}
       → Extends parts more
@@ -149,7 +157,7 @@ module _ {parts : List Part} (task : PutTask) {row first : Row} {s : Slots} (w :
         (subst (λ p. SubPart (new_of parts task) (skeleton_of parts task) task.index p (of_comp result)) (sym (step_node w e)) (in_comp h));
   }
 
-  pub step_stands : {more : List Part} {f r p : ℕ}
+  pub step_stands : {more : List Part} {f p : ℕ} (r : ℕ)
       → Extends parts more
       → Asks parts task
       → Puts parts (moved task row.first) f
@@ -157,30 +165,30 @@ module _ {parts : List Part} (task : PutTask) {row first : Row} {s : Slots} (w :
       → Stands more p (fold_part (node parts (pair (form.Comp comp.Step) f r)))
       → Puts more task p
   unfolding build build_comp slots comp_slots
-  step_stands {more} {f} {r} {p} x a g h z =
-      become x a (u_step (sub_step (at parts row.first) (at parts f) ((step_kinds w e).0) g.sub) (rest_sub h)) z
+  step_stands {more} {f} {p} r x a g h z =
+      become x a (u_step (sub_step (at parts row.first) (at parts f) ((step_kinds w e).0) g.sub) (rest_sub r h)) z
 
-  pub step_behind : {f r : ℕ}
+  pub step_behind : {f : ℕ} (r : ℕ)
       → Puts parts (moved task row.first) f
       → PutsSlot parts task s.second row.second r
       → bound (pair (form.Comp comp.Step) f r) ≤ length parts
   unfolding slots comp_slots
-  step_behind g h = pair_behind (form.Comp comp.Step) _ _ refl g.within ((rest_is_comp h).within)
+  step_behind r g h = pair_behind (form.Comp comp.Step) _ _ refl g.within ((rest_is_comp r h).within)
 
-  pub step_fits : {f r : ℕ}
+  pub step_fits : {f : ℕ} (r : ℕ)
       → Puts parts (moved task row.first) f
       → PutsSlot parts task s.second row.second r
       → fits parts (pair (form.Comp comp.Step) f r) ≡ true
   unfolding slots comp_slots
-  step_fits {f} {r} g h =
-      pair_fits parts f r (form.Comp comp.Step) _ _ refl (kind_stays g.sub ∙ (step_kinds w e).0) ((rest_is_comp h).comp)
+  step_fits {f} r g h =
+      pair_fits parts f r (form.Comp comp.Step) _ _ refl (kind_stays g.sub ∙ (step_kinds w e).0) ((rest_is_comp r h).comp)
 
-  spliced : {f left r : ℕ}
+  spliced : {f left : ℕ} (r : ℕ)
       → (g : is_run_form first.form ≡ true) (h : Has parts task)
       → Heads parts (moved task first.first) (heads.Gives f left)
       → PutsSlot parts task s.second row.second r
       → Spliced (as_term (at parts f)) (as_skeleton (at parts left)) (as_comp (at parts r)) (as_comp h.result)
-  spliced g h (head_gives i l z k) p = run_is_spliced (run_whole g h) k (rest_sub p)
+  spliced r g h (head_gives i l z k) p = run_is_spliced (run_whole g h) k (rest_sub r p)
 
 -- what came to be run, by its row
 pub record Splice (parts : List Part) (task : PutTask) (run : Row) (rest : ℕ) : Type 0 where
@@ -192,7 +200,7 @@ pub record Splice (parts : List Part) (task : PutTask) (run : Row) (rest : ℕ) 
 do_body : {c d : CompTree} → t_do c ≡ t_do d → c ≡ d
 do_body e = cc
 
-pub splice : {parts : List Part} (task : PutTask) {row first run : Row} {s : Slots} {f left r : ℕ}
+pub splice : {parts : List Part} (task : PutTask) {row first run : Row} {s : Slots} {f left : ℕ} (r : ℕ)
     → RowIs parts task.place row
     → row.form ≡ form.Comp comp.Step
     → RowIs parts row.first first
@@ -204,8 +212,8 @@ pub splice : {parts : List Part} (task : PutTask) {row first run : Row} {s : Slo
     → RowIs parts f run
     → Splice parts task run r
 unfolding size
-splice {parts} task {row} {first} {run} {s} {f} {left} {r} w e v q g h k p wf =
-    let b = spliced task w e v q g h k p in
+splice {parts} task {row} {first} {run} {s} {f} {left} r w e v q g h k p wf =
+    let b = spliced task w e v q r g h k p in
     let i = gives_within k in
     let z = gives_size k in
     let y : size (as_skeleton (at parts left)) ≡ 1 = ap size b.skeleton in
@@ -218,7 +226,7 @@ splice {parts} task {row} {first} {run} {s} {f} {left} {r} w e v q g h k p wf =
       larger = omega (arith, y, z);
     }
 
-pub splice_puts : {parts : List Part} (task : PutTask) {row first run : Row} {s : Slots} {f left r p : ℕ}
+pub splice_puts : {parts : List Part} (task : PutTask) {row first run : Row} {s : Slots} {f left p : ℕ} (r : ℕ)
     → RowIs parts task.place row
     → row.form ≡ form.Comp comp.Step
     → RowIs parts row.first first
@@ -232,15 +240,15 @@ pub splice_puts : {parts : List Part} (task : PutTask) {row first run : Row} {s 
     → run.form ≡ form.Term term.Do
     → Binds parts run.first r p
     → Puts parts task p
-splice_puts {parts} task {row} {first} {run} {s} {f} {left} {r} {p} w e v q g a h (head_gives i l z k) u wf ff b =
-    let l = (spliced task w e v q g h (head_gives i l z k) u).skeleton in
+splice_puts {parts} task {row} {first} {run} {s} {f} {left} {p} r w e v q g a h (head_gives i l z k) u wf ff b =
+    let l = (spliced task w e v q r g h (head_gives i l z k) u).skeleton in
     let t = (run_tree v g).1 in
     let d : as_term (at parts f) ≡ t_do (as_comp (at parts run.first)) = ap as_term (do_node wf ff) in
     let k =
     run_gives
     (subst (λ (X : Type 0). X)
     (λ j. SubHead (new_of parts task) (skeleton_of parts task) task.index (as_term (at parts first.first)) (d j) (Some (l j))) k)
-    (rest_sub task w e v q u) b.bind
+    (rest_sub task w e v q r u) b.bind
     in
     record {
       asks = a;

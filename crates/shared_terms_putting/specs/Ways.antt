@@ -43,6 +43,11 @@ is_run_form (form.Step step.Run) = true
 is_run_form (form.Step step.RunOpen) = true
 is_run_form other = false
 
+-- a run whose monotype stands with it
+abbrev pub is_typed_form : Form → Bool
+is_typed_form (form.Step step.Run) = true
+is_typed_form other = false
+
 abbrev pub is_ret_form : Form → Bool
 is_ret_form (form.Comp comp.Ret) = true
 is_ret_form other = false

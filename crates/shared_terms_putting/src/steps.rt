@@ -8,10 +8,10 @@ ghost use Rattle.shared_terms_putting.specs.Ways.{is_run_form};
 ghost use Rattle.shared_terms_putting.specs.Put.{laid, KnownPut, Asks, Has, Puts, RunsHead, IsComp, HasBind, Binds};
 
 use crate::heads::pair_row;
-use crate::way::{is_ret, is_run};
+use crate::way::{is_ret, is_run, is_typed};
 use crate::work::{Head, PutTask, PutWork};
 use shared_terms_renaming::Renaming;
-use shared_terms_rows::{CompForm, Form, Row, SkeletonForm, StepForm, slots_of};
+use shared_terms_rows::{CompForm, Form, Row, SkeletonForm, slots_of};
 use std::alloc::AllocError;
 
 impl PutWork {
@@ -89,11 +89,11 @@ impl PutWork {
         ensures kept { Extends (laid self.old) (laid self.new) }
         ensures put { IfOk result (λ r. Puts (laid self.new) task r) }
     {
-        let mono = match row.form {
-            Form::Step(StepForm::Run) => self.rename(Renaming::Closing(task.index), row.second)?,
-            _ => 0,
-        };
-        self.fold(pair_row(row.form, term, mono))
+        if is_typed(row.form) {
+            let mono = self.rename(Renaming::Closing(task.index), row.second)?;
+            return self.fold(pair_row(row.form, term, mono));
+        }
+        self.fold(pair_row(row.form, term, 0))
     }
 
     /// A computation and then another, which stands under its result.

@@ -1,7 +1,7 @@
 //! How substitution goes over a row, by its form.
 
 ghost use Rattle.std.specs.Prelude.{◌≡◌};
-ghost use Rattle.shared_terms_putting.specs.Ways.{way, head_way, is_run_form, is_ret_form};
+ghost use Rattle.shared_terms_putting.specs.Ways.{way, head_way, is_run_form, is_typed_form, is_ret_form};
 
 use shared_terms_rows::{CompForm, Form, FormulaForm, StepForm, TermForm, TyForm};
 
@@ -76,6 +76,16 @@ pub(crate) fn is_run(form: Form) -> bool
 {
     match form {
         Form::Step(StepForm::Run) | Form::Step(StepForm::RunOpen) => true,
+        _ => false,
+    }
+}
+
+/// Whether a step of the form runs a term of a monotype that stands with it.
+pub(crate) fn is_typed(form: Form) -> bool
+    ensures typed { result ≡ is_typed_form form }
+{
+    match form {
+        Form::Step(StepForm::Run) => true,
         _ => false,
     }
 }

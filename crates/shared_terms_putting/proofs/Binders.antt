@@ -23,12 +23,17 @@ unfolding beyond
 plus zero x = omega arith
 plus (suc n) x = let e = plus n x in omega (arith, e)
 
-module _ {parts : List Part} {task : PutTask} {binders up place : ℕ} (a : Asks parts task) (r : Raises parts binders task.new up) where
+module _ {parts : List Part} {task : PutTask} {binders up : ℕ} (a : Asks parts task) (r : Raises parts binders task.new up) where
   up_tree : at parts up ≡ of_term (ups binders (new_of parts task))
   up_tree = r.tree ∙ ap (raised binders) (sym (term_itself (at parts task.new) a.new.term)) ∙ raised_term binders (new_of parts task)
 
-  pub under_asks : (index : ℕ) → place < length parts → Asks parts (record { new = up; skeleton = task.skeleton; index = index; place = place })
-  under_asks index l = record { new = record { within = r.within; term = ap kind_of up_tree }; skeleton = a.skeleton; within = l }
+  pub under_asks : (index place : ℕ)
+      → place < length parts
+      → Asks parts (record { new = up; skeleton = task.skeleton; index = index; place = place })
+  under_asks index place l =
+      record { new = record { within = r.within; term = ap kind_of up_tree }; skeleton = a.skeleton; within = l }
 
-  pub task_under : (index : ℕ) → task.index + binders ≡ index → IsUnder parts task binders (record { new = up; skeleton = task.skeleton; index = index; place = place })
-  task_under index e = record { new = ap as_term up_tree; index = sym e ∙ plus binders task.index }
+  pub task_under : (index place : ℕ)
+      → task.index + binders ≡ index
+      → IsUnder parts task binders (record { new = up; skeleton = task.skeleton; index = index; place = place })
+  task_under index place e = record { new = ap as_term up_tree; index = sym e ∙ plus binders task.index }
