@@ -1,5 +1,5 @@
 -- A step and the computation behind it, on rows: other steps than runs stay, and a run stays or is replaced.
-use Rattle.std.proofs.Common.{◌≡◌, ℕ, zero, suc, ◌+◌, ◌<◌, ◌≤◌, Bool, true, false, not, List, length, refl, sym, ap, ◌∙◌, subst, arith, Option, None, Some}
+use Rattle.std.proofs.Common.{◌≡◌, ℕ, zero, suc, ◌+◌, ◌<◌, ◌≤◌, Bool, true, false, List, length, refl, sym, ap, ◌∙◌, subst, arith, Option, None, Some}
 use Rattle.htt_syntax.specs.Trees.{TermTree, MonoTree, CompTree, StepTree, t_do, c_step, s_run}
 use Rattle.theory_canonical.specs.Skeletons.{Skeleton, sk_c}
 use Rattle.theory_substitution.specs.Closing.{up}
@@ -70,10 +70,6 @@ other_step form.MoreTerms a b c d e = refl
 module _ {parts : List Part} (task : PutTask) {row : Row} (w : RowIs parts task.place row) (e : row.form ≡ form.Comp comp.Step) where
   pub step_asks : Asks parts task → Asks parts (moved task row.first)
   step_asks a = record { new = a.new; skeleton = a.skeleton; within = (step_within w e).0 }
-
-pub untrue : (b : Bool) {d : Bool} → b ≡ d → not b ≡ true → d ≡ false
-untrue true e h = absurd (grind arith)
-untrue false e h = sym e
 
 module _ {parts : List Part} (task : PutTask) {row first : Row} {s : Slots} (w : RowIs parts task.place row)
     (e : row.form ≡ form.Comp comp.Step) (v : RowIs parts row.first first) (q : s ≡ slots row.form) where

@@ -22,7 +22,7 @@ use Rattle.shared_terms_putting.proofs.Ran.{run_first, run_asks, step_has_head, 
 use Rattle.shared_terms_putting.proofs.Stepped.{run_has_head, first_has_step, rest_has, rest_is_comp, step_fits, step_stands, splice, splice_puts}
 use Rattle.shared_terms_putting.proofs.Bound.{ret_form, comp_is_step, o_fits, o_stands, ret_asks, ret_size, ret_has, ret_binds}
 use Rattle.shared_terms_putting.proofs.Bound.{raised_is_comp, behind_is_comp, behind_has, bind_behind, bind_fits, step_binds}
-use Rattle.shared_terms_putting.proofs.Stepped.{step_asks, untrue}
+use Rattle.shared_terms_putting.proofs.Stepped.{step_asks}
 use Rattle.shared_terms_putting.proofs.Bound.{o_stands_later}
 use Rattle.shared_terms_putting.proofs.work.PutWork.+put.Goals as goal
 
@@ -418,7 +418,7 @@ put_run-unreachable-requires t c =
 
 pub put_step-row-step-requires : goal.put_step-row-step-requires
 put_step-row-step-requires t c =
-    (step_within c.requires.row c.requires.form).0
+    record { within = (step_within c.requires.row c.requires.form).0 }
 
 pub put_step-put_slot-requires : goal.put_step-put_slot-requires
 put_step-put_slot-requires t c =
@@ -440,7 +440,7 @@ put_step-put-requires t c =
     let a = c.requires.asks in
     let s = c.slots_of.ensures.slots in
     let v = c.row-step.ensures.row in
-    let n = untrue _ c.is_run.ensures.run c.if-not-is_run.true in
+    let n = sym c.is_run.ensures.run ∙ c.if-not-is_run.true in
     let q = step_asks c.args.task w f a in
     let x = c.put_slot.ensures.kept in
     let l = (step_below w f).0 in
