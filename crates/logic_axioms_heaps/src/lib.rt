@@ -14,3 +14,6 @@ pub use unions::{
     emp_one, emp_some, join_assoc, join_cancel, join_comm, join_cross, join_emp, join_empty,
     join_fun,
 };
+
+#[cfg(test)]
+mod tests;

@@ -28,3 +28,6 @@ pub use terms::{
     unit, unit_mono, variable, word, word_mono,
 };
 pub use words::{equal_words, is_truth, less, minus, plus, times};
+
+#[cfg(test)]
+mod tests;

@@ -14,3 +14,6 @@ pub use orders::{lt_gap, lt_irrefl, lt_pred, lt_step, lt_total, lt_trans, lt_zer
 pub use products::{mul_add, mul_assoc, mul_comm, mul_one, mul_zero};
 pub use sums::{add_assoc, add_comm, add_sub, add_zero, sub_add};
 pub use values::{bool_ne, bool_or, eq_no, eq_yes, pair_eta, unit_eta};
+
+#[cfg(test)]
+mod tests;

@@ -73,16 +73,9 @@ pub fn lt_step(alloc: Global, monos: &[Mono], args: &[Arg]) -> Result<Formula, A
 {
     no_mono(monos)?;
     let (x, y) = two_terms(args)?;
-    answer(implies(
-        alloc,
-        less(alloc, term(alloc, x), term(alloc, y), true),
-        less(
-            alloc,
-            term(alloc, x),
-            plus(alloc, term(alloc, x), word(1)),
-            true,
-        ),
-    ))
+    let premise = less(alloc, term(alloc, x), term(alloc, y), true);
+    let next = plus(alloc, term(alloc, x), word(1));
+    answer(implies(alloc, premise, less(alloc, term(alloc, x), next, true)))
 }
 
 /// `x < y =[bool] true => y < x + 1 =[bool] false`
