@@ -36,6 +36,7 @@ taken name monos args F it none = by_sorts (argument_sorts name monos) refl
   where
     fits : fits_shape (argument_sorts name monos) args ≡ true
     fits = sym (formula_shaped name monos args) ∙ ap is_some it.row
+
     by_sorts : (sorts : Option (List ArgSort)) → argument_sorts name monos ≡ sorts → ⊥
     by_sorts (Some sorts) e = none sorts (record { as_many = e; side_condition = it.side_condition })
     by_sorts None e = absurd (cc (fits, e))

@@ -16,12 +16,7 @@ use std::alloc::Global;
 /// The formula of the axiom at these monotypes and arguments. `BadInstance` exactly where the table has none, for
 /// want of a monotype or an argument, or with a heap for a term; `NoMemory` for want of memory. Side conditions
 /// aren't looked at.
-pub fn row(
-    alloc: Global,
-    axiom: Axiom,
-    monos: &[Mono],
-    args: &[Arg],
-) -> Result<Formula, AxiomStop>
+pub fn row(alloc: Global, axiom: Axiom, monos: &[Mono], args: &[Arg]) -> Result<Formula, AxiomStop>
     ensures row { IsRow (formula_of (axiom_name «axiom») (map mono_tree monos.now) (map arg_tree args.now)) result }
 {
     match axiom {

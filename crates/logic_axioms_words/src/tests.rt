@@ -58,8 +58,14 @@ fn the_greatest_word_is_below_no_next(rt: HostRuntime) -> Result<(), Fail> {
     let alloc = rt.alloc();
     let greatest = [Arg::Term(Term::Word(u64::MAX)), Arg::Term(Term::Word(3))];
     let small = [Arg::Term(Term::Word(2)), Arg::Term(Term::Word(3))];
-    assert_eq!(rt; steps(&lt_step(alloc, &[], &greatest)?), Some(((false, true), (false, true))));
-    assert_eq!(rt; steps(&lt_step(alloc, &[], &small)?), Some(((true, true), (true, true))));
+    assert_eq!(rt;
+        steps(&lt_step(alloc, &[], &greatest)?),
+        Some(((false, true), (false, true)))
+    );
+    assert_eq!(rt;
+        steps(&lt_step(alloc, &[], &small)?),
+        Some(((true, true), (true, true)))
+    );
     Ok(())
 }
 
