@@ -1,0 +1,4 @@
+pub mod Answers
+pub mod Hypotheses
+pub mod Forms
+pub mod Laws
