@@ -1,6 +1,6 @@
 //! Formulas.
 
-ghost use Rattle.std.specs.Prelude.{◌≡◌, ◌++◌, OnOk};
+ghost use Rattle.std.specs.Prelude.{◌≡◌, ◌++◌, ◌∷◌, OnOk};
 ghost use Rattle.htt_syntax.specs.Views.{formula_tree};
 ghost use Rattle.htt_syntax.specs.Levels.{term_trees};
 ghost use Rattle.theory_printing.specs.Names.{with_entry};

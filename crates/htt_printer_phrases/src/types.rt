@@ -1,19 +1,19 @@
 //! Types and triples.
 
-ghost use Rattle.std.specs.Prelude.{◌≡◌, ◌++◌, OnOk};
-ghost use Rattle.htt_syntax.specs.Views.{ty_tree};
+ghost use Rattle.std.specs.Prelude.{◌≡◌, ◌++◌, ◌∷◌, OnOk};
+ghost use Rattle.htt_syntax.specs.Views.{ty_tree, formula_tree};
 ghost use Rattle.htt_syntax.specs.Levels.{triple_tree};
-ghost use Rattle.theory_printing.specs.Names.{with_entry};
+ghost use Rattle.theory_printing.specs.Names.{with_entry, under_mem};
 ghost use Rattle.htt_resolve_scopes.specs.Views.{sort_of};
 ghost use Rattle.htt_printer_names.specs.Views.{print_scope};
-ghost use Rattle.htt_printer_phrases.specs.Bytes.{ty_bytes, triple_bytes};
+ghost use Rattle.htt_printer_phrases.specs.Bytes.{ty_bytes, triple_bytes, formula_bytes, post_bytes};
 
 use crate::after::{push_binder, push_mono_after};
 use crate::formulas::push_formula_after;
 use htt_printer_names::NameScope;
 use htt_printer_pieces::push_mono;
 use htt_resolve_scopes::Sort;
-use htt_syntax::{Triple, Ty};
+use htt_syntax::{Formula, Triple, Ty};
 use std::alloc::AllocError;
 
 /// Appends the type.
@@ -62,12 +62,28 @@ fn push_ty_under(out: &mut Vec<u8>, scope: &NameScope<'_>, sort: Sort, text: &[u
 pub fn push_triple(out: &mut Vec<u8>, scope: &NameScope<'_>, triple: &Triple) -> Result<(), AllocError>
     ensures printed { OnOk result (out.new.items ≡ out.old.items ++ triple_bytes (print_scope scope.now) (triple_tree triple.now)) }
 {
-    let before = scope.under_mem()?;
-    let inner = scope.under(Sort::Term)?;
-    let after = inner.under_heaps()?;
-    push_formula_after(out, &before, b"{", &triple.pre)?;
+    push_precondition(out, scope, &triple.pre)?;
     push_binder(out, scope, b"} ", Sort::Term)?;
     push_mono_after(out, scope, b" : ", &triple.result)?;
-    push_formula_after(out, &after, b" {", &triple.post)?;
+    push_postcondition(out, scope, &triple.post)
+}
+
+#[cycle(phrase)]
+fn push_precondition(out: &mut Vec<u8>, scope: &NameScope<'_>, formula: &Formula) -> Result<(), AllocError>
+    ensures { OnOk result (out.new.items ≡ out.old.items ++ (123 ∷ formula_bytes (under_mem (print_scope scope.now)) (formula_tree formula.now))) }
+{
+    let inner = scope.under_mem()?;
+    push_formula_after(out, &inner, b"{", formula)
+}
+
+#[cycle(phrase)]
+#[tactic(auto, using(std::proofs::lemmas::Grind::common_steps))]
+fn push_postcondition(out: &mut Vec<u8>, scope: &NameScope<'_>, formula: &Formula) -> Result<(), AllocError>
+    ensures { OnOk result (out.new.items ≡ out.old.items ++ post_bytes (print_scope scope.now) (formula_tree formula.now)) }
+{
+    let mut inner = scope.under(Sort::Term)?;
+    inner.enter(Sort::Init)?;
+    inner.enter(Sort::Mem)?;
+    push_formula_after(out, &inner, b" {", formula)?;
     out.extend_from_slice(b"}")
 }
