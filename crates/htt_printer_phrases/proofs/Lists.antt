@@ -1,5 +1,5 @@
 -- What is printed of lists, member by member from the first on.
-use Rattle.std.proofs.Common.{◌≡◌, ℕ, ◌+◌, ◌<◌, ◌≤◌, List, [], ◌∷◌, ◌++◌, length, get_or, drop, refl, ap, sym, ◌∙◌, arith, append_assoc}
+use Rattle.std.proofs.Common.{◌≡◌, ℕ, ◌+◌, ◌<◌, ◌≤◌, List, [], ◌∷◌, ◌++◌, length, get_or, drop, refl, ap, sym, ◌∙◌, arith, append_assoc, append-nil}
 use Rattle.std.proofs.lemmas.List.{drop_all, drop_more}
 use Rattle.std.proofs.lemmas.Grind.{common_steps}
 use Rattle.std.specs.Prelude.{codes}
@@ -21,6 +21,11 @@ drop_read : {X : Type 0} (xs : List X) (i : ℕ) (x : X) → i < length xs → x
 drop_read xs i x below is = drop_more xs i x below ∙ ap (λ y. y ∷ drop (i + 1) xs) (sym is)
 
 -- ---- parameters
+
+pub param_parts : (s : PrintScope) (A : TyTree)
+    → param_bytes s A ≡ codes " (" ++ (bytes_of (new_name a_term s) ++ (codes " : " ++ (ty_bytes s A ++ codes ")")))
+unfolding param_bytes
+param_parts s A = refl
 
 param_first : (s : PrintScope) (A : TyTree) (X : FixTree)
     → fix_bytes s (x_param A X) ≡ param_bytes s A ++ fix_bytes (with_entry a_term s) X
@@ -58,6 +63,11 @@ fix_named s at xs T E =
     ∙ ap (λ n. codes "fix " ++ (name_at a_term n ++ fix_bytes s (params_tree xs (x_body T E)))) (params_length xs s T E)
 
 -- ---- steps
+
+pub bound_step_parts : (s : PrintScope) (S : StepTree)
+    → bound_step_bytes s S ≡ bytes_of (new_name a_term s) ++ (codes " <- " ++ (step_bytes s S ++ codes "; "))
+unfolding bound_step_bytes
+bound_step_parts s S = refl
 
 step_first : (s : PrintScope) (S : StepTree) (E : CompTree)
     → comp_bytes s (c_step S E) ≡ bound_step_bytes s S ++ comp_bytes (with_entry a_term s) E
@@ -115,6 +125,8 @@ arguments_next s i xs x before text below is =
 
 pub arguments_end : (s : PrintScope) (i : ℕ) (xs : List Term) (before text : List ℕ)
     → length xs ≤ i
-    → before ++ terms_after text s (term_trees (drop i xs)) ≡ before ++ []
+    → before ++ terms_after text s (term_trees (drop i xs)) ≡ before
 arguments_end s i xs before text all =
-    ap (λ ys. before ++ terms_after text s (term_trees ys)) (drop_all i xs all) ∙ ap (λ ys. before ++ ys) (after_none text s)
+    ap (λ ys. before ++ terms_after text s (term_trees ys)) (drop_all i xs all)
+    ∙ ap (λ ys. before ++ ys) (after_none text s)
+    ∙ append-nil before

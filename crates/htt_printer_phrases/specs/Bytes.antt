@@ -4,7 +4,7 @@ use Rattle.htt_syntax.specs.Trees.{TyTree, TripleTree, TermTree, FixTree, CompTr
 use Rattle.htt_syntax.specs.Trees.{no_terms, more_terms}
 use Rattle.theory_text_names.specs.Scopes.{a_term}
 use Rattle.theory_printing.specs.Pieces.{bytes_of}
-use Rattle.theory_printing.specs.Names.{PrintScope, new_name, with_entry, under_heaps}
+use Rattle.theory_printing.specs.Names.{PrintScope, new_name}
 use Rattle.theory_printing.specs.Brackets.{Place, term_in, formula_in, an_operand}
 use Rattle.theory_printing.specs.Phrases.{ty, spec, term, fix, comp, step, formula, arguments, more_arguments}
 
@@ -49,17 +49,13 @@ further_argument_bytes s Ms = bytes_of (more_arguments s Ms)
 
 -- a parameter, in front of the others
 unfoldable pub param_bytes : PrintScope → TyTree → List ℕ
-param_bytes s A = codes " (" ++ bytes_of (new_name a_term s) ++ codes " : " ++ ty_bytes s A ++ codes ")"
+param_bytes s A = codes " (" ++ (bytes_of (new_name a_term s) ++ (codes " : " ++ (ty_bytes s A ++ codes ")")))
 
 -- a step, in front of the others
 unfoldable pub bound_step_bytes : PrintScope → StepTree → List ℕ
-bound_step_bytes s S = bytes_of (new_name a_term s) ++ codes " <- " ++ step_bytes s S ++ codes "; "
-
--- a postcondition, in braces
-unfoldable pub post_bytes : PrintScope → FormulaTree → List ℕ
-post_bytes s Q = codes " {" ++ formula_bytes (under_heaps (with_entry a_term s)) Q ++ codes "}"
+bound_step_bytes s S = bytes_of (new_name a_term s) ++ (codes " <- " ++ (step_bytes s S ++ codes "; "))
 
 -- terms, the first after a text and each further one after a comma
 unfoldable pub terms_after : List ℕ → PrintScope → TermTrees → List ℕ
 terms_after text s no_terms = []
-terms_after text s (more_terms M Ms) = text ++ term_bytes s M ++ further_argument_bytes s Ms
+terms_after text s (more_terms M Ms) = text ++ (term_bytes s M ++ further_argument_bytes s Ms)

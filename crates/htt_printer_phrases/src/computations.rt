@@ -8,7 +8,7 @@ ghost use Rattle.htt_printer_names.specs.Views.{print_scope};
 ghost use Rattle.htt_printer_phrases.specs.Bytes.{term_bytes, fix_bytes, param_bytes, comp_bytes, bound_step_bytes, step_bytes};
 
 use crate::after::{push_binder, push_mono_after};
-use crate::formulas::push_formula_after;
+use crate::formulas::push_formula_at_heaps;
 use crate::terms::{push_operand_after, push_placed_term, push_term_after};
 use crate::types::{push_triple, push_ty_after};
 use htt_printer_names::NameScope;
@@ -57,7 +57,7 @@ fn push_params(out: &mut Vec<u8>, scope: &mut NameScope<'_>, params: &[Ty]) -> R
 
 /// Appends the parameter.
 #[cycle(phrase)]
-#[tactic(auto, using(std::proofs::lemmas::Grind::common_steps))]
+#[tactic(auto, using(std::proofs::lemmas::Grind::common_steps, crate::proofs::Lists::param_parts))]
 fn push_param(out: &mut Vec<u8>, scope: &NameScope<'_>, param: &Ty) -> Result<(), AllocError>
     ensures { OnOk result (out.new.items ≡ out.old.items ++ param_bytes (print_scope scope.now) (ty_tree param.now)) }
 {
@@ -92,7 +92,7 @@ fn push_steps(out: &mut Vec<u8>, scope: &mut NameScope<'_>, steps: &[Step]) -> R
 
 /// Appends the step and the name of what it answers.
 #[cycle(phrase)]
-#[tactic(auto, using(std::proofs::lemmas::Grind::common_steps))]
+#[tactic(auto, using(std::proofs::lemmas::Grind::common_steps, crate::proofs::Lists::bound_step_parts))]
 fn push_bound_step(out: &mut Vec<u8>, scope: &NameScope<'_>, step: &Step) -> Result<(), AllocError>
     ensures { OnOk result (out.new.items ≡ out.old.items ++ bound_step_bytes (print_scope scope.now) (step_tree step.now)) }
 {
@@ -144,8 +144,7 @@ fn push_step(out: &mut Vec<u8>, scope: &NameScope<'_>, step: &Step) -> Result<()
             out.extend_from_slice(b" }")
         }
         Step::Claim(formula) => {
-            let inner = scope.under_heaps()?;
-            push_formula_after(out, &inner, b"claim {", formula)?;
+            push_formula_at_heaps(out, scope, b"claim {", formula)?;
             out.extend_from_slice(b"}")
         }
     }

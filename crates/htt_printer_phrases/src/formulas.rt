@@ -3,7 +3,7 @@
 ghost use Rattle.std.specs.Prelude.{◌≡◌, ◌++◌, ◌∷◌, OnOk};
 ghost use Rattle.htt_syntax.specs.Views.{formula_tree};
 ghost use Rattle.htt_syntax.specs.Levels.{term_trees};
-ghost use Rattle.theory_printing.specs.Names.{with_entry};
+ghost use Rattle.theory_printing.specs.Names.{with_entry, under_heaps};
 ghost use Rattle.htt_resolve_scopes.specs.Views.{sort_of};
 ghost use Rattle.htt_printer_names.specs.Views.{print_scope};
 ghost use Rattle.htt_printer_phrases.specs.Bytes.{formula_bytes, formula_operand_bytes, argument_bytes};
@@ -139,6 +139,15 @@ fn push_formula_under(out: &mut Vec<u8>, scope: &NameScope<'_>, sort: Sort, text
     ensures { OnOk result (out.new.items ≡ out.old.items ++ (text.now ++ formula_bytes (with_entry (sort_of sort) (print_scope scope.now)) (formula_tree formula.now))) }
 {
     let inner = scope.under(sort)?;
+    push_formula_after(out, &inner, text, formula)
+}
+
+/// Appends a text and the formula, which stands under the heaps `init` and `mem`.
+#[cycle(phrase)]
+pub fn push_formula_at_heaps(out: &mut Vec<u8>, scope: &NameScope<'_>, text: &[u8], formula: &Formula) -> Result<(), AllocError>
+    ensures { OnOk result (out.new.items ≡ out.old.items ++ (text.now ++ formula_bytes (under_heaps (print_scope scope.now)) (formula_tree formula.now))) }
+{
+    let inner = scope.under_heaps()?;
     push_formula_after(out, &inner, text, formula)
 }
 

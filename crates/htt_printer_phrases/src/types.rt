@@ -3,13 +3,14 @@
 ghost use Rattle.std.specs.Prelude.{◌≡◌, ◌++◌, ◌∷◌, OnOk};
 ghost use Rattle.htt_syntax.specs.Views.{ty_tree, formula_tree};
 ghost use Rattle.htt_syntax.specs.Levels.{triple_tree};
-ghost use Rattle.theory_printing.specs.Names.{with_entry, under_mem};
+ghost use Rattle.theory_text_names.specs.Scopes.{a_term};
+ghost use Rattle.theory_printing.specs.Names.{with_entry, under_mem, under_heaps};
 ghost use Rattle.htt_resolve_scopes.specs.Views.{sort_of};
 ghost use Rattle.htt_printer_names.specs.Views.{print_scope};
-ghost use Rattle.htt_printer_phrases.specs.Bytes.{ty_bytes, triple_bytes, formula_bytes, post_bytes};
+ghost use Rattle.htt_printer_phrases.specs.Bytes.{ty_bytes, triple_bytes, formula_bytes};
 
 use crate::after::{push_binder, push_mono_after};
-use crate::formulas::push_formula_after;
+use crate::formulas::{push_formula_after, push_formula_at_heaps};
 use htt_printer_names::NameScope;
 use htt_printer_pieces::push_mono;
 use htt_resolve_scopes::Sort;
@@ -65,7 +66,8 @@ pub fn push_triple(out: &mut Vec<u8>, scope: &NameScope<'_>, triple: &Triple) ->
     push_precondition(out, scope, &triple.pre)?;
     push_binder(out, scope, b"} ", Sort::Term)?;
     push_mono_after(out, scope, b" : ", &triple.result)?;
-    push_postcondition(out, scope, &triple.post)
+    push_postcondition(out, scope, &triple.post)?;
+    out.extend_from_slice(b"}")
 }
 
 #[cycle(phrase)]
@@ -77,13 +79,9 @@ fn push_precondition(out: &mut Vec<u8>, scope: &NameScope<'_>, formula: &Formula
 }
 
 #[cycle(phrase)]
-#[tactic(auto, using(std::proofs::lemmas::Grind::common_steps))]
 fn push_postcondition(out: &mut Vec<u8>, scope: &NameScope<'_>, formula: &Formula) -> Result<(), AllocError>
-    ensures { OnOk result (out.new.items ≡ out.old.items ++ post_bytes (print_scope scope.now) (formula_tree formula.now)) }
+    ensures { OnOk result (out.new.items ≡ out.old.items ++ (32 ∷ 123 ∷ formula_bytes (under_heaps (with_entry a_term (print_scope scope.now))) (formula_tree formula.now))) }
 {
-    let mut inner = scope.under(Sort::Term)?;
-    inner.enter(Sort::Init)?;
-    inner.enter(Sort::Mem)?;
-    push_formula_after(out, &inner, b" {", formula)?;
-    out.extend_from_slice(b"}")
+    let inner = scope.under(Sort::Term)?;
+    push_formula_at_heaps(out, &inner, b" {", formula)
 }
