@@ -16,7 +16,12 @@ use htt_syntax::Mono;
 use std::alloc::AllocError;
 
 /// Appends a text and the name of what a binder adds.
-pub fn push_binder(out: &mut Vec<u8>, scope: &NameScope<'_>, text: &[u8], sort: Sort) -> Result<(), AllocError>
+pub fn push_binder(
+    out: &mut Vec<u8>,
+    scope: &NameScope<'_>,
+    text: &[u8],
+    sort: Sort,
+) -> Result<(), AllocError>
     ensures printed { OnOk result (out.new.items ≡ out.old.items ++ (text.now ++ bytes_of (new_name (sort_of sort) (print_scope scope.now)))) }
 {
     out.extend_from_slice(text)?;
@@ -24,7 +29,12 @@ pub fn push_binder(out: &mut Vec<u8>, scope: &NameScope<'_>, text: &[u8], sort: 
 }
 
 /// Appends a text and a monotype.
-pub fn push_mono_after(out: &mut Vec<u8>, scope: &NameScope<'_>, text: &[u8], mono: &Mono) -> Result<(), AllocError>
+pub fn push_mono_after(
+    out: &mut Vec<u8>,
+    scope: &NameScope<'_>,
+    text: &[u8],
+    mono: &Mono,
+) -> Result<(), AllocError>
     ensures printed { OnOk result (out.new.items ≡ out.old.items ++ (text.now ++ mono_bytes (print_scope scope.now) (mono_tree mono.now))) }
 {
     out.extend_from_slice(text)?;
@@ -32,7 +42,12 @@ pub fn push_mono_after(out: &mut Vec<u8>, scope: &NameScope<'_>, text: &[u8], mo
 }
 
 /// Appends a text and what an index stands for.
-pub fn push_entry_after(out: &mut Vec<u8>, scope: &NameScope<'_>, text: &[u8], index: u32) -> Result<(), AllocError>
+pub fn push_entry_after(
+    out: &mut Vec<u8>,
+    scope: &NameScope<'_>,
+    text: &[u8],
+    index: u32,
+) -> Result<(), AllocError>
     ensures printed { OnOk result (out.new.items ≡ out.old.items ++ (text.now ++ bytes_of (entry (print_scope scope.now) index))) }
 {
     out.extend_from_slice(text)?;

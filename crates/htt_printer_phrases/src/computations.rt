@@ -44,7 +44,11 @@ fn push_fix_body(out: &mut Vec<u8>, scope: &mut NameScope<'_>, fix: &Fix) -> Res
 
 /// Appends parameters, each of which stands under those before it, and goes under them.
 #[cycle(phrase)]
-fn push_params(out: &mut Vec<u8>, scope: &mut NameScope<'_>, params: &[Ty]) -> Result<(), AllocError>
+fn push_params(
+    out: &mut Vec<u8>,
+    scope: &mut NameScope<'_>,
+    params: &[Ty],
+) -> Result<(), AllocError>
     ensures { OnOk result ((rest : FixTree) → out.old.items ++ fix_bytes (print_scope scope.old) (params_tree params.now rest)
         ≡ out.new.items ++ fix_bytes (print_scope scope.new) rest) }
 {
@@ -79,7 +83,11 @@ pub fn push_comp(out: &mut Vec<u8>, scope: &NameScope<'_>, comp: &Comp) -> Resul
 
 /// Appends steps, each of which stands under those before it, and goes under them.
 #[cycle(phrase)]
-fn push_steps(out: &mut Vec<u8>, scope: &mut NameScope<'_>, steps: &[Step]) -> Result<(), AllocError>
+fn push_steps(
+    out: &mut Vec<u8>,
+    scope: &mut NameScope<'_>,
+    steps: &[Step],
+) -> Result<(), AllocError>
     ensures { OnOk result ((end : TermTree) → out.old.items ++ comp_bytes (print_scope scope.old) (steps_tree steps.now end)
         ≡ out.new.items ++ comp_bytes (print_scope scope.new) (c_ret end)) }
 {
@@ -104,7 +112,12 @@ fn push_bound_step(out: &mut Vec<u8>, scope: &NameScope<'_>, step: &Step) -> Res
 
 /// Appends a text and the computation.
 #[cycle(phrase)]
-fn push_comp_after(out: &mut Vec<u8>, scope: &NameScope<'_>, text: &[u8], comp: &Comp) -> Result<(), AllocError>
+fn push_comp_after(
+    out: &mut Vec<u8>,
+    scope: &NameScope<'_>,
+    text: &[u8],
+    comp: &Comp,
+) -> Result<(), AllocError>
     ensures { OnOk result (out.new.items ≡ out.old.items ++ (text.now ++ comp_bytes (print_scope scope.now) (comp_tree comp.now))) }
 {
     out.extend_from_slice(text)?;

@@ -19,7 +19,11 @@ use std::alloc::AllocError;
 /// Appends the formula.
 #[cycle(phrase)]
 #[tactic(auto, using(std::proofs::lemmas::Grind::common_steps, htt_syntax::specs::Levels::formula_levels, crate::proofs::Rows::formula_rows))]
-pub fn push_formula(out: &mut Vec<u8>, scope: &NameScope<'_>, formula: &Formula) -> Result<(), AllocError>
+pub fn push_formula(
+    out: &mut Vec<u8>,
+    scope: &NameScope<'_>,
+    formula: &Formula,
+) -> Result<(), AllocError>
     ensures printed { OnOk result (out.new.items ≡ out.old.items ++ formula_bytes (print_scope scope.now) (formula_tree formula.now)) }
 {
     match formula {
@@ -104,7 +108,11 @@ pub fn push_formula(out: &mut Vec<u8>, scope: &NameScope<'_>, formula: &Formula)
 /// Appends the formula as an operand, in brackets where it needs them.
 #[cycle(phrase)]
 #[tactic(auto, using(std::proofs::lemmas::Grind::common_steps, crate::proofs::Rows::formula_places))]
-fn push_formula_operand(out: &mut Vec<u8>, scope: &NameScope<'_>, formula: &Formula) -> Result<(), AllocError>
+fn push_formula_operand(
+    out: &mut Vec<u8>,
+    scope: &NameScope<'_>,
+    formula: &Formula,
+) -> Result<(), AllocError>
     ensures { OnOk result (out.new.items ≡ out.old.items ++ formula_operand_bytes (print_scope scope.now) (formula_tree formula.now)) }
 {
     if needs_brackets(Place::Operand, formula_shape(formula)) {
@@ -117,7 +125,12 @@ fn push_formula_operand(out: &mut Vec<u8>, scope: &NameScope<'_>, formula: &Form
 }
 
 #[cycle(phrase)]
-fn push_formula_operand_after(out: &mut Vec<u8>, scope: &NameScope<'_>, text: &[u8], formula: &Formula) -> Result<(), AllocError>
+fn push_formula_operand_after(
+    out: &mut Vec<u8>,
+    scope: &NameScope<'_>,
+    text: &[u8],
+    formula: &Formula,
+) -> Result<(), AllocError>
     ensures { OnOk result (out.new.items ≡ out.old.items ++ (text.now ++ formula_operand_bytes (print_scope scope.now) (formula_tree formula.now))) }
 {
     out.extend_from_slice(text)?;
@@ -126,7 +139,12 @@ fn push_formula_operand_after(out: &mut Vec<u8>, scope: &NameScope<'_>, text: &[
 
 /// Appends a text and the formula.
 #[cycle(phrase)]
-pub fn push_formula_after(out: &mut Vec<u8>, scope: &NameScope<'_>, text: &[u8], formula: &Formula) -> Result<(), AllocError>
+pub fn push_formula_after(
+    out: &mut Vec<u8>,
+    scope: &NameScope<'_>,
+    text: &[u8],
+    formula: &Formula,
+) -> Result<(), AllocError>
     ensures printed { OnOk result (out.new.items ≡ out.old.items ++ (text.now ++ formula_bytes (print_scope scope.now) (formula_tree formula.now))) }
 {
     out.extend_from_slice(text)?;
@@ -135,7 +153,13 @@ pub fn push_formula_after(out: &mut Vec<u8>, scope: &NameScope<'_>, text: &[u8],
 
 /// Appends a text and the formula, which stands under a binder.
 #[cycle(phrase)]
-fn push_formula_under(out: &mut Vec<u8>, scope: &NameScope<'_>, sort: Sort, text: &[u8], formula: &Formula) -> Result<(), AllocError>
+fn push_formula_under(
+    out: &mut Vec<u8>,
+    scope: &NameScope<'_>,
+    sort: Sort,
+    text: &[u8],
+    formula: &Formula,
+) -> Result<(), AllocError>
     ensures { OnOk result (out.new.items ≡ out.old.items ++ (text.now ++ formula_bytes (with_entry (sort_of sort) (print_scope scope.now)) (formula_tree formula.now))) }
 {
     let inner = scope.under(sort)?;
@@ -144,7 +168,12 @@ fn push_formula_under(out: &mut Vec<u8>, scope: &NameScope<'_>, sort: Sort, text
 
 /// Appends a text and the formula, which stands under the heaps `init` and `mem`.
 #[cycle(phrase)]
-pub fn push_formula_at_heaps(out: &mut Vec<u8>, scope: &NameScope<'_>, text: &[u8], formula: &Formula) -> Result<(), AllocError>
+pub fn push_formula_at_heaps(
+    out: &mut Vec<u8>,
+    scope: &NameScope<'_>,
+    text: &[u8],
+    formula: &Formula,
+) -> Result<(), AllocError>
     ensures { OnOk result (out.new.items ≡ out.old.items ++ (text.now ++ formula_bytes (under_heaps (print_scope scope.now)) (formula_tree formula.now))) }
 {
     let inner = scope.under_heaps()?;
@@ -154,7 +183,11 @@ pub fn push_formula_at_heaps(out: &mut Vec<u8>, scope: &NameScope<'_>, text: &[u
 /// Appends the semicolon and the arguments of a recursive predicate: the first after a space, each further one after a
 /// comma.
 #[cycle(phrase)]
-fn push_arguments(out: &mut Vec<u8>, scope: &NameScope<'_>, terms: &[Term]) -> Result<(), AllocError>
+fn push_arguments(
+    out: &mut Vec<u8>,
+    scope: &NameScope<'_>,
+    terms: &[Term],
+) -> Result<(), AllocError>
     ensures { OnOk result (out.new.items ≡ out.old.items ++ (59 ∷ argument_bytes (print_scope scope.now) (term_trees terms.now))) }
 {
     out.extend_from_slice(b";")?;

@@ -8,6 +8,8 @@ mod after;
 mod computations;
 mod formulas;
 mod terms;
+#[cfg(test)]
+mod tests;
 mod types;
 
 pub use after::{push_binder, push_entry_after, push_mono_after};

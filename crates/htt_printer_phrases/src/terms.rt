@@ -92,7 +92,12 @@ pub fn push_term(out: &mut Vec<u8>, scope: &NameScope<'_>, term: &Term) -> Resul
 /// Appends the term as it is printed at a place, in brackets where it needs them there.
 #[cycle(phrase)]
 #[tactic(auto, using(std::proofs::lemmas::Grind::common_steps, crate::proofs::Rows::term_places))]
-pub fn push_placed_term(out: &mut Vec<u8>, scope: &NameScope<'_>, place: Place, term: &Term) -> Result<(), AllocError>
+pub fn push_placed_term(
+    out: &mut Vec<u8>,
+    scope: &NameScope<'_>,
+    place: Place,
+    term: &Term,
+) -> Result<(), AllocError>
     ensures printed { OnOk result (out.new.items ≡ out.old.items ++ placed_term_bytes (place_of place) (print_scope scope.now) (term_tree term.now)) }
 {
     if needs_brackets(place, term_shape(term)) {
@@ -106,7 +111,12 @@ pub fn push_placed_term(out: &mut Vec<u8>, scope: &NameScope<'_>, place: Place, 
 
 /// Appends a text and the term.
 #[cycle(phrase)]
-pub fn push_term_after(out: &mut Vec<u8>, scope: &NameScope<'_>, text: &[u8], term: &Term) -> Result<(), AllocError>
+pub fn push_term_after(
+    out: &mut Vec<u8>,
+    scope: &NameScope<'_>,
+    text: &[u8],
+    term: &Term,
+) -> Result<(), AllocError>
     ensures printed { OnOk result (out.new.items ≡ out.old.items ++ (text.now ++ term_bytes (print_scope scope.now) (term_tree term.now))) }
 {
     out.extend_from_slice(text)?;
@@ -115,7 +125,12 @@ pub fn push_term_after(out: &mut Vec<u8>, scope: &NameScope<'_>, text: &[u8], te
 
 /// Appends a text and the term as an operand.
 #[cycle(phrase)]
-pub fn push_operand_after(out: &mut Vec<u8>, scope: &NameScope<'_>, text: &[u8], term: &Term) -> Result<(), AllocError>
+pub fn push_operand_after(
+    out: &mut Vec<u8>,
+    scope: &NameScope<'_>,
+    text: &[u8],
+    term: &Term,
+) -> Result<(), AllocError>
     ensures printed { OnOk result (out.new.items ≡ out.old.items ++ (text.now ++ placed_term_bytes an_operand (print_scope scope.now) (term_tree term.now))) }
 {
     out.extend_from_slice(text)?;
@@ -124,7 +139,13 @@ pub fn push_operand_after(out: &mut Vec<u8>, scope: &NameScope<'_>, text: &[u8],
 
 /// Appends a text and the term, which stands under a binder.
 #[cycle(phrase)]
-fn push_term_under(out: &mut Vec<u8>, scope: &NameScope<'_>, sort: Sort, text: &[u8], term: &Term) -> Result<(), AllocError>
+fn push_term_under(
+    out: &mut Vec<u8>,
+    scope: &NameScope<'_>,
+    sort: Sort,
+    text: &[u8],
+    term: &Term,
+) -> Result<(), AllocError>
     ensures { OnOk result (out.new.items ≡ out.old.items ++ (text.now ++ term_bytes (with_entry (sort_of sort) (print_scope scope.now)) (term_tree term.now))) }
 {
     let inner = scope.under(sort)?;

@@ -41,7 +41,12 @@ pub fn push_ty(out: &mut Vec<u8>, scope: &NameScope<'_>, ty: &Ty) -> Result<(), 
 
 /// Appends a text and the type.
 #[cycle(phrase)]
-pub fn push_ty_after(out: &mut Vec<u8>, scope: &NameScope<'_>, text: &[u8], ty: &Ty) -> Result<(), AllocError>
+pub fn push_ty_after(
+    out: &mut Vec<u8>,
+    scope: &NameScope<'_>,
+    text: &[u8],
+    ty: &Ty,
+) -> Result<(), AllocError>
     ensures printed { OnOk result (out.new.items ≡ out.old.items ++ (text.now ++ ty_bytes (print_scope scope.now) (ty_tree ty.now))) }
 {
     out.extend_from_slice(text)?;
@@ -50,7 +55,13 @@ pub fn push_ty_after(out: &mut Vec<u8>, scope: &NameScope<'_>, text: &[u8], ty: 
 
 /// Appends a text and the type, which stands under a binder.
 #[cycle(phrase)]
-fn push_ty_under(out: &mut Vec<u8>, scope: &NameScope<'_>, sort: Sort, text: &[u8], ty: &Ty) -> Result<(), AllocError>
+fn push_ty_under(
+    out: &mut Vec<u8>,
+    scope: &NameScope<'_>,
+    sort: Sort,
+    text: &[u8],
+    ty: &Ty,
+) -> Result<(), AllocError>
     ensures { OnOk result (out.new.items ≡ out.old.items ++ (text.now ++ ty_bytes (with_entry (sort_of sort) (print_scope scope.now)) (ty_tree ty.now))) }
 {
     let inner = scope.under(sort)?;
@@ -60,7 +71,11 @@ fn push_ty_under(out: &mut Vec<u8>, scope: &NameScope<'_>, sort: Sort, text: &[u
 /// Appends the triple: the precondition, the result and the postcondition.
 #[cycle(phrase)]
 #[tactic(auto, using(std::proofs::lemmas::Grind::common_steps, crate::proofs::Rows::triple_rows), unfolding(htt_syntax::specs::Levels::triple_tree))]
-pub fn push_triple(out: &mut Vec<u8>, scope: &NameScope<'_>, triple: &Triple) -> Result<(), AllocError>
+pub fn push_triple(
+    out: &mut Vec<u8>,
+    scope: &NameScope<'_>,
+    triple: &Triple,
+) -> Result<(), AllocError>
     ensures printed { OnOk result (out.new.items ≡ out.old.items ++ triple_bytes (print_scope scope.now) (triple_tree triple.now)) }
 {
     push_precondition(out, scope, &triple.pre)?;
@@ -71,7 +86,11 @@ pub fn push_triple(out: &mut Vec<u8>, scope: &NameScope<'_>, triple: &Triple) ->
 }
 
 #[cycle(phrase)]
-fn push_precondition(out: &mut Vec<u8>, scope: &NameScope<'_>, formula: &Formula) -> Result<(), AllocError>
+fn push_precondition(
+    out: &mut Vec<u8>,
+    scope: &NameScope<'_>,
+    formula: &Formula,
+) -> Result<(), AllocError>
     ensures { OnOk result (out.new.items ≡ out.old.items ++ (123 ∷ formula_bytes (under_mem (print_scope scope.now)) (formula_tree formula.now))) }
 {
     let inner = scope.under_mem()?;
@@ -79,7 +98,11 @@ fn push_precondition(out: &mut Vec<u8>, scope: &NameScope<'_>, formula: &Formula
 }
 
 #[cycle(phrase)]
-fn push_postcondition(out: &mut Vec<u8>, scope: &NameScope<'_>, formula: &Formula) -> Result<(), AllocError>
+fn push_postcondition(
+    out: &mut Vec<u8>,
+    scope: &NameScope<'_>,
+    formula: &Formula,
+) -> Result<(), AllocError>
     ensures { OnOk result (out.new.items ≡ out.old.items ++ (32 ∷ 123 ∷ formula_bytes (under_heaps (with_entry a_term (print_scope scope.now))) (formula_tree formula.now))) }
 {
     let inner = scope.under(Sort::Term)?;

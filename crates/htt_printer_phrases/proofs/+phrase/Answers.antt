@@ -11,9 +11,9 @@ use Rattle.htt_printer_phrases.proofs.+phrase.Goals as goal
 pub types::push_postcondition-returns : goal.types::push_postcondition-returns
 types::push_postcondition-returns n c =
     subst (λ (s : PrintScope).
-        OnOk c.push_formula_at_heaps.result
-        (c.push_formula_at_heaps.new.out.items
-        ≡ c.args.out.now.items ++ (codes " {" ++ formula_bytes (under_heaps s) (formula_tree c.args.formula.now))))
+    OnOk c.push_formula_at_heaps.result
+    (c.push_formula_at_heaps.new.out.items
+    ≡ c.args.out.now.items ++ (codes " {" ++ formula_bytes (under_heaps s) (formula_tree c.args.formula.now))))
     c.in_ok-inner.ensures.under c.push_formula_at_heaps.ensures
 
 pub computations::push_params-loop-param-preserved : goal.computations::push_params-loop-param-preserved
