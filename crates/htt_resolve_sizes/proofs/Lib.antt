@@ -1,9 +1,6 @@
-pub mod Forms
-pub mod Sides
-pub mod Comes
-pub mod Answered
+pub mod Named
 pub mod Rows
-pub mod Firsts
 pub mod Operators
 pub mod Running
 pub mod Puts
+pub mod Uses

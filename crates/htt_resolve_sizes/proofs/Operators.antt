@@ -23,11 +23,11 @@ use Rattle.theory_text_names.specs.Stops.{Stop, ◌>>=◌}
 use Rattle.theory_text_names.specs.Scopes.{Scope}
 use Rattle.htt_resolve_names.specs.declared.stop.NameStop.{NameStop}
 use Rattle.htt_resolve_names.specs.Views.{event_of}
-use Rattle.htt_resolve_sizes.specs.Parts.{IsSize}
-use Rattle.htt_resolve_sizes.specs.Sizes.{size_of_sum, size_of_sum_rest, size_of_prod, size_of_prod_rest, size_of_appl}
-use Rattle.htt_resolve_sizes.specs.Sizes.{size_of_parts, size_of_term}
+use Rattle.htt_resolve_counts.specs.Parts.{IsSize}
+use Rattle.htt_resolve_counts.specs.Sizes.{size_of_sum, size_of_sum_rest, size_of_prod, size_of_prod_rest, size_of_appl}
+use Rattle.htt_resolve_counts.specs.Sizes.{size_of_parts, size_of_term}
 use Rattle.htt_resolve_sizes.specs.Operands.{size_of_summand, size_of_factor, size_of_part}
-use Rattle.htt_resolve_sizes.proofs.Forms.{stopped}
+use Rattle.htt_resolve_counts.proofs.Forms.{stopped}
 
 pub drop_read : {X : Type 0} (xs : List X) (i : ℕ) (x : X) → i < length xs → x ≡ get_or xs i x → drop i xs ≡ x ∷ drop (i + 1) xs
 drop_read xs i x below is = drop_more xs i x below ∙ ap (λ y. y ∷ drop (i + 1) xs) (sym is)
@@ -35,7 +35,7 @@ drop_read xs i x below is = drop_more xs i x below ∙ ap (λ y. y ∷ drop (i +
 -- ---- one behind the other
 
 -- the first part is there
-gone : {A B : Type 0} (L : Result A Stop) (a : A) (next : A → Result B Stop) → L ≡ Ok a → L >>= next ≡ next a
+pub gone : {A B : Type 0} (L : Result A Stop) (a : A) (next : A → Result B Stop) → L ≡ Ok a → L >>= next ≡ next a
 unfolding ◌>>=◌
 gone L a next is = ap (λ l. l >>= next) is
 

@@ -1,8 +1,8 @@
 -- What is put for the monotypes and the arguments of a use, member by member from the first on.
-use Rattle.std.proofs.Common.{◌≡◌, ℕ, ◌+◌, ◌<◌, ◌≤◌, List, [], ◌∷◌, ◌++◌, length, map, drop, get_or, refl, sym, ap, ◌∙◌, arith, subst}
-use Rattle.std.proofs.lemmas.List.{drop_all, reverse-append}
+use Rattle.std.proofs.Common.{◌≡◌, ℕ, zero, suc, ◌+◌, ◌<◌, ◌≤◌, List, [], ◌∷◌, ◌++◌, length, map, drop, get_or, refl, sym, ap, ◌∙◌, arith, subst}
+use Rattle.std.proofs.lemmas.List.{drop_all, reverse-append, map-append, append_assoc, append-nil}
 use Rattle.std.specs.Prelude.{reverse, Option, Some, None, Result, Ok, Err}
-use Rattle.htt_syntax.specs.Trees.{MonoTree, TermTree, TermTrees, t_ann, y_mono, no_terms, more_terms}
+use Rattle.htt_syntax.specs.Trees.{MonoTree, TermTree, TermTrees, no_terms, more_terms}
 use Rattle.htt_syntax.specs.Views.{mono_tree}
 use Rattle.htt_syntax.specs.declared.mono.Mono.{Mono}
 use Rattle.htt_parser_trees.specs.Trees as raw
@@ -15,7 +15,7 @@ use Rattle.htt_syntax_measure.specs.declared.size.Size.{Size}
 use Rattle.htt_syntax_measure.specs.Measures.{mono_measure, term_measure}
 use Rattle.theory_text_names.specs.Stops.{Stop, ◌>>=◌}
 use Rattle.theory_text_names.specs.Scopes.{Scope}
-use Rattle.theory_text_sugar.specs.Putting.{Put, put_mono, put_term, put_into_mono, with_monos, with_arguments}
+use Rattle.theory_text_sugar.specs.Putting.{Put, put_mono, with_monos, with_arguments}
 use Rattle.theory_text.specs.Monotypes.{mono_comes, monos_come}
 use Rattle.theory_text.specs.Phrases.{list_of, term_comes, terms_come}
 use Rattle.htt_resolve_names.specs.declared.stop.NameStop.{NameStop}
@@ -25,8 +25,11 @@ use Rattle.htt_resolve_monos.specs.Sized.{sized}
 use Rattle.htt_resolve_sugar.specs.declared.measure.PutSize.{PutSize}
 use Rattle.htt_resolve_sugar.specs.declared.measure.PutSize.TheVariants as sizes
 use Rattle.htt_resolve_sugar.specs.Views.{Measures, put_size, with_argument}
-use Rattle.htt_resolve_sizes.specs.Uses.{ArePutMonos, ArePutArguments}
-use Rattle.htt_resolve_sizes.proofs.Forms.{stopped, second_stopped}
+use Rattle.htt_resolve_counts.specs.Parts.{IsSize}
+use Rattle.htt_resolve_counts.specs.Sizes.{size_of_term}
+use Rattle.htt_resolve_counts.proofs.Comes.{term_sized}
+use Rattle.htt_resolve_sizes.specs.Uses.{ArePutMonos, AreSizes}
+use Rattle.htt_resolve_counts.proofs.Forms.{stopped, second_stopped, memory_event}
 use Rattle.htt_resolve_sizes.proofs.Operators.{drop_read}
 
 -- ---- what a phrase comes to, when it has a size
@@ -72,7 +75,7 @@ others_stop : (s : Scope) (m : raw.RawMonoTree) (ms : List raw.RawMonoTree) (t :
 unfolding monos_come
 others_stop s m ms t stop h k = second_stopped stop t (mono_comes s m) (monos_come s ms) _ h k
 
-one_more : (puts more : List PutSize) (put : List Put) (x : Put) → Measures puts put → more ≡ puts ++ put_size x ∷ []
+pub one_more : (puts more : List PutSize) (put : List Put) (x : Put) → Measures puts put → more ≡ puts ++ put_size x ∷ []
     → Measures more (x ∷ put)
 unfolding Measures
 one_more puts more put x h is =
@@ -140,18 +143,17 @@ module _ (s : Scope) where
       so.ends [] (ap (λ ys. monos_come s (map raw_mono_tree ys)) (drop_all i xs past)) in
       (done.0, done.1, subst (Measures puts) (sym done.2) so.measured)
 
-pub ruleset monos = (monos_start, monos_next, monos_stop, monos_end)
+pub ruleset monos = (monos_start, monos_next, monos_stop, monos_end, memory_event)
 
--- ---- arguments
+-- ---- terms
 
--- the sizes of the arguments so far are put behind those before, and the rest goes behind them
-pub record ArgumentsSoFar (s : Scope) (before : List Put) (params left : List MonoTree) (all rest : raw.RawTermTrees)
-    (puts : List PutSize) : Type 0 where
-  pub put : List Put
-  pub measured : Measures puts put
+-- these are the sizes of the terms so far, and the rest goes behind them
+pub record SizedSoFar (s : Scope) (all rest : raw.RawTermTrees) (sizes : List Size) : Type 0 where
+  pub done : List TermTree
+  pub measured : map term_measure done ≡ sizes
   pub ends : (Ns : TermTrees) → terms_come s rest ≡ Ok Ns
-      → (Ms : TermTrees) × (terms_come s all ≡ Ok Ms)
-      × (with_arguments before params (list_of Ms) ≡ with_arguments put left (list_of Ns))
+      → (Ms : TermTrees) × (terms_come s all ≡ Ok Ms) × (list_of Ms ≡ done ++ list_of Ns)
+  pub stops : (stop : Option Stop) → IsStop stop (terms_come s rest) → IsStop stop (terms_come s all)
 
 terms_both : (s : Scope) (m : raw.RawTermTree) (ms : raw.RawTermTrees) (M : TermTree) (Ms : TermTrees)
     → term_comes s m ≡ Ok M
@@ -175,93 +177,127 @@ other_terms_stop : (s : Scope) (m : raw.RawTermTree) (ms : raw.RawTermTrees) (M 
 unfolding term_comes
 other_terms_stop s m ms M stop h k = second_stopped stop M (term_comes s m) (terms_come s ms) _ h k
 
--- the whole is stopped where what is left is
-pub record StopsWith (s : Scope) (all rest : raw.RawTermTrees) : Type 0 where
-  pub stops : (stop : Option Stop) → IsStop stop (terms_come s rest) → IsStop stop (terms_come s all)
-
 terms_read : (xs : List RawTerm) (i : ℕ) (x : RawTerm) → i < length xs → x ≡ get_or xs i x
     → raw_term_trees (drop i xs) ≡ raw.more_terms (raw_term_tree x) (raw_term_trees (drop (i + 1) xs))
 terms_read xs i x below is = ap raw_term_trees (drop_read xs i x below is)
 
-params_read : (xs : List Mono) (i : ℕ) (x : Mono) → i < length xs → x ≡ get_or xs i x
-    → map mono_tree (drop i xs) ≡ mono_tree x ∷ map mono_tree (drop (i + 1) xs)
-params_read xs i x below is = ap (map mono_tree) (drop_read xs i x below is)
-
 module _ (s : Scope) where
-  pub arguments_start : (before : List Put) (ps : List Mono) (xs : List RawTerm) (puts : List PutSize) → Measures puts before
-      → ArgumentsSoFar s before (map mono_tree ps) (map mono_tree (drop 0 ps)) (raw_term_trees xs) (raw_term_trees (drop 0 xs)) puts
-  arguments_start before ps xs puts h = record { put = before; measured = h; ends = λ Ns k. (Ns, k, refl); }
+  pub terms_start : (xs : List RawTerm) (sizes : List Size) → sizes ≡ []
+      → SizedSoFar s (raw_term_trees xs) (raw_term_trees (drop 0 xs)) sizes
+  terms_start xs sizes is = record {
+    done = [];
+    measured = sym is;
+    ends = λ Ns h. (Ns, h, refl);
+    stops = λ stop h. h;
+  }
 
-  pub stops_start : (xs : List RawTerm) → StopsWith s (raw_term_trees xs) (raw_term_trees (drop 0 xs))
-  stops_start xs = record { stops = λ stop h. h; }
-
-  pub stops_next : (xs : List RawTerm) (i : ℕ) (x : RawTerm) (all : raw.RawTermTrees) (z : Size)
-      → StopsWith s all (raw_term_trees (drop i xs))
+  pub terms_next : (xs : List RawTerm) (i : ℕ) (x : RawTerm) (all : raw.RawTermTrees) (sizes more : List Size) (z : Size)
+      → SizedSoFar s all (raw_term_trees (drop i xs)) sizes
       → i < length xs
       → x ≡ get_or xs i x
-      → sized term_measure (term_comes s (raw_term_tree x)) ≡ Ok z
-      → StopsWith s all (raw_term_trees (drop (i + 1) xs))
-  stops_next xs i x all z so below is came =
+      → IsSize (Ok z) (size_of_term s (raw_term_tree x))
+      → more ≡ sizes ++ z ∷ []
+      → SizedSoFar s all (raw_term_trees (drop (i + 1) xs)) more
+  unfolding list_of
+  terms_next xs i x all sizes more z so below is came grown =
       let found : (M : TermTree) × (term_comes s (raw_term_tree x) ≡ Ok M) × (z ≡ term_measure M) =
-      there term_measure (term_comes s (raw_term_tree x)) z came in
+      there term_measure (term_comes s (raw_term_tree x)) z (term_sized s (raw_term_tree x) ∙ came) in
       record {
+        done = so.done ++ found.0 ∷ [];
+        measured = map-append term_measure so.done (found.0 ∷ [])
+            ∙ (λ j. so.measured j ++ sym found.2 j ∷ []) ∙ sym grown;
+        ends = λ Ns h.
+            let all_done : (Ms : TermTrees) × (terms_come s all ≡ Ok Ms) × (list_of Ms ≡ so.done ++ found.0 ∷ list_of Ns) =
+            so.ends (more_terms found.0 Ns) (ap (terms_come s) (terms_read xs i x below is)
+            ∙ terms_both s (raw_term_tree x) (raw_term_trees (drop (i + 1) xs)) found.0 Ns found.1 h) in
+            (all_done.0, all_done.1, all_done.2 ∙ sym (append_assoc so.done (found.0 ∷ []) (list_of Ns)));
         stops = λ stop h.
             so.stops stop (subst (λ ms. IsStop stop (terms_come s ms)) (sym (terms_read xs i x below is))
             (other_terms_stop s (raw_term_tree x) (raw_term_trees (drop (i + 1) xs)) found.0 stop found.1 h));
       }
 
-  pub arguments_stop : (xs : List RawTerm) (i : ℕ) (x : RawTerm) (all : raw.RawTermTrees) (stop : NameStop)
-      → StopsWith s all (raw_term_trees (drop i xs))
+  pub terms_stop : (xs : List RawTerm) (i : ℕ) (x : RawTerm) (all : raw.RawTermTrees) (sizes : List Size) (stop : NameStop)
+      → SizedSoFar s all (raw_term_trees (drop i xs)) sizes
       → i < length xs
       → x ≡ get_or xs i x
-      → IsStop (event_of stop) (sized term_measure (term_comes s (raw_term_tree x)))
+      → IsSize (Err stop) (size_of_term s (raw_term_tree x))
       → IsStop (event_of stop) (terms_come s all)
-  arguments_stop xs i x all stop so below is h =
+  terms_stop xs i x all sizes stop so below is h =
       so.stops (event_of stop) (subst (λ ms. IsStop (event_of stop) (terms_come s ms)) (sym (terms_read xs i x below is))
       (first_term_stops s (raw_term_tree x) (raw_term_trees (drop (i + 1) xs)) (event_of stop)
-      (unsized term_measure (term_comes s (raw_term_tree x)) (event_of stop) h)))
+      (unsized term_measure (term_comes s (raw_term_tree x)) (event_of stop)
+      (subst (IsStop (event_of stop)) (sym (term_sized s (raw_term_tree x))) h))))
 
-  pub arguments_next : (before : List Put) (params : List MonoTree) (ps : List Mono) (p : Mono) (xs : List RawTerm) (i : ℕ)
-      (x : RawTerm) (all : raw.RawTermTrees) (puts more : List PutSize) (z : Size)
-      → ArgumentsSoFar s before params (map mono_tree (drop i ps)) all (raw_term_trees (drop i xs)) puts
-      → i < length ps
-      → p ≡ get_or ps i p
-      → i < length xs
-      → x ≡ get_or xs i x
-      → sized term_measure (term_comes s (raw_term_tree x)) ≡ Ok z
+  pub terms_end : (xs : List RawTerm) (i : ℕ) (all : raw.RawTermTrees) (sizes : List Size)
+      → SizedSoFar s all (raw_term_trees (drop i xs)) sizes
+      → length xs ≤ i
+      → AreSizes s all sizes
+  unfolding term_comes list_of
+  terms_end xs i all sizes so past =
+      let all_done : (Ms : TermTrees) × (terms_come s all ≡ Ok Ms) × (list_of Ms ≡ so.done ++ []) =
+      so.ends no_terms (ap (λ ys. terms_come s (raw_term_trees ys)) (drop_all i xs past)) in
+      (all_done.0, all_done.1, ap (map term_measure) (all_done.2 ∙ append-nil so.done) ∙ so.measured)
+
+pub ruleset terms = (terms_start, terms_next, terms_stop, terms_end, memory_event)
+
+-- ---- arguments
+
+-- the arguments from the first on are put behind what was put before, and those that are left go behind them
+abbrev pub PutsSoFar : List Mono → List Size → List PutSize → ℕ → List PutSize → Type 0
+PutsSoFar params sizes old i puts =
+    (before : List Put) (Ms : List TermTree)
+    → Measures old before
+    → map term_measure Ms ≡ sizes
+    → (put : List Put)
+    × Measures puts put
+    × (with_arguments before (map mono_tree params) Ms ≡ with_arguments put (map mono_tree (drop i params)) (drop i Ms))
+
+module _ (params : List Mono) (sizes : List Size) (old : List PutSize) where
+  pub arguments_start : (puts : List PutSize) → puts ≡ old → PutsSoFar params sizes old 0 puts
+  arguments_start puts is = λ before Ms h k. (before, subst (λ ps. Measures ps before) (sym is) h, refl)
+
+  pub arguments_next : (puts more : List PutSize) (i : ℕ) (p : Mono) (z : Size)
+      → PutsSoFar params sizes old i puts
+      → i < length params
+      → i < length sizes
+      → p ≡ get_or params i p
+      → z ≡ get_or sizes i z
       → ((put : List Put) (M : TermTree) → Measures puts put → z ≡ term_measure M
       → Measures more (with_argument put (mono_tree p) M))
-      → ArgumentsSoFar s before params (map mono_tree (drop (i + 1) ps)) all (raw_term_trees (drop (i + 1) xs)) more
-  unfolding with_arguments list_of
-  arguments_next before params ps p xs i x all puts more z so param_below param_is below is came grown =
-      let found : (M : TermTree) × (term_comes s (raw_term_tree x) ≡ Ok M) × (z ≡ term_measure M) =
-      there term_measure (term_comes s (raw_term_tree x)) z came in
-      record {
-        put = with_argument so.put (mono_tree p) found.0;
-        measured = grown so.put found.0 so.measured found.2;
-        ends = λ Ns h.
-            let done : (Ms : TermTrees) × (terms_come s all ≡ Ok Ms) × (with_arguments before params (list_of Ms)
-            ≡ with_arguments so.put (map mono_tree (drop i ps)) (list_of (more_terms found.0 Ns))) =
-            so.ends (more_terms found.0 Ns) (ap (terms_come s) (terms_read xs i x below is)
-            ∙ terms_both s (raw_term_tree x) (raw_term_trees (drop (i + 1) xs)) found.0 Ns found.1 h) in
-            (done.0, done.1, done.2
-            ∙ ap (λ l. with_arguments so.put l (list_of (more_terms found.0 Ns))) (params_read ps i p param_below param_is));
-      }
-
-  pub arguments_end : (before : List Put) (params left : List MonoTree) (xs : List RawTerm) (i : ℕ) (all : raw.RawTermTrees)
-      (puts : List PutSize)
-      → ArgumentsSoFar s before params left all (raw_term_trees (drop i xs)) puts
-      → length xs ≤ i
-      → ArePutArguments s before params all puts
-  unfolding term_comes with_arguments list_of
-  arguments_end before params left xs i all puts so past =
-      let done : (Ms : TermTrees) × (terms_come s all ≡ Ok Ms)
-      × (with_arguments before params (list_of Ms) ≡ with_arguments so.put left (list_of no_terms)) =
-      so.ends no_terms (ap (λ ys. terms_come s (raw_term_trees ys)) (drop_all i xs past)) in
-      (done.0, done.1, subst (Measures puts) (sym (done.2 ∙ nothing_left so.put left)) so.measured)
+      → PutsSoFar params sizes old (i + 1) more
+  unfolding with_arguments
+  arguments_next puts more i p z so param_below size_below param_is size_is grown before Ms h k =
+      let here : (put : List Put) × Measures puts put
+      × (with_arguments before (map mono_tree params) Ms ≡ with_arguments put (map mono_tree (drop i params)) (drop i Ms)) =
+      so before Ms h k in
+      let found : (M : TermTree) × (drop i Ms ≡ M ∷ drop (i + 1) Ms) × (z ≡ term_measure M) =
+      member Ms i z (subst (λ zs. i < length zs) (sym k) size_below) (subst (λ zs. z ≡ get_or zs i z) (sym k) size_is) in
+      (with_argument here.0 (mono_tree p) found.0, grown here.0 found.0 here.1 found.2,
+      here.2 ∙ (λ j. with_arguments here.0 (params_read params i p param_below param_is j) (found.1 j)))
     where
-      nothing_left : (put : List Put) (ts : List MonoTree) → with_arguments put ts (list_of no_terms) ≡ put
-      nothing_left put [] = refl
-      nothing_left put (t ∷ ts) = refl
+      member : (Ms : List TermTree) (i : ℕ) (z : Size) → i < length (map term_measure Ms) → z ≡ get_or (map term_measure Ms) i z
+          → (M : TermTree) × (drop i Ms ≡ M ∷ drop (i + 1) Ms) × (z ≡ term_measure M)
+      member [] i z below is = grind (arith, below)
+      member (M ∷ Ms) zero z below is = (M, refl, is)
+      member (M ∷ Ms) (suc i) z below is = member Ms i z (omega (arith, below)) is
 
-pub ruleset arguments = (arguments_start, stops_start, stops_next, arguments_stop, arguments_next, arguments_end)
+      params_read : (xs : List Mono) (i : ℕ) (x : Mono) → i < length xs → x ≡ get_or xs i x
+          → map mono_tree (drop i xs) ≡ mono_tree x ∷ map mono_tree (drop (i + 1) xs)
+      params_read xs i x below is = ap (map mono_tree) (drop_read xs i x below is)
+
+  pub arguments_end : (puts : List PutSize) (i : ℕ)
+      → PutsSoFar params sizes old i puts
+      → length params ≤ i
+      → (before : List Put) (Ms : List TermTree)
+      → Measures old before
+      → map term_measure Ms ≡ sizes
+      → Measures puts (with_arguments before (map mono_tree params) Ms)
+  unfolding with_arguments
+  arguments_end puts i so past before Ms h k =
+      let here : (put : List Put) × Measures puts put
+      × (with_arguments before (map mono_tree params) Ms ≡ with_arguments put (map mono_tree (drop i params)) (drop i Ms)) =
+      so before Ms h k in
+      subst (Measures puts) (sym (here.2
+      ∙ ap (λ ps. with_arguments here.0 (map mono_tree ps) (drop i Ms)) (drop_all i params past))) here.1
+
+pub ruleset arguments = (arguments_start, arguments_next, arguments_end)

@@ -62,12 +62,12 @@ use Rattle.htt_resolve_names.specs.declared.stop.NameStop.{NameStop}
 use Rattle.htt_resolve_names.specs.Views.{event_of}
 use Rattle.htt_resolve_monos.specs.Sized.{AnswersSize}
 use Rattle.htt_resolve_sizes.specs.Operands.{size_of_recursive}
-use Rattle.htt_resolve_sizes.specs.Parts.{IsSize, one, two, three, four, deeper_one, after}
-use Rattle.htt_resolve_sizes.specs.Sizes.{size_of_mono, star_size, size_of_ty, size_of_triple, size_of_term, size_of_rel}
-use Rattle.htt_resolve_sizes.specs.Sizes.{size_of_sum, size_of_appl, size_of_parts, size_of_atom, size_of_terms, size_of_comp}
-use Rattle.htt_resolve_sizes.specs.Sizes.{size_of_step, size_of_formula, size_of_disj, size_of_conj, size_of_star, size_of_fatom}
+use Rattle.htt_resolve_counts.specs.Parts.{IsSize, one, two, three, four, deeper_one, after}
+use Rattle.htt_resolve_counts.specs.Sizes.{size_of_mono, star_size, size_of_ty, size_of_triple, size_of_term, size_of_rel}
+use Rattle.htt_resolve_counts.specs.Sizes.{size_of_sum, size_of_appl, size_of_parts, size_of_atom, size_of_terms, size_of_comp}
+use Rattle.htt_resolve_counts.specs.Sizes.{size_of_step, size_of_formula, size_of_disj, size_of_conj, size_of_star, size_of_fatom}
 use Rattle.htt_resolve_sizes.specs.Fix.{size_of_fix}
-use Rattle.htt_resolve_sizes.proofs.Forms.{stopped}
+use Rattle.htt_resolve_counts.proofs.Forms.{stopped}
 
 module _ (place : Scope) where
   pub ty_fun_row : (at : ℕ) (parameter : Binder) (argument : RawTy) (answer : RawTy) (r : Result Size NameStop)

@@ -21,12 +21,12 @@ use Rattle.theory_text_names.specs.Scopes.{Scope, a_term, under, under_name}
 use Rattle.htt_resolve_names.specs.declared.stop.NameStop.{NameStop}
 use Rattle.htt_resolve_names.specs.Views.{event_of}
 use Rattle.htt_resolve_names.specs.Answers.{IsStop}
-use Rattle.htt_resolve_sizes.specs.Parts.{IsSize, side, counted_one, deeper_one}
-use Rattle.htt_resolve_sizes.specs.Sizes.{size_of_term, size_of_terms, size_of_step, size_of_comp, size_of_ty, size_of_params}
-use Rattle.htt_resolve_sizes.specs.Sizes.{size_of_triple}
+use Rattle.htt_resolve_counts.specs.Parts.{IsSize, side, counted_one, deeper_one}
+use Rattle.htt_resolve_counts.specs.Sizes.{size_of_term, size_of_terms, size_of_step, size_of_comp, size_of_ty, size_of_params}
+use Rattle.htt_resolve_counts.specs.Sizes.{size_of_triple}
 use Rattle.htt_resolve_sizes.specs.Fix.{size_of_fix}
 use Rattle.htt_resolve_sizes.specs.Operands.{name_of_param, type_of_param}
-use Rattle.htt_resolve_sizes.proofs.Forms.{stopped, second_stopped, memory_stops}
+use Rattle.htt_resolve_counts.proofs.Forms.{stopped, second_stopped, memory_stops}
 use Rattle.htt_resolve_sizes.proofs.Operators.{drop_read}
 
 -- the whole measures so much beside what is left, and is stopped where that is

@@ -5,8 +5,8 @@ use Rattle.htt_parser_trees.specs.TreeLevels.{raw_params_tree, raw_triple_tree, 
 use Rattle.htt_syntax_measure.specs.declared.size.Size.{Size}
 use Rattle.theory_text_names.specs.Stops.{Stop}
 use Rattle.theory_text_names.specs.Scopes.{a_term, Scope, under_name}
-use Rattle.htt_resolve_sizes.specs.Parts.{side, counted_one, deeper_one}
-use Rattle.htt_resolve_sizes.specs.Sizes.{size_of_triple, size_of_params, size_of_comp}
+use Rattle.htt_resolve_counts.specs.Parts.{side, counted_one, deeper_one}
+use Rattle.htt_resolve_counts.specs.Sizes.{size_of_triple, size_of_params, size_of_comp}
 
 abbrev pub size_of_fix : Scope → RawFix → Result Size Stop
 size_of_fix s f =

@@ -21,8 +21,8 @@ use Rattle.theory_text_names.specs.Stops.{Stop, ◌>>=◌}
 use Rattle.theory_text_names.specs.Scopes.{Scope, at_heap}
 use Rattle.theory_text_names.specs.Uses.{rec_named, heap_comes}
 use Rattle.theory_text.specs.Phrases.{right_count, count_of}
-use Rattle.htt_resolve_sizes.specs.Parts.{after}
-use Rattle.htt_resolve_sizes.specs.Sizes.{size_of_mono, size_of_atom, size_of_formula, size_of_prod, size_of_appl}
+use Rattle.htt_resolve_counts.specs.Parts.{after}
+use Rattle.htt_resolve_counts.specs.Sizes.{size_of_mono, size_of_atom, size_of_formula, size_of_prod, size_of_appl}
 
 -- what an operand behind its sign measures
 abbrev pub size_of_summand : Scope → SumOperand → Result Size Stop

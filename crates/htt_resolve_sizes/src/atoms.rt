@@ -8,13 +8,13 @@ ghost use Rattle.htt_parser_trees.specs.TreeViews.{raw_formula_tree, raw_fatom_t
 ghost use Rattle.htt_parser_trees.specs.TreeLevels.{raw_term_trees};
 ghost use Rattle.htt_syntax_measure.specs.declared.size.Size.{Size};
 ghost use Rattle.htt_resolve_scopes.specs.Views.{scope_tree, IsMemory};
-ghost use Rattle.htt_resolve_sizes.specs.Parts.{IsSize, after};
-ghost use Rattle.htt_resolve_sizes.specs.Sizes.{star_size, size_of_star, size_of_fatom};
+ghost use Rattle.htt_resolve_counts.specs.Parts.{IsSize, after};
+ghost use Rattle.htt_resolve_counts.specs.Sizes.{star_size, size_of_star, size_of_fatom};
 ghost use Rattle.htt_resolve_sizes.specs.Operands.{size_at, size_of_recursive};
 
-use crate::bytes::{byte_of_fatom, byte_of_rel};
+use htt_resolve_bytes::{byte_of_fatom, byte_of_rel};
 use crate::formulas::{formula_box, measure_star};
-use crate::parts::{after, node_of_one, node_of_three, node_of_two};
+use htt_resolve_counts::{after, node_of_one, node_of_three, node_of_two};
 use crate::terms::{rel_box, term_box, term_size, terms_size};
 use crate::uses::measure_use;
 use htt_parser_trees::{Binder, RawFatom, RawFormula, RawHeap, RawStar, RawTerm, Span};
@@ -151,7 +151,7 @@ pub(crate) fn measure_fatom(
 
 /// The size of a formula at a heap.
 #[cycle(sizes)]
-#[tactic(auto, using(crate::proofs::Forms::at_heaps))]
+#[tactic(auto, using(crate::proofs::Named::at_heaps))]
 fn formula_at(
     alloc: Global,
     scope: &Scope<'_>,
@@ -167,7 +167,7 @@ fn formula_at(
 
 /// The use of a recursive predicate, where the name stands for one and there are as many arguments as it has parameters:
 /// it measures so much.
-#[tactic(auto, using(crate::proofs::Forms::recursive_uses))]
+#[tactic(auto, using(crate::proofs::Named::recursive_uses))]
 fn recursive(
     scope: &Scope<'_>,
     at: u64,
@@ -199,7 +199,7 @@ fn side_scope<'a>(alloc: Global, scope: &Scope<'a>, heap: u32) -> Result<Scope<'
 
 /// The left side of a star.
 #[cycle(sizes)]
-#[tactic(auto, using(crate::proofs::Forms::at_heaps))]
+#[tactic(auto, using(crate::proofs::Named::at_heaps))]
 pub(crate) fn left_side(alloc: Global, scope: &Scope<'_>, fatom: &RawFatom) -> Result<Size, NameStop>
     ensures measured { IsSize result (size_of_fatom (left_part (scope_tree scope.now)) (raw_fatom_tree fatom.now)) }
 {
@@ -211,7 +211,7 @@ pub(crate) fn left_side(alloc: Global, scope: &Scope<'_>, fatom: &RawFatom) -> R
 
 /// The right side of a star.
 #[cycle(sizes)]
-#[tactic(auto, using(crate::proofs::Forms::at_heaps))]
+#[tactic(auto, using(crate::proofs::Named::at_heaps))]
 pub(crate) fn right_side(alloc: Global, scope: &Scope<'_>, others: &Boxed<RawStar>) -> Result<Size, NameStop>
     ensures measured { IsSize result (size_of_star (right_part (scope_tree scope.now)) (raw_star_tree others.now)) }
 {
@@ -219,12 +219,4 @@ pub(crate) fn right_side(alloc: Global, scope: &Scope<'_>, others: &Boxed<RawSta
         Ok(inner) => measure_star(alloc, &inner, others.get()),
         Err(stop) => Err(stop),
     }
-}
-
-/// The size of `P ** Q`: two quantifiers over a conjunction of the join and of the conjunction of both.
-#[tactic(auto, using(crate::proofs::Forms::stars))]
-pub(crate) fn star_of(left: Result<Size, NameStop>, right: Result<Size, NameStop>) -> Result<Size, NameStop>
-    ensures made { (L R : Result Size Stop) → IsSize left L → IsSize right R → IsSize result (star_size L R) }
-{
-    node_of_one(node_of_one(node_of_two(Ok(Size::leaf()), node_of_two(left, right))))
 }

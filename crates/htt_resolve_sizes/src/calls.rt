@@ -16,7 +16,7 @@ use htt_syntax_measure::Size;
 use std::alloc::Global;
 
 /// The size of the type, or the stop that it meets first. It may also fail for want of memory.
-#[tactic(auto, using(crate::proofs::Answered::ty_answer))]
+#[tactic(auto, using(htt_resolve_counts::proofs::Answered::ty_answer))]
 pub fn measure_ty(alloc: Global, scope: &Scope<'_>, ty: &RawTy) -> Result<Size, NameStop>
     ensures measured { AnswersSize ty_measure result (ty_comes (scope_tree scope.now) (raw_ty_tree ty.now)) }
 {
@@ -24,7 +24,7 @@ pub fn measure_ty(alloc: Global, scope: &Scope<'_>, ty: &RawTy) -> Result<Size, 
 }
 
 /// The size of the term, or the stop that it meets first. It may also fail for want of memory.
-#[tactic(auto, using(crate::proofs::Answered::term_answer))]
+#[tactic(auto, using(htt_resolve_counts::proofs::Answered::term_answer))]
 pub fn measure_term(alloc: Global, scope: &Scope<'_>, term: &RawTerm) -> Result<Size, NameStop>
     ensures measured { AnswersSize term_measure result (term_comes (scope_tree scope.now) (raw_term_tree term.now)) }
 {
@@ -32,7 +32,7 @@ pub fn measure_term(alloc: Global, scope: &Scope<'_>, term: &RawTerm) -> Result<
 }
 
 /// The size of the formula, or the stop that it meets first. It may also fail for want of memory.
-#[tactic(auto, using(crate::proofs::Answered::formula_answer))]
+#[tactic(auto, using(htt_resolve_counts::proofs::Answered::formula_answer))]
 pub fn measure_formula(
     alloc: Global,
     scope: &Scope<'_>,

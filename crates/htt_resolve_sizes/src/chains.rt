@@ -4,11 +4,11 @@ ghost use Rattle.std.specs.Prelude.{◌≡◌};
 ghost use Rattle.htt_parser_trees.specs.TreeViews.{raw_appl_tree};
 ghost use Rattle.htt_parser_trees.specs.TreeLevels.{raw_sum_tree, raw_prod_tree, raw_parts_tree};
 ghost use Rattle.htt_resolve_scopes.specs.Views.{scope_tree};
-ghost use Rattle.htt_resolve_sizes.specs.Parts.{IsSize};
-ghost use Rattle.htt_resolve_sizes.specs.Sizes.{size_of_sum, size_of_prod, size_of_appl, size_of_parts};
+ghost use Rattle.htt_resolve_counts.specs.Parts.{IsSize};
+ghost use Rattle.htt_resolve_counts.specs.Sizes.{size_of_sum, size_of_prod, size_of_appl, size_of_parts};
 ghost use Rattle.htt_resolve_sizes.specs.Operands.{size_of_summand, size_of_factor, size_of_part};
 
-use crate::parts::node_of_one;
+use htt_resolve_counts::node_of_one;
 use crate::terms::measure_atom;
 use htt_parser_trees::{ProdOperand, RawAppl, RawPart, RawProd, RawSum, SumOperand};
 use htt_resolve_monos::measure_mono;

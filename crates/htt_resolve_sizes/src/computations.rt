@@ -4,13 +4,13 @@ ghost use Rattle.std.specs.Prelude.{◌≡◌};
 ghost use Rattle.htt_parser_trees.specs.TreeViews.{raw_step_tree, raw_step_name};
 ghost use Rattle.htt_parser_trees.specs.TreeLevels.{raw_comp_tree};
 ghost use Rattle.htt_resolve_scopes.specs.Views.{scope_tree};
-ghost use Rattle.htt_resolve_sizes.specs.Parts.{IsSize};
-ghost use Rattle.htt_resolve_sizes.specs.Sizes.{size_of_ty, size_of_comp, size_of_step};
+ghost use Rattle.htt_resolve_counts.specs.Parts.{IsSize};
+ghost use Rattle.htt_resolve_counts.specs.Sizes.{size_of_ty, size_of_comp, size_of_step};
 ghost use Rattle.htt_resolve_sizes.specs.Fix.{size_of_fix};
 ghost use Rattle.htt_resolve_sizes.specs.Operands.{name_of_param, type_of_param};
 
 use crate::chains::measure_appl;
-use crate::parts::{
+use htt_resolve_counts::{
     counted, deeper, node_of_four, node_of_one, node_of_three, node_of_two, side_by_side,
 };
 use crate::terms::{measure_atom, term_size};

@@ -5,12 +5,12 @@ ghost use Rattle.theory_text_names.specs.Scopes.{under};
 ghost use Rattle.htt_parser_trees.specs.Trees.{f_all, f_ex};
 ghost use Rattle.htt_parser_trees.specs.TreeViews.{raw_formula_tree, raw_disj_tree, raw_conj_tree, raw_star_tree, raw_sort_tree};
 ghost use Rattle.htt_resolve_scopes.specs.Views.{sort_of, scope_tree};
-ghost use Rattle.htt_resolve_sizes.specs.Parts.{IsSize};
-ghost use Rattle.htt_resolve_sizes.specs.Sizes.{size_of_formula, size_of_disj, size_of_conj, size_of_star};
+ghost use Rattle.htt_resolve_counts.specs.Parts.{IsSize};
+ghost use Rattle.htt_resolve_counts.specs.Sizes.{size_of_formula, size_of_disj, size_of_conj, size_of_star};
 
-use crate::atoms::{left_side, measure_fatom, right_side, star_of};
-use crate::bytes::byte_of_fatom;
-use crate::parts::{after, node_of_one, node_of_two};
+use crate::atoms::{left_side, measure_fatom, right_side};
+use htt_resolve_bytes::byte_of_fatom;
+use htt_resolve_counts::{after, node_of_one, node_of_two, star_of};
 use htt_parser_trees::{Binder, RawConj, RawDisj, RawFormula, RawSort, RawStar};
 use htt_resolve_monos::measure_mono;
 use htt_resolve_names::NameStop;

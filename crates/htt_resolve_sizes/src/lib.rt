@@ -5,12 +5,10 @@
 #![tactic(auto)]
 
 mod atoms;
-mod bytes;
 mod calls;
 mod chains;
 mod computations;
 mod formulas;
-mod parts;
 mod terms;
 #[cfg(test)]
 mod tests;

@@ -7,12 +7,12 @@ ghost use Rattle.htt_parser_trees.specs.TreeViews.{raw_term_tree, raw_rel_tree, 
 ghost use Rattle.htt_parser_trees.specs.TreeLevels.{raw_term_trees};
 ghost use Rattle.htt_syntax_measure.specs.Measures.{leaf};
 ghost use Rattle.htt_resolve_scopes.specs.Views.{sort_of, scope_tree};
-ghost use Rattle.htt_resolve_sizes.specs.Parts.{IsSize, after};
-ghost use Rattle.htt_resolve_sizes.specs.Sizes.{size_of_term, size_of_terms, size_of_rel, size_of_atom};
+ghost use Rattle.htt_resolve_counts.specs.Parts.{IsSize, after};
+ghost use Rattle.htt_resolve_counts.specs.Sizes.{size_of_term, size_of_terms, size_of_rel, size_of_atom};
 
 use crate::chains::measure_sum;
 use crate::computations::{comp_box, fix_box};
-use crate::parts::{after, deeper, node_of_four, node_of_one, node_of_three, node_of_two};
+use htt_resolve_counts::{after, deeper, node_of_four, node_of_one, node_of_three, node_of_two};
 use crate::types::ty_box;
 use htt_parser_trees::{Binder, RawAtom, RawRel, RawTerm, Span};
 use htt_resolve_monos::measure_mono;
@@ -113,7 +113,7 @@ pub(crate) fn measure_atom(
 }
 
 /// The size of what the name stands for, which is one node.
-#[tactic(auto, using(crate::proofs::Forms::afters))]
+#[tactic(auto, using(htt_resolve_counts::proofs::Forms::afters))]
 fn measure_named(scope: &Scope<'_>, span: Span) -> Result<Size, NameStop>
     ensures measured { IsSize result (after (term_named (scope_tree scope.now) span) (Ok leaf)) }
 {

@@ -4,11 +4,11 @@ ghost use Rattle.theory_text_names.specs.Scopes.{under, under_mem, under_heaps, 
 ghost use Rattle.htt_parser_trees.specs.TreeViews.{raw_ty_tree, raw_formula_tree};
 ghost use Rattle.htt_parser_trees.specs.TreeLevels.{raw_triple_tree};
 ghost use Rattle.htt_resolve_scopes.specs.Views.{sort_of, scope_tree};
-ghost use Rattle.htt_resolve_sizes.specs.Parts.{IsSize};
-ghost use Rattle.htt_resolve_sizes.specs.Sizes.{size_of_ty, size_of_triple, size_of_formula};
+ghost use Rattle.htt_resolve_counts.specs.Parts.{IsSize};
+ghost use Rattle.htt_resolve_counts.specs.Sizes.{size_of_ty, size_of_triple, size_of_formula};
 
 use crate::formulas::formula_size;
-use crate::parts::{node_of_one, node_of_three, node_of_two};
+use htt_resolve_counts::{node_of_one, node_of_three, node_of_two};
 use htt_parser_trees::{Binder, RawFormula, RawTriple, RawTy};
 use htt_resolve_monos::measure_mono;
 use htt_resolve_names::NameStop;

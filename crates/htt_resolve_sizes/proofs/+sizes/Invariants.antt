@@ -4,8 +4,8 @@ use Rattle.htt_parser_trees.specs.TreeViews.{raw_term_tree}
 use Rattle.htt_parser_trees.specs.TreeLevels.{raw_sum_tree, raw_prod_tree, raw_comp_tree, raw_sum_rest, raw_prod_rest}
 use Rattle.htt_parser_trees.specs.TreeLevels.{raw_parts_tree, raw_term_trees, raw_steps_tree, raw_params_tree}
 use Rattle.htt_resolve_scopes.specs.Views.{scope_tree}
-use Rattle.htt_resolve_sizes.specs.Sizes.{size_of_sum, size_of_sum_rest, size_of_prod, size_of_prod_rest, size_of_parts}
-use Rattle.htt_resolve_sizes.specs.Sizes.{size_of_terms, size_of_comp, size_of_params}
+use Rattle.htt_resolve_counts.specs.Sizes.{size_of_sum, size_of_sum_rest, size_of_prod, size_of_prod_rest, size_of_parts}
+use Rattle.htt_resolve_counts.specs.Sizes.{size_of_terms, size_of_comp, size_of_params}
 use Rattle.htt_resolve_sizes.specs.Fix.{size_of_fix}
 use Rattle.htt_resolve_sizes.proofs.Running.{Adds, under_params}
 use Rattle.htt_resolve_sizes.proofs.+sizes.Given as goal

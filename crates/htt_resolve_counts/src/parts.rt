@@ -4,14 +4,15 @@ ghost use Rattle.std.specs.Prelude.{ℕ, Result};
 ghost use Rattle.theory_text_names.specs.Stops.{Stop};
 ghost use Rattle.htt_syntax_measure.specs.declared.size.Size.{Size};
 ghost use Rattle.htt_resolve_names.specs.Answers.{Answers};
-ghost use Rattle.htt_resolve_sizes.specs.Parts.{IsSize, one, two, three, four, side, counted_one, deeper_one, after};
+ghost use Rattle.htt_resolve_counts.specs.Parts.{IsSize, one, two, three, four, side, counted_one, deeper_one, after};
+ghost use Rattle.htt_resolve_counts.specs.Sizes.{star_size};
 
 use htt_resolve_names::NameStop;
 use htt_syntax_measure::Size;
 
 /// The size of a node with one part.
 #[tactic(auto, using(crate::proofs::Forms::ones))]
-pub(crate) fn node_of_one(part: Result<Size, NameStop>) -> Result<Size, NameStop>
+pub fn node_of_one(part: Result<Size, NameStop>) -> Result<Size, NameStop>
     ensures made { (L : Result Size Stop) → IsSize part L → IsSize result (one L) }
 {
     match part {
@@ -22,7 +23,7 @@ pub(crate) fn node_of_one(part: Result<Size, NameStop>) -> Result<Size, NameStop
 
 /// The sizes of two parts that stand side by side.
 #[tactic(auto, using(crate::proofs::Forms::sides))]
-pub(crate) fn side_by_side(
+pub fn side_by_side(
     first: Result<Size, NameStop>,
     second: Result<Size, NameStop>,
 ) -> Result<Size, NameStop>
@@ -37,7 +38,7 @@ pub(crate) fn side_by_side(
 
 /// The size of a node with two parts.
 #[tactic(auto, using(crate::proofs::Forms::twos))]
-pub(crate) fn node_of_two(
+pub fn node_of_two(
     first: Result<Size, NameStop>,
     second: Result<Size, NameStop>,
 ) -> Result<Size, NameStop>
@@ -48,7 +49,7 @@ pub(crate) fn node_of_two(
 
 /// The size of a node with three parts.
 #[tactic(auto, using(crate::proofs::Forms::threes))]
-pub(crate) fn node_of_three(
+pub fn node_of_three(
     first: Result<Size, NameStop>,
     second: Result<Size, NameStop>,
     third: Result<Size, NameStop>,
@@ -60,7 +61,7 @@ pub(crate) fn node_of_three(
 
 /// The size of a node with four parts.
 #[tactic(auto, using(crate::proofs::Forms::fours))]
-pub(crate) fn node_of_four(
+pub fn node_of_four(
     first: Result<Size, NameStop>,
     second: Result<Size, NameStop>,
     third: Result<Size, NameStop>,
@@ -73,7 +74,7 @@ pub(crate) fn node_of_four(
 
 /// With one node more at the same depth.
 #[tactic(auto, using(crate::proofs::Forms::counts))]
-pub(crate) fn counted(part: Result<Size, NameStop>) -> Result<Size, NameStop>
+pub fn counted(part: Result<Size, NameStop>) -> Result<Size, NameStop>
     ensures made { (L : Result Size Stop) → IsSize part L → IsSize result (counted_one L) }
 {
     match part {
@@ -84,7 +85,7 @@ pub(crate) fn counted(part: Result<Size, NameStop>) -> Result<Size, NameStop>
 
 /// One level deeper.
 #[tactic(auto, using(crate::proofs::Forms::deepers))]
-pub(crate) fn deeper(part: Result<Size, NameStop>) -> Result<Size, NameStop>
+pub fn deeper(part: Result<Size, NameStop>) -> Result<Size, NameStop>
     ensures made { (L : Result Size Stop) → IsSize part L → IsSize result (deeper_one L) }
 {
     match part {
@@ -95,7 +96,7 @@ pub(crate) fn deeper(part: Result<Size, NameStop>) -> Result<Size, NameStop>
 
 /// The size of a phrase that stands behind a heap.
 #[tactic(auto, using(crate::proofs::Forms::afters))]
-pub(crate) fn after(
+pub fn after(
     heap: Result<u32, NameStop>,
     part: Result<Size, NameStop>,
 ) -> Result<Size, NameStop>
@@ -105,4 +106,12 @@ pub(crate) fn after(
         Ok(_) => part,
         Err(stop) => Err(stop),
     }
+}
+
+/// The size of `P ** Q`: two quantifiers over a conjunction of the join and of the conjunction of both.
+#[tactic(auto, using(crate::proofs::Forms::stars))]
+pub fn star_of(left: Result<Size, NameStop>, right: Result<Size, NameStop>) -> Result<Size, NameStop>
+    ensures made { (L R : Result Size Stop) → IsSize left L → IsSize right R → IsSize result (star_size L R) }
+{
+    node_of_one(node_of_one(node_of_two(Ok(Size::leaf()), node_of_two(left, right))))
 }

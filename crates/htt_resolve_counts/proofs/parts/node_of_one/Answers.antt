@@ -1,7 +1,7 @@
 use Rattle.std.proofs.Common.{subst}
-use Rattle.htt_resolve_sizes.specs.Parts.{IsSize}
-use Rattle.htt_resolve_sizes.proofs.Forms.{one_ok}
-use Rattle.htt_resolve_sizes.proofs.parts.node_of_one.Goals as goal
+use Rattle.htt_resolve_counts.specs.Parts.{IsSize}
+use Rattle.htt_resolve_counts.proofs.Forms.{one_ok}
+use Rattle.htt_resolve_counts.proofs.parts.node_of_one.Goals as goal
 
 pub returns-in-Ok : goal.returns-in-Ok
 returns-in-Ok c = record {

@@ -1,7 +1,7 @@
 use Rattle.std.proofs.Common.{subst}
-use Rattle.htt_resolve_sizes.specs.Parts.{IsSize}
-use Rattle.htt_resolve_sizes.proofs.Forms.{counted_ok}
-use Rattle.htt_resolve_sizes.proofs.parts.counted.Goals as goal
+use Rattle.htt_resolve_counts.specs.Parts.{IsSize}
+use Rattle.htt_resolve_counts.proofs.Forms.{counted_ok}
+use Rattle.htt_resolve_counts.proofs.parts.counted.Goals as goal
 
 pub returns-in-Ok : goal.returns-in-Ok
 returns-in-Ok c = record {

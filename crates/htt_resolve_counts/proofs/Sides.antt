@@ -23,8 +23,8 @@ use Rattle.theory_text_names.specs.Uses.{Use, a_variable, the_hypothesis, a_decl
 use Rattle.theory_text_sugar.specs.Sugar.{star}
 use Rattle.theory_text.specs.Phrases.{unary}
 use Rattle.htt_resolve_monos.specs.Sized.{sized}
-use Rattle.htt_resolve_sizes.specs.Parts.{one, two, three, four, side, counted_one, deeper_one, after}
-use Rattle.htt_resolve_sizes.specs.Sizes.{star_size}
+use Rattle.htt_resolve_counts.specs.Parts.{one, two, three, four, side, counted_one, deeper_one, after}
+use Rattle.htt_resolve_counts.specs.Sizes.{star_size}
 
 -- ---- one part
 

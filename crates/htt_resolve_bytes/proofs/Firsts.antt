@@ -1,4 +1,4 @@
--- The first bytes of phrases that don't keep their own, and operands behind their signs.
+-- The first bytes of phrases, form by form.
 use Rattle.std.proofs.Common.{◌≡◌, ℕ, sym, ap, List}
 use Rattle.htt_parser_trees.specs.declared.place.Span.{Span}
 use Rattle.htt_parser_trees.specs.declared.mono.RawMono.{RawMono}
@@ -8,37 +8,37 @@ use Rattle.htt_parser_trees.specs.declared.tree.RawTy.{RawTy}
 use Rattle.htt_parser_trees.specs.declared.tree.RawTerm.{RawTerm}
 use Rattle.htt_parser_trees.specs.declared.tree.RawRel.{RawRel}
 use Rattle.htt_parser_trees.specs.declared.tree.RawSum.{RawSum}
-use Rattle.htt_parser_trees.specs.declared.tree.RawProd.{RawProd}
-use Rattle.htt_parser_trees.specs.declared.tree.RawAppl.{RawAppl}
 use Rattle.htt_parser_trees.specs.declared.tree.RawPart.{RawPart}
 use Rattle.htt_parser_trees.specs.declared.tree.RawAtom.{RawAtom}
 use Rattle.htt_parser_trees.specs.declared.tree.RawFormula.{RawFormula}
+use Rattle.htt_parser_trees.specs.declared.tree.RawFatom.{RawFatom}
+use Rattle.htt_parser_trees.specs.declared.tree.RawStar.{RawStar}
+use Rattle.htt_parser_trees.specs.declared.tree.RawConj.{RawConj}
+use Rattle.htt_parser_trees.specs.declared.tree.RawDisj.{RawDisj}
+use Rattle.htt_parser_trees.specs.declared.tree.RawStar.TheVariants as vstar
+use Rattle.htt_parser_trees.specs.declared.tree.RawConj.TheVariants as vconj
+use Rattle.htt_parser_trees.specs.declared.tree.RawDisj.TheVariants as vdisj
 use Rattle.htt_parser_trees.specs.declared.tree.RawRel.TheVariants as vrel
 use Rattle.htt_parser_trees.specs.declared.tree.RawAppl.TheVariants as vappl
 use Rattle.htt_parser_trees.specs.declared.tree.RawAtom.TheVariants as vatom
 use Rattle.htt_parser_trees.specs.declared.tree.RawFatom.TheVariants as vfatom
-use Rattle.htt_parser_trees.specs.declared.tree.SumOperand.TheVariants as vsum
-use Rattle.htt_parser_trees.specs.declared.tree.ProdOperand.TheVariants as vprod
-use Rattle.htt_parser_trees.specs.Trees.{plus, minus, bar, caret, times, ampersand, shift_left, shift_right}
-use Rattle.htt_parser_trees.specs.TreeViews.{raw_rel_tree, raw_appl_tree, raw_atom_tree, raw_fatom_tree}
-use Rattle.htt_parser_trees.specs.TreeLevels.{raw_sum_tree, raw_prod_tree, raw_appl_apply, raw_appl_unary, raw_atom_annotated, raw_atom_brackets}
+use Rattle.htt_parser_trees.specs.TreeViews.{raw_disj_tree, raw_conj_tree, raw_star_tree, raw_rel_tree, raw_appl_tree, raw_atom_tree, raw_fatom_tree}
+use Rattle.htt_parser_trees.specs.TreeLevels.{raw_disj_conj, raw_disj_or, raw_conj_star, raw_conj_and, raw_star_fatom, raw_star_times}
+use Rattle.htt_parser_trees.specs.TreeLevels.{raw_sum_tree, raw_appl_apply, raw_appl_unary, raw_atom_annotated, raw_atom_brackets}
 use Rattle.htt_parser_trees.specs.TreeLevels.{raw_atom_eq, raw_atom_false, raw_atom_name, raw_atom_null, raw_atom_number, raw_atom_pair}
 use Rattle.htt_parser_trees.specs.TreeLevels.{raw_atom_place, raw_atom_sel, raw_atom_true, raw_atom_unit, raw_fatom_at_heap, raw_fatom_block}
 use Rattle.htt_parser_trees.specs.TreeLevels.{raw_fatom_brackets, raw_fatom_cell, raw_fatom_emp, raw_fatom_emp_of, raw_fatom_eq, raw_fatom_ff}
 use Rattle.htt_parser_trees.specs.TreeLevels.{raw_fatom_join, raw_fatom_points_to, raw_fatom_points_to_any, raw_fatom_same, raw_fatom_tt}
-use Rattle.htt_parser_trees.specs.TreeLevels.{raw_fatom_use, raw_fatom_use_at, raw_fatom_use_at_heap, raw_prod_operand_and}
-use Rattle.htt_parser_trees.specs.TreeLevels.{raw_prod_operand_shift_left, raw_prod_operand_shift_right, raw_prod_operand_times, raw_rel_less}
-use Rattle.htt_parser_trees.specs.TreeLevels.{raw_rel_sum, raw_sum_operand_bar, raw_sum_operand_caret, raw_sum_operand_minus, raw_sum_operand_plus}
-use Rattle.theory_text.specs.Bytes.{byte_of_atom, byte_of_appl, byte_of_rel, byte_of_sum, byte_of_fatom}
-use Rattle.htt_resolve_sizes.specs.Operands.{IsSummand, IsFactor}
+use Rattle.htt_parser_trees.specs.TreeLevels.{raw_fatom_use, raw_fatom_use_at, raw_fatom_use_at_heap}
+use Rattle.htt_parser_trees.specs.TreeLevels.{raw_rel_less}
+use Rattle.htt_parser_trees.specs.TreeLevels.{raw_rel_sum}
+use Rattle.theory_text.specs.Bytes.{byte_of_disj, byte_of_conj, byte_of_star, byte_of_atom, byte_of_appl, byte_of_rel, byte_of_sum, byte_of_fatom}
 
-pub rel_sum_first : (s : RawSum) → byte_of_appl (raw_appl_tree s.first.first) ≡ byte_of_rel (raw_rel_tree (vrel.Sum s))
-unfolding raw_sum_tree raw_prod_tree
+pub rel_sum_first : (s : RawSum) → byte_of_sum (raw_sum_tree s) ≡ byte_of_rel (raw_rel_tree (vrel.Sum s))
 rel_sum_first s = sym (ap byte_of_rel (raw_rel_sum s))
 
 pub rel_less_first : (s : RawSum) (s2 : RawSum)
-    → byte_of_appl (raw_appl_tree s.first.first) ≡ byte_of_rel (raw_rel_tree (vrel.Less s s2))
-unfolding raw_sum_tree raw_prod_tree
+    → byte_of_sum (raw_sum_tree s) ≡ byte_of_rel (raw_rel_tree (vrel.Less s s2))
 rel_less_first s s2 = sym (ap byte_of_rel (raw_rel_less s s2))
 
 pub appl_unary_first : (at : ℕ) (word : UnaryWord) (operand : RawAtom) → at ≡ byte_of_appl
@@ -144,6 +144,30 @@ fatom_points_to_first at_place m value = sym (ap byte_of_fatom (raw_fatom_points
 pub fatom_points_to_any_first : (at_place : RawRel) (m : RawMono) → byte_of_rel (raw_rel_tree at_place) ≡ byte_of_fatom
     (raw_fatom_tree (vfatom.PointsToAny at_place m))
 fatom_points_to_any_first at_place m = sym (ap byte_of_fatom (raw_fatom_points_to_any at_place m))
+
+pub star_fatom_first : (g : RawFatom) → byte_of_fatom (raw_fatom_tree g) ≡ byte_of_star (raw_star_tree (vstar.Fatom g))
+star_fatom_first g = sym (ap byte_of_star (raw_star_fatom g))
+
+pub star_times_first : (g : RawFatom) (k : RawStar) → byte_of_fatom (raw_fatom_tree g) ≡ byte_of_star (raw_star_tree (vstar.Times g k))
+star_times_first g k = sym (ap byte_of_star (raw_star_times g k))
+
+pub conj_star_first : (k : RawStar) → byte_of_star (raw_star_tree k) ≡ byte_of_conj (raw_conj_tree (vconj.Star k))
+conj_star_first k = sym (ap byte_of_conj (raw_conj_star k))
+
+pub conj_and_first : (k : RawStar) (c : RawConj) → byte_of_star (raw_star_tree k) ≡ byte_of_conj (raw_conj_tree (vconj.And k c))
+conj_and_first k c = sym (ap byte_of_conj (raw_conj_and k c))
+
+pub disj_conj_first : (c : RawConj) → byte_of_conj (raw_conj_tree c) ≡ byte_of_disj (raw_disj_tree (vdisj.Conj c))
+disj_conj_first c = sym (ap byte_of_disj (raw_disj_conj c))
+
+pub disj_or_first : (c : RawConj) (e : RawDisj) → byte_of_conj (raw_conj_tree c) ≡ byte_of_disj (raw_disj_tree (vdisj.Or c e))
+disj_or_first c e = sym (ap byte_of_disj (raw_disj_or c e))
+
+pub ruleset stars = (star_fatom_first, star_times_first)
+
+pub ruleset conjs = (conj_star_first, conj_and_first)
+
+pub ruleset disjs = (disj_conj_first, disj_or_first)
 
 pub ruleset rels = (
   rel_sum_first,

@@ -13,7 +13,7 @@ use Rattle.theory_text.specs.Bytes.{byte_of_rel, byte_of_fatom}
 use Rattle.theory_text.specs.Monotypes.{mono_comes}
 use Rattle.theory_text.specs.Phrases.{right_count, count_of, fatom_comes}
 use Rattle.htt_resolve_monos.specs.Sized.{sized}
-use Rattle.htt_resolve_sizes.specs.Parts.{one, two, three, four, side, counted_one, deeper_one, after}
+use Rattle.htt_resolve_counts.specs.Parts.{one, two, three, four, side, counted_one, deeper_one, after}
 
 abbrev pub size_of_mono : Scope → raw.RawMonoTree → Result Size Stop
 size_of_mono s m = sized mono_measure (mono_comes s m)

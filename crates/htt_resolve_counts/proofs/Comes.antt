@@ -34,13 +34,13 @@ use Rattle.theory_text.specs.Phrases.{params_come, rel_comes, sum_comes, sum_res
 use Rattle.theory_text.specs.Phrases.{appl_comes, parts_come, atom_comes, terms_come, comp_comes, step_comes, formula_comes}
 use Rattle.theory_text.specs.Phrases.{disj_comes, conj_comes, star_comes, fatom_comes}
 use Rattle.htt_resolve_monos.specs.Sized.{sized}
-use Rattle.htt_resolve_sizes.specs.Sizes.{size_of_ty, size_of_triple, size_of_term, size_of_params, size_of_rel, size_of_sum}
-use Rattle.htt_resolve_sizes.specs.Sizes.{size_of_sum_rest, size_of_prod, size_of_prod_rest, size_of_appl, size_of_parts}
-use Rattle.htt_resolve_sizes.specs.Sizes.{size_of_atom, size_of_terms, size_of_comp, size_of_step, size_of_formula}
-use Rattle.htt_resolve_sizes.specs.Sizes.{size_of_disj, size_of_conj, size_of_star, size_of_fatom}
-use Rattle.htt_resolve_sizes.proofs.Sides.{sames, ones, counts, deeps, deepened, twos, sides, threes, fours, chains, afters}
-use Rattle.htt_resolve_sizes.proofs.Sides.{heaps, cells, blocks, bodies, stars, named, unary_measure, bins, apps, insts}
-use Rattle.htt_resolve_sizes.proofs.Sides.{run_measure, two_turned, three_turned}
+use Rattle.htt_resolve_counts.specs.Sizes.{size_of_ty, size_of_triple, size_of_term, size_of_params, size_of_rel, size_of_sum}
+use Rattle.htt_resolve_counts.specs.Sizes.{size_of_sum_rest, size_of_prod, size_of_prod_rest, size_of_appl, size_of_parts}
+use Rattle.htt_resolve_counts.specs.Sizes.{size_of_atom, size_of_terms, size_of_comp, size_of_step, size_of_formula}
+use Rattle.htt_resolve_counts.specs.Sizes.{size_of_disj, size_of_conj, size_of_star, size_of_fatom}
+use Rattle.htt_resolve_counts.proofs.Sides.{sames, ones, counts, deeps, deepened, twos, sides, threes, fours, chains, afters}
+use Rattle.htt_resolve_counts.proofs.Sides.{heaps, cells, blocks, bodies, stars, named, unary_measure, bins, apps, insts}
+use Rattle.htt_resolve_counts.proofs.Sides.{run_measure, two_turned, three_turned}
 
 mutual
   unfolding term_comes size_of_term

@@ -1,5 +1,5 @@
-use Rattle.htt_resolve_sizes.proofs.Forms.{side_ok}
-use Rattle.htt_resolve_sizes.proofs.parts.side_by_side.Goals as goal
+use Rattle.htt_resolve_counts.proofs.Forms.{side_ok}
+use Rattle.htt_resolve_counts.proofs.parts.side_by_side.Goals as goal
 
 pub returns-in-Ok-Ok : goal.returns-in-Ok-Ok
 returns-in-Ok-Ok c = record {

@@ -8,9 +8,9 @@ use Rattle.theory_text_names.specs.Scopes.{Scope}
 use Rattle.theory_text.specs.Phrases.{ty_comes, term_comes, formula_comes}
 use Rattle.htt_resolve_names.specs.declared.stop.NameStop.{NameStop}
 use Rattle.htt_resolve_monos.specs.Sized.{AnswersSize}
-use Rattle.htt_resolve_sizes.specs.Parts.{IsSize}
-use Rattle.htt_resolve_sizes.specs.Sizes.{size_of_ty, size_of_term, size_of_formula}
-use Rattle.htt_resolve_sizes.proofs.Comes.{ty_sized, term_sized, formula_sized}
+use Rattle.htt_resolve_counts.specs.Parts.{IsSize}
+use Rattle.htt_resolve_counts.specs.Sizes.{size_of_ty, size_of_term, size_of_formula}
+use Rattle.htt_resolve_counts.proofs.Comes.{ty_sized, term_sized, formula_sized}
 
 pub ty_answer : (s : Scope) (x : raw.RawTyTree) (r : Result Size NameStop)
     → IsSize r (size_of_ty s x)

@@ -1,0 +1,4 @@
+pub mod Forms
+pub mod Sides
+pub mod Comes
+pub mod Answered
