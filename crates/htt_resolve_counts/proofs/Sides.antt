@@ -4,7 +4,7 @@ use Rattle.std.specs.Prelude.{max, Result, Ok, Err}
 use Rattle.theory_saturation.specs.Saturation.{saturated}
 use Rattle.htt_syntax.specs.declared.mono.Op.{Op}
 use Rattle.htt_syntax.specs.Trees.{MonoTree, TripleTree, TermTree, CompTree, FormulaTree, x_body, t_bin, t_app, t_inst, t_at}
-use Rattle.htt_syntax.specs.Trees.{s_run, f_at, f_ex_h, f_and, f_join}
+use Rattle.htt_syntax.specs.Trees.{s_run, f_at, f_and}
 use Rattle.htt_parser_trees.specs.declared.tree.UnaryWord.{UnaryWord}
 use Rattle.htt_parser_trees.specs.declared.tree.UnaryWord.TheVariants as unary_words
 use Rattle.htt_syntax_measure.specs.declared.size.Size.{Size}

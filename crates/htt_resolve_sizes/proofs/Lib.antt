@@ -3,4 +3,4 @@ pub mod Rows
 pub mod Operators
 pub mod Running
 pub mod Puts
-pub mod Uses
+pub mod Predicates

@@ -6,13 +6,14 @@ use Rattle.htt_parser_trees.specs.declared.tree.RawSum.{RawSum}
 use Rattle.htt_parser_trees.specs.declared.tree.RawProd.{RawProd}
 use Rattle.htt_parser_trees.specs.declared.tree.SumOperand.{SumOperand}
 use Rattle.htt_parser_trees.specs.declared.tree.ProdOperand.{ProdOperand}
+use Rattle.htt_parser_trees.specs.declared.tree.SumOperand as operand
 use Rattle.htt_parser_trees.specs.declared.tree.SumOperand.TheVariants as vsum
 use Rattle.htt_parser_trees.specs.declared.tree.ProdOperand.TheVariants as vprod
 use Rattle.htt_parser_trees.specs.declared.tree.RawPart.{RawPart}
 use Rattle.htt_parser_trees.specs.declared.tree.RawPart.TheVariants as vpart
-use Rattle.htt_parser_trees.specs.Trees.{RawPartTrees, RawSumRestTree, RawProdRestTree}
+use Rattle.htt_parser_trees.specs.Trees.{RawPartTrees, RawSumRestTree, RawProdRestTree, SumSign, plus, minus, bar, caret, s_end, s_more}
 use Rattle.htt_parser_trees.specs.TreeViews.{raw_part_tree, raw_sum_operand_tree, raw_prod_operand_tree}
-use Rattle.htt_parser_trees.specs.TreeViews.{raw_appl_tree}
+use Rattle.htt_parser_trees.specs.TreeViews.{raw_appl_tree, raw_ty_tree}
 use Rattle.htt_parser_trees.specs.TreeLevels.{raw_sum_tree, raw_prod_tree, raw_sum_rest, raw_prod_rest, raw_parts_tree}
 use Rattle.htt_parser_trees.specs.TreeLevels.{raw_part_atom, raw_part_mono, raw_sum_operand_plus, raw_sum_operand_minus, raw_sum_operand_bar}
 use Rattle.htt_parser_trees.specs.TreeLevels.{raw_sum_operand_caret, raw_prod_operand_times, raw_prod_operand_and}
@@ -26,7 +27,7 @@ use Rattle.htt_resolve_names.specs.Views.{event_of}
 use Rattle.htt_resolve_counts.specs.Parts.{IsSize}
 use Rattle.htt_resolve_counts.specs.Sizes.{size_of_sum, size_of_sum_rest, size_of_prod, size_of_prod_rest, size_of_appl}
 use Rattle.htt_resolve_counts.specs.Sizes.{size_of_parts, size_of_term}
-use Rattle.htt_resolve_sizes.specs.Operands.{size_of_summand, size_of_factor, size_of_part}
+use Rattle.htt_resolve_sizes.specs.Operands.{size_of_first, size_of_summand, size_of_factor, size_of_part}
 use Rattle.htt_resolve_counts.proofs.Forms.{stopped}
 
 pub drop_read : {X : Type 0} (xs : List X) (i : ℕ) (x : X) → i < length xs → x ≡ get_or xs i x → drop i xs ≡ x ∷ drop (i + 1) xs
@@ -54,11 +55,11 @@ module _ (s : Scope) where
 
   sum_operand : (x : SumOperand) (z : Size) (rest : RawSumRestTree)
       → size_of_sum_rest s z (raw_sum_operand_tree x rest) ≡ size_of_summand s x >>= (λ y. size_of_sum_rest s (node_of_two z y) rest)
-  unfolding size_of_term
-  sum_operand (vsum.Plus x) z rest = ap (λ f. size_of_sum_rest s z (f rest)) (raw_sum_operand_plus x)
-  sum_operand (vsum.Minus x) z rest = ap (λ f. size_of_sum_rest s z (f rest)) (raw_sum_operand_minus x)
-  sum_operand (vsum.Bar x) z rest = ap (λ f. size_of_sum_rest s z (f rest)) (raw_sum_operand_bar x)
-  sum_operand (vsum.Caret x) z rest = ap (λ f. size_of_sum_rest s z (f rest)) (raw_sum_operand_caret x)
+  unfolding size_of_term raw_ty_tree
+  sum_operand (operand.Plus' x1 _ x2) z rest = refl
+  sum_operand (operand.Minus' x1 _ x2) z rest = refl
+  sum_operand (operand.Bar' x1 _ x2) z rest = refl
+  sum_operand (operand.Caret' x1 _ x2) z rest = refl
 
   sum_at : (xs : List SumOperand) (i : ℕ) (x : SumOperand) (z : Size) → i < length xs → x ≡ get_or xs i x
       → size_of_sum_rest s z (raw_sum_rest (drop i xs))
@@ -94,6 +95,30 @@ module _ (s : Scope) where
       → all ≡ Ok z
   unfolding size_of_term
   sum_ends xs i z all h past = h ∙ ap (λ ys. size_of_sum_rest s z (raw_sum_rest ys)) (drop_all i xs past)
+
+  -- ---- summands
+
+  summand_row : (x : SumOperand) (p : RawProd) (sign : SumSign) (r : Result Size NameStop)
+      → raw_sum_operand_tree x ≡ s_more sign (raw_prod_tree p)
+      → IsSize r (size_of_prod s (raw_prod_tree p))
+      → IsSize r (size_of_summand s x)
+  summand_row x p sign r is h = subst (λ f. IsSize r (size_of_first s (f s_end))) (sym is) h
+
+  pub plus_row : (p : RawProd) (r : Result Size NameStop) → IsSize r (size_of_prod s (raw_prod_tree p))
+      → IsSize r (size_of_summand s (vsum.Plus p))
+  plus_row p r h = summand_row (vsum.Plus p) p plus r (raw_sum_operand_plus p) h
+
+  pub minus_row : (p : RawProd) (r : Result Size NameStop) → IsSize r (size_of_prod s (raw_prod_tree p))
+      → IsSize r (size_of_summand s (vsum.Minus p))
+  minus_row p r h = summand_row (vsum.Minus p) p minus r (raw_sum_operand_minus p) h
+
+  pub bar_row : (p : RawProd) (r : Result Size NameStop) → IsSize r (size_of_prod s (raw_prod_tree p))
+      → IsSize r (size_of_summand s (vsum.Bar p))
+  bar_row p r h = summand_row (vsum.Bar p) p bar r (raw_sum_operand_bar p) h
+
+  pub caret_row : (p : RawProd) (r : Result Size NameStop) → IsSize r (size_of_prod s (raw_prod_tree p))
+      → IsSize r (size_of_summand s (vsum.Caret p))
+  caret_row p r h = summand_row (vsum.Caret p) p caret r (raw_sum_operand_caret p) h
 
   -- ---- products
 
@@ -194,6 +219,8 @@ module _ (s : Scope) where
   parts_end xs i z all h past = h ∙ ap (λ ys. size_of_parts s z (raw_parts_tree ys)) (drop_all i xs past)
 
 pub ruleset sums = (sum_starts, sum_first_stops, sum_next, sum_stops, sum_ends)
+
+pub ruleset summands = (plus_row, minus_row, bar_row, caret_row)
 
 pub ruleset prods = (prod_starts, prod_first_stops, prod_next, prod_stops, prod_ends)
 

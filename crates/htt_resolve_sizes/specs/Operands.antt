@@ -1,8 +1,7 @@
 -- An operand of a chain behind its sign, an argument of a head, and a parameter.
-use Rattle.std.specs.Prelude.{◌==◌, ℕ, Result}
+use Rattle.std.specs.Prelude.{◌==◌, ℕ, Result, Ok}
 use Rattle.htt_parser_trees.specs.declared.tree.SumOperand.{SumOperand}
 use Rattle.htt_parser_trees.specs.declared.tree.ProdOperand.{ProdOperand}
-use Rattle.htt_parser_trees.specs.declared.tree.SumOperand.TheVariants as summands
 use Rattle.htt_parser_trees.specs.declared.tree.ProdOperand.TheVariants as factors
 use Rattle.htt_parser_trees.specs.declared.tree.RawPart.{RawPart}
 use Rattle.htt_parser_trees.specs.declared.tree.RawPart.TheVariants as parts
@@ -10,13 +9,13 @@ use Rattle.htt_parser_trees.specs.declared.tree.RawParam.{RawParam}
 use Rattle.htt_parser_trees.specs.declared.tree.RawParam.TheVariants as params
 use Rattle.htt_parser_trees.specs.declared.place.Binder.{Binder}
 use Rattle.htt_parser_trees.specs.declared.place.Binder.TheVariants as binders
-use Rattle.htt_parser_trees.specs.Trees.{RawTyTree, RawFormulaTree, RawTermTrees}
+use Rattle.htt_parser_trees.specs.Trees.{RawTyTree, RawFormulaTree, RawTermTrees, RawSumRestTree, s_end, s_more}
 use Rattle.htt_parser_trees.specs.declared.tree.RawHeap.{RawHeap}
 use Rattle.htt_parser_trees.specs.declared.place.Span.{Span}
 use Rattle.htt_parser_trees.specs.MonoLevels.{raw_mono_tree}
-use Rattle.htt_parser_trees.specs.TreeViews.{raw_appl_tree, raw_atom_tree, raw_ty_tree}
-use Rattle.htt_parser_trees.specs.TreeLevels.{raw_prod_tree}
+use Rattle.htt_parser_trees.specs.TreeViews.{raw_appl_tree, raw_atom_tree, raw_ty_tree, raw_sum_operand_tree}
 use Rattle.htt_syntax_measure.specs.declared.size.Size.{Size}
+use Rattle.htt_syntax_measure.specs.Measures.{nothing}
 use Rattle.theory_text_names.specs.Stops.{Stop, ◌>>=◌}
 use Rattle.theory_text_names.specs.Scopes.{Scope, at_heap}
 use Rattle.theory_text_names.specs.Uses.{rec_named, heap_comes}
@@ -24,12 +23,14 @@ use Rattle.theory_text.specs.Phrases.{right_count, count_of}
 use Rattle.htt_resolve_counts.specs.Parts.{after}
 use Rattle.htt_resolve_counts.specs.Sizes.{size_of_mono, size_of_atom, size_of_formula, size_of_prod, size_of_appl}
 
+-- what the first of the operands that are left measures
+abbrev pub size_of_first : Scope → RawSumRestTree → Result Size Stop
+size_of_first s s_end = Ok nothing
+size_of_first s (s_more sign prod rest) = size_of_prod s prod
+
 -- what an operand behind its sign measures
 abbrev pub size_of_summand : Scope → SumOperand → Result Size Stop
-size_of_summand s (summands.Plus prod) = size_of_prod s (raw_prod_tree prod)
-size_of_summand s (summands.Minus prod) = size_of_prod s (raw_prod_tree prod)
-size_of_summand s (summands.Bar prod) = size_of_prod s (raw_prod_tree prod)
-size_of_summand s (summands.Caret prod) = size_of_prod s (raw_prod_tree prod)
+size_of_summand s operand = size_of_first s (raw_sum_operand_tree operand s_end)
 
 abbrev pub size_of_factor : Scope → ProdOperand → Result Size Stop
 size_of_factor s (factors.Times appl) = size_of_appl s (raw_appl_tree appl)

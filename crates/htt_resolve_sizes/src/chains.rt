@@ -19,6 +19,7 @@ use std::alloc::Global;
 
 /// The size of the operand behind a sign.
 #[cycle(sizes)]
+#[tactic(auto, using(crate::proofs::Operators::summands))]
 fn measure_summand(alloc: Global, scope: &Scope<'_>, operand: &SumOperand) -> Result<Size, NameStop>
     ensures measured { IsSize result (size_of_summand (scope_tree scope.now) operand.now) }
 {

@@ -1,6 +1,6 @@
 //! Uses of predicates: their bodies with what is put into them.
 
-ghost use Rattle.std.specs.Prelude.{◌≡◌, ℕ, map, length, List, IfOk, IfErr};
+ghost use Rattle.std.specs.Prelude.{◌≡◌, ◌==◌, ◌&&◌, ℕ, map, length, List, IfOk, IfErr};
 ghost use Rattle.htt_syntax.specs.Trees.{TermTree};
 ghost use Rattle.htt_syntax.specs.Views.{mono_tree};
 ghost use Rattle.theory_text_sugar.specs.Putting.{Put, with_arguments};
@@ -31,7 +31,7 @@ use std::alloc::{AllocError, Global};
 /// The size of a predicate's body where it is used. The counts of monotypes and arguments are tested before these are
 /// looked at.
 #[cycle(sizes)]
-#[tactic(auto, using(crate::proofs::Uses::uses))]
+#[tactic(auto, using(crate::proofs::Predicates::uses))]
 pub(crate) fn measure_use(
     alloc: Global,
     scope: &Scope<'_>,
@@ -54,14 +54,14 @@ pub(crate) fn measure_use(
 
 /// Whether the predicate has so many monotypes and so many parameters.
 fn has_counts(predicate: PredUse<'_>, monos: usize, params: usize) -> bool
-    ensures counts { result ≡ (monos == predicate.monos && params == length predicate.params.now) }
+    ensures counts { result ≡ (monos == predicate.entry.monos && params == length predicate.entry.params.now) }
 {
     monos == predicate.monos as usize && params == predicate.params.len()
 }
 
 /// The size of the predicate's body, counted from the sizes of what is put into it.
 #[cycle(sizes)]
-#[tactic(auto, using(crate::proofs::Uses::bodies))]
+#[tactic(auto, using(crate::proofs::Predicates::bodies))]
 fn measure_body(
     alloc: Global,
     scope: &Scope<'_>,
@@ -70,7 +70,7 @@ fn measure_body(
     arguments: &[RawTerm],
 ) -> Result<Size, NameStop>
     requires counted { length arguments.now ≡ length predicate.params.now }
-    ensures measured { (heap : ℕ) → IsSize result (size_of_body (scope_tree scope.now) (pred_use_tree predicate)
+    ensures measured { (heap : ℕ) → IsSize result (size_of_body (scope_tree scope.now) (pred_use_tree predicate.entry)
         (map raw_mono_tree monos.now) (raw_term_trees arguments.now) heap) }
 {
     let mut puts = monos_put(alloc, scope, monos)?;
