@@ -29,7 +29,7 @@ pub record IsTerm (parts : List Part) (place : ℕ) : Type 0 where
 -- the parts of a pair are terms
 abbrev pub HasTerms : List Part → Shape → Type 0
 HasTerms parts (shapes.Pair left right) = IsTerm parts left × IsTerm parts right
-HasTerms parts other = ⊤
+HasTerms parts _ = ⊤
 
 -- a literal's term
 abbrev pub leaf : TermForm → TermTree
