@@ -1,0 +1,20 @@
+-- What the trees of the code are.
+use Rattle.htt_syntax.specs.Views.{mono_tree, ty_tree, term_tree, step_tree, formula_tree}
+use Rattle.htt_syntax.specs.Levels.{term_trees, triple_tree, comp_tree, fix_tree}
+use Rattle.canonical_forms_skeletons.specs.Views.{skeleton_tree}
+use Rattle.shared_terms_rows.specs.Parts.{Part, of_skeleton, of_mono, of_ty, of_triple, of_term, of_terms, of_fix, of_comp, of_step}
+use Rattle.shared_terms_rows.specs.Parts.{of_formula}
+use Rattle.shared_terms_reading.specs.declared.piece.Piece.{Piece}
+use Rattle.shared_terms_reading.specs.declared.piece.Piece.TheVariants as pieces
+
+abbrev pub part_of : Piece → Part
+part_of (pieces.Skeleton x) = of_skeleton (skeleton_tree x)
+part_of (pieces.Mono x) = of_mono (mono_tree x)
+part_of (pieces.Ty x) = of_ty (ty_tree x)
+part_of (pieces.Triple x) = of_triple (triple_tree x)
+part_of (pieces.Term x) = of_term (term_tree x)
+part_of (pieces.Terms x) = of_terms (term_trees x)
+part_of (pieces.Fix x) = of_fix (fix_tree x)
+part_of (pieces.Comp x) = of_comp (comp_tree x)
+part_of (pieces.Step x) = of_step (step_tree x)
+part_of (pieces.Formula x) = of_formula (formula_tree x)
