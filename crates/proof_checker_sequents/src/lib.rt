@@ -11,16 +11,13 @@ mod hypotheses;
 mod inferred;
 mod stop;
 
-pub use forms::{Equation, GoalEquation, GoalFamily, Something};
+pub use forms::{Equation, EquationGoal, Quantified, QuantifiedGoal};
 pub use goals::{
-    goal_conjunction, goal_disjunction, goal_equation, goal_family, goal_heap, goal_implication,
-    goal_truth, goal_value,
+    goal_conjunction, goal_disjunction, goal_equation, goal_heap, goal_implication, goal_truth,
+    goal_universal, goal_value,
 };
 pub use hypotheses::{Hypothesis, assumed, hypotheses_are_raised, hypotheses_of, hypothesis};
 pub use inferred::{
-    all_heaps, all_values, conjunction, disjunction, equation, implication, something,
+    all_heaps, all_values, conjunction, disjunction, equation, existential, implication,
 };
 pub use stop::ProofStop;
-
-#[cfg(test)]
-mod tests;
