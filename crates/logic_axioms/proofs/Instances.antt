@@ -1,6 +1,6 @@
 -- From the shape and the row of an axiom to its instance.
 use Rattle.std.proofs.Common.{◌≡◌, ◌<◌, ◌≤◌, List, [], ◌∷◌, Some, None, is_some, true, false, refl, sym, ◌∙◌, ap, subst}
-use Rattle.std.specs.Prelude.{Option, Result, Ok, Err, IfSome, MatchResult}
+use Rattle.std.specs.Prelude.{Option, Result, Ok, Err, IfSome, IsErrAnd, MatchResult}
 use Rattle.htt_syntax.specs.declared.tree.Formula.{Formula}
 use Rattle.htt_syntax.specs.Trees.{MonoTree, ArgTree, FormulaTree, m_pair}
 use Rattle.htt_syntax.specs.Views.{formula_tree}
@@ -49,3 +49,47 @@ no_shape name monos args BadInstance none =
 no_shape name monos args MonoTooLarge wide = wide
 no_shape name monos args TooLarge none = absurd none
 no_shape name monos args NoMemory none = tt
+
+-- a stop that is handed on is the answer
+pub handed_on : (name : AxiomName) (monos : List MonoTree) (args : List ArgTree) (r : Result Formula AxiomStop) (stop : AxiomStop)
+    → IsErrAnd r (λ e. e ≡ stop)
+    → Stops name monos args stop
+    → MatchResult r (λ F. IsAnswer name monos args (formula_tree F)) (Stops name monos args)
+handed_on name monos args (Ok made) stop h stops = absurd h
+handed_on name monos args (Err e) stop h stops = subst (Stops name monos args) (sym h) stops
+
+pub no_row : (name : AxiomName) (monos : List MonoTree) (args : List ArgTree) (sorts : List ArgSort) (stop : AxiomStop)
+    → IsShape name monos sorts
+    → IsRow (formula_of name monos args) (Err stop)
+    → Stops name monos args stop
+no_row name monos args sorts stop shape row = by_row (formula_of name monos args) refl row
+  where
+    by_row : (found : Option FormulaTree) → formula_of name monos args ≡ found → IsRow found (Err stop) → Stops name monos args stop
+    by_row (Some F) e is = subst (Stops name monos args) (sym is) tt
+    by_row None e is =
+        subst (Stops name monos args) (sym is)
+        (shape.narrow, λ F it. let no : None ≡ Some F = sym e ∙ it.row in cc)
+
+pub has_instance : (name : AxiomName) (monos : List MonoTree) (args : List ArgTree) (sorts : List ArgSort) (made : Formula)
+    → IsShape name monos sorts
+    → IsRow (formula_of name monos args) (Ok made)
+    → HasInstance name monos args (formula_tree made)
+has_instance name monos args sorts made shape row = by_row (formula_of name monos args) refl row
+  where
+    by_row : (found : Option FormulaTree) → formula_of name monos args ≡ found → IsRow found (Ok made) → HasInstance name monos args (formula_tree made)
+    by_row (Some F) e is =
+        record {
+          narrow = shape.narrow;
+          is_instance = record { side_condition = shape.takes.side_condition; row = e ∙ ap Some (sym is) };
+        }
+    by_row None e is = absurd is
+
+pub answered : (name : AxiomName) (monos : List MonoTree) (args : List ArgTree) (made : Formula) (r : Result Formula AxiomStop)
+    → HasInstance name monos args (formula_tree made)
+    → MatchResult r (λ answer. (answer ≡ made) × (nodes_formula (formula_tree made) ≤ 1_000_000))
+    (λ stop. (stop ≡ TooLarge) × (1_000_000 < nodes_formula (formula_tree made)))
+    → MatchResult r (λ F. IsAnswer name monos args (formula_tree F)) (Stops name monos args)
+answered name monos args made (Ok answer) has (same, few) =
+    subst (λ (F : Formula). IsAnswer name monos args (formula_tree F)) (sym same) (has, few)
+answered name monos args made (Err stop) has (is, many) =
+    subst (Stops name monos args) (sym is) (formula_tree made, has, many)

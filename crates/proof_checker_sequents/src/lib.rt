@@ -21,3 +21,6 @@ pub use inferred::{
     all_heaps, all_values, conjunction, disjunction, equation, existential, implication,
 };
 pub use stop::ProofStop;
+
+#[cfg(test)]
+mod tests;
