@@ -1,10 +1,14 @@
 -- From the shape and the row of an axiom to its instance.
-use Rattle.std.proofs.Common.{◌≡◌, ◌<◌, ◌≤◌, List, [], ◌∷◌, Some, None, is_some, true, false, refl, sym, ◌∙◌, ap, subst}
-use Rattle.std.specs.Prelude.{Option, Result, Ok, Err, IfSome, IsErrAnd, MatchResult}
+use Rattle.std.proofs.Common.{◌≡◌, ℕ, ◌<◌, ◌≤◌, Bool, List, [], ◌∷◌, Some, None, is_some, true, false, refl, sym, ◌∙◌, ap, subst}
+use Rattle.std.specs.Prelude.{Option, Result, Ok, Err, IfSome, IsErrAnd, MatchResult, nat_le}
+use Rattle.std.proofs.lemmas.Bool.{leb-true, leb-false}
 use Rattle.htt_syntax.specs.declared.tree.Formula.{Formula}
 use Rattle.htt_syntax.specs.Trees.{MonoTree, ArgTree, FormulaTree, m_pair}
 use Rattle.htt_syntax.specs.Views.{formula_tree}
 use Rattle.theory_counts.specs.Nodes.{nodes_mono, nodes_formula}
+use Rattle.theory_counts.specs.Depth.{depth_formula}
+use Rattle.htt_syntax_measure.specs.declared.size.Size.{Size}
+use Rattle.htt_syntax_measure.specs.Measures.{told, formula_measure}
 use Rattle.theory_logic_axioms.specs.Names.{AxiomName, pair_eta}
 use Rattle.theory_logic_axioms.specs.Table.{ArgSort, argument_sorts, SideCondition, fits_shape, formula_of, IsInstance}
 use Rattle.theory_logic_axioms.proofs.Shapes.{formula_shaped}
@@ -93,3 +97,17 @@ answered name monos args made (Ok answer) has (same, few) =
     subst (λ (F : Formula). IsAnswer name monos args (formula_tree F)) (sym same) (has, few)
 answered name monos args made (Err stop) has (is, many) =
     subst (Stops name monos args) (sym is) (formula_tree made, has, many)
+
+-- ---- nodes as they are counted
+
+module _ (z : Size) (F : FormulaTree) (few : Bool) (size : z ≡ formula_measure F)
+    (tells : (nodes depth : ℕ) → z ≡ told nodes depth → few ≡ nat_le nodes 1_000_000) where
+  counted : few ≡ nat_le (nodes_formula F) 1_000_000
+  unfolding formula_measure
+  counted = tells (nodes_formula F) (depth_formula F) size
+
+  pub few_nodes : few ≡ true → nodes_formula F ≤ 1_000_000
+  few_nodes is = leb-true (nodes_formula F) 1_000_000 (sym counted ∙ is)
+
+  pub many_nodes : few ≡ false → 1_000_000 < nodes_formula F
+  many_nodes is = leb-false (nodes_formula F) 1_000_000 (sym counted ∙ is)

@@ -42,5 +42,6 @@ pub fn instance(
         (Stops (axiom_name «axiom») (map mono_tree monos.now) (map arg_tree args.now)) }
 {
     shape(alloc, axiom, monos)?;
-    within(row(alloc, axiom, monos, args)?)
+    let formula = row(alloc, axiom, monos, args)?;
+    within(formula)
 }

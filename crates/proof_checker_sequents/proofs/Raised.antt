@@ -1,7 +1,8 @@
 -- Hypotheses that are kept as they were assumed: what an entry more does to them.
-use Rattle.std.proofs.Common.{◌≡◌, ℕ, zero, suc, ◌-◌, ◌≤◌, List, [], ◌∷◌, map, Some, None, refl, sym, ◌∙◌, ap, arith}
+use Rattle.std.proofs.Common.{◌≡◌, ℕ, zero, suc, ◌-◌, ◌≤◌, List, [], ◌∷◌, ◌++◌, map, Some, None, refl, sym, ◌∙◌, ap, arith}
 use Rattle.std.specs.Prelude.{All}
-use Rattle.std.proofs.lemmas.List.Elements.{All-head, All-tail, All-weaker}
+use Rattle.std.proofs.lemmas.List.{map-append}
+use Rattle.std.proofs.lemmas.List.Elements.{All-head, All-tail, All-weaker, All-push}
 use Rattle.htt_syntax.specs.declared.tree.Formula.{Formula}
 use Rattle.htt_syntax.specs.Trees.{FormulaTree}
 use Rattle.htt_syntax.specs.Views.{formula_tree}
@@ -41,3 +42,9 @@ pub seen_at_once : (h : Hypothesis) (entries : ℕ) → h.entries ≡ entries �
 unfolding seen_from
 seen_at_once h entries e =
     formula_stays (shifting 0 (entries - h.entries)) (λ i. by_none (entries - h.entries) i (omega (arith, e))) (formula_tree h.formula)
+
+pub seen_more : (entries : ℕ) (hs : List Hypothesis) (h : Hypothesis) → all_seen_from entries (hs ++ h ∷ []) ≡ all_seen_from entries hs ++ seen_from entries h ∷ []
+seen_more entries hs h = map-append (seen_from entries) hs (h ∷ [])
+
+pub within_more : (entries : ℕ) (hs : List Hypothesis) (h : Hypothesis) → AreWithin entries hs → h.entries ≤ entries → AreWithin entries (hs ++ h ∷ [])
+within_more entries hs h within low = All-push (λ (h : Hypothesis). h.entries ≤ entries) hs h within low
