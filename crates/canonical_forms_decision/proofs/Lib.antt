@@ -1,0 +1,4 @@
+pub mod Entries
+pub mod Folded
+pub mod Loops
+pub mod Decided

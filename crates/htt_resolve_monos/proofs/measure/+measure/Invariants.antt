@@ -1,0 +1,17 @@
+use Rattle.std.proofs.Common.{◌≡◌, take}
+use Rattle.std.specs.Prelude.{Ok}
+use Rattle.htt_parser_trees.specs.Trees.{m_name, with_right}
+use Rattle.htt_parser_trees.specs.MonoViews.{raw_right_tree}
+use Rattle.htt_parser_trees.specs.MonoLevels.{raw_brackets_tree}
+use Rattle.htt_syntax_measure.specs.Measures.{mono_measure}
+use Rattle.theory_text.specs.Monotypes.{mono_comes}
+use Rattle.htt_resolve_scopes.specs.Views.{scope_tree}
+use Rattle.htt_resolve_monos.specs.Sized.{sized}
+use Rattle.htt_resolve_monos.proofs.measure.+measure.Given as goal
+
+-- the monotype in the brackets so far
+abbrev pub invariant-measure_mono-loop-bracket : goal.invariant-measure_mono-loop-bracket
+invariant-measure_mono-loop-bracket l =
+    sized mono_measure (mono_comes (scope_tree l.scope)
+    (raw_brackets_tree (take l.bracket-index l.mono.brackets) (with_right (m_name l.mono.name) (raw_right_tree l.mono.right))))
+    ≡ Ok l.size

@@ -1,0 +1,3 @@
+pub mod SideConditions
+pub mod Counts
+pub mod Shapes

@@ -1,0 +1,4 @@
+pub mod Rows
+pub mod Claims
+pub mod Tables
+pub mod Laws

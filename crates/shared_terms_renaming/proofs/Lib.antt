@@ -1,0 +1,4 @@
+pub mod Maps
+pub mod Grows
+pub mod Slots
+pub mod Standing

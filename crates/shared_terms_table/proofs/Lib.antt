@@ -1,0 +1,5 @@
+pub mod Facts
+pub mod Lists
+pub mod Equal
+pub mod Once
+pub mod Standing

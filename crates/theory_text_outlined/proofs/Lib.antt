@@ -1,0 +1,4 @@
+pub mod Uses
+pub mod Phrases
+pub mod Proofs
+pub mod Declarations
