@@ -153,14 +153,14 @@ pub fn push_formula_after(
 
 /// Appends a text and the formula, which stands under a binder.
 #[cycle(phrase)]
-fn push_formula_under(
+pub fn push_formula_under(
     out: &mut Vec<u8>,
     scope: &NameScope<'_>,
     sort: Sort,
     text: &[u8],
     formula: &Formula,
 ) -> Result<(), AllocError>
-    ensures { OnOk result (out.new.items ≡ out.old.items ++ (text.now ++ formula_bytes (with_entry (sort_of sort) (print_scope scope.now)) (formula_tree formula.now))) }
+    ensures printed { OnOk result (out.new.items ≡ out.old.items ++ (text.now ++ formula_bytes (with_entry (sort_of sort) (print_scope scope.now)) (formula_tree formula.now))) }
 {
     let inner = scope.under(sort)?;
     push_formula_after(out, &inner, text, formula)

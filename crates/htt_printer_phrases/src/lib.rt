@@ -13,6 +13,6 @@ mod tests;
 mod types;
 
 pub use after::{push_binder, push_entry_after, push_mono_after};
-pub use formulas::push_formula;
-pub use terms::push_term;
+pub use formulas::{push_formula, push_formula_after, push_formula_under};
+pub use terms::{push_term, push_term_after};
 pub use types::push_ty;
