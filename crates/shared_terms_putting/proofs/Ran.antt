@@ -45,13 +45,13 @@ never_reduced : {new : TermTree} {s left : Skeleton} {x : ℕ} {t q : TermTree} 
     → ⊥
 never_reduced (u_run h) (gives m) = never_both h m
 
-one_behind : {n first : ℕ} (g : Form) (a : Slot) → slots g ≡ one a → first < n → bound (pair g first 0) ≤ n
+pub one_behind : {n first : ℕ} (g : Form) (a : Slot) → slots g ≡ one a → first < n → bound (pair g first 0) ≤ n
 one_behind {n} {first} g a e l = let h = ap (λ z. bound_in z (pair g first 0)) e in omega (arith, h, l)
 
 alone : (m : ℕ) → ((nat_eq m m && true) && true) ≡ true
 alone m = grind arith
 
-one_fits : (parts : List Part) (first : ℕ) (g : Form) (a : Slot)
+pub one_fits : (parts : List Part) (first : ℕ) (g : Form) (a : Slot)
     → slots g ≡ one a
     → kind_of (at parts first) ≡ a.kind
     → fits parts (pair g first 0) ≡ true

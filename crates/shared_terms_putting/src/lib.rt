@@ -118,3 +118,6 @@ impl PutWork {
         Ok(())
     }
 }
+
+#[cfg(test)]
+mod tests;
